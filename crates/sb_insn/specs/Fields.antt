@@ -1,0 +1,146 @@
+-- What each field of an instruction says of the fields behind it (SDM volume 2, sections 2.1 and 2.2.1).
+use Rattle.std.specs.Prelude.{ℕ, ◌/◌, ◌%◌, Bool, true, false, not, ◌&&◌, ◌||◌, ◌==◌, nat_le, if◌then◌else◌, Option, Some, None}
+use Rattle.sb_insn.specs.declared.insn.Disp.{Disp}
+use Rattle.sb_insn.specs.declared.insn.Disp.TheVariants as disp
+use Rattle.sb_insn.specs.declared.insn.Imm.{Imm}
+use Rattle.sb_insn.specs.declared.insn.Imm.TheVariants as imm
+use Rattle.sb_insn.specs.declared.insn.DispKind.{DispKind}
+use Rattle.sb_insn.specs.declared.insn.DispKind.TheVariants as disp_kind
+use Rattle.sb_insn.specs.declared.insn.ImmKind.{ImmKind}
+use Rattle.sb_insn.specs.declared.insn.ImmKind.TheVariants as imm_kind
+use Rattle.sb_insn.specs.declared.opcode_map.RexRule.{RexRule}
+use Rattle.sb_insn.specs.declared.opcode_map.RexRule.TheVariants as rex_rule
+use Rattle.sb_insn.specs.declared.opcode_map.RmRule.{RmRule}
+use Rattle.sb_insn.specs.declared.opcode_map.RmRule.TheVariants as rm_rule
+use Rattle.sb_insn.specs.declared.opcode_map.ImmRule.{ImmRule}
+use Rattle.sb_insn.specs.declared.opcode_map.ImmRule.TheVariants as imm_rule
+use Rattle.sb_insn.specs.declared.opcode_map.Operand.{Operand}
+use Rattle.sb_insn.specs.declared.opcode_map.Cell.{Cell}
+use Rattle.sb_insn.specs.declared.opcode_map.Cell.TheVariants.{Absent, Plain, ModRm}
+use Rattle.sb_insn.specs.OpcodeMap.{operand_of}
+
+-- ---- REX
+
+abbrev pub is_none : Option ℕ → Bool
+is_none None = true
+is_none (Some byte) = false
+
+-- No instruction of the subset has a REX byte yet.
+abbrev pub is_rex_field : Option ℕ → Bool
+is_rex_field rex = is_none rex
+
+abbrev pub permits_rex : RexRule → Option ℕ → Bool
+permits_rex rex_rule.Permitted rex = true
+permits_rex rex_rule.Refused rex = is_none rex
+
+-- REX.W
+abbrev pub is_wide : Option ℕ → Bool
+is_wide None = false
+is_wide (Some rex) = rex / 8 % 2 == 1
+
+-- ---- ModRM: mod, reg and rm
+
+abbrev pub mod_field : ℕ → ℕ
+mod_field modrm = modrm / 64
+
+abbrev pub reg_field : ℕ → ℕ
+reg_field modrm = modrm / 8 % 8
+
+abbrev pub rm_field : ℕ → ℕ
+rm_field modrm = modrm % 8
+
+-- the operand that rm names is a register
+abbrev pub is_register : ℕ → Bool
+is_register modrm = mod_field modrm == 3
+
+abbrev pub permits_rm : RmRule → ℕ → Bool
+permits_rm rm_rule.Any modrm = true
+permits_rm rm_rule.Register modrm = is_register modrm
+permits_rm rm_rule.Memory modrm = not (is_register modrm)
+
+-- without a REX byte the byte registers 4 to 7 are AH, CH, DH and BH
+abbrev pub needs_rex : Operand → ℕ → Bool
+needs_rex operand modrm =
+    (operand.byte_reg && nat_le 4 (reg_field modrm))
+    || (operand.byte_rm && (is_register modrm && nat_le 4 (rm_field modrm)))
+
+-- the operands permit this ModRM byte behind these prefixes
+unfoldable pub permits : Operand → Bool → Option ℕ → ℕ → Bool
+permits operand lock rex modrm =
+    (not lock || (operand.lock && not (is_register modrm)))
+    && (permits_rm operand.rm modrm && not (is_none rex && needs_rex operand modrm))
+
+abbrev pub some_permits : Option Operand → Bool → Option ℕ → ℕ → Bool
+some_permits None lock rex modrm = false
+some_permits (Some operand) lock rex modrm = permits operand lock rex modrm
+
+-- the opcode has no ModRM byte, and permits these prefixes
+abbrev pub stands_alone : Cell → Bool → Option ℕ → Bool
+stands_alone Absent lock rex = false
+stands_alone (Plain rule imm) lock rex = not lock && permits_rex rule rex
+stands_alone (ModRm operand) lock rex = false
+
+abbrev pub is_modrm_field : Cell → Bool → Option ℕ → Option ℕ → Bool
+is_modrm_field cell lock rex None = stands_alone cell lock rex
+is_modrm_field cell lock rex (Some modrm) = some_permits (operand_of cell (reg_field modrm)) lock rex modrm
+
+-- ---- SIB and the displacement
+
+unfoldable pub has_sib : ℕ → Bool
+has_sib modrm = not (is_register modrm) && (rm_field modrm == 4)
+
+abbrev pub wants_sib : Option ℕ → Bool
+wants_sib None = false
+wants_sib (Some modrm) = has_sib modrm
+
+abbrev pub is_sib_field : Option ℕ → Option ℕ → Bool
+is_sib_field modrm None = not (wants_sib modrm)
+is_sib_field modrm (Some sib) = wants_sib modrm
+
+-- base 5 where mod is 0: no base register
+abbrev pub has_no_base : Option ℕ → Bool
+has_no_base None = false
+has_no_base (Some sib) = sib % 8 == 5
+
+unfoldable pub modrm_disp : ℕ → Option ℕ → DispKind
+modrm_disp modrm sib =
+    if mod_field modrm == 0 then (if (rm_field modrm == 5) || has_no_base sib then disp_kind.D32 else disp_kind.None)
+    else if mod_field modrm == 1 then disp_kind.D8
+    else if mod_field modrm == 2 then disp_kind.D32
+    else disp_kind.None
+
+abbrev pub disp_kind_of : Option ℕ → Option ℕ → DispKind
+disp_kind_of None sib = disp_kind.None
+disp_kind_of (Some modrm) sib = modrm_disp modrm sib
+
+abbrev pub kind_of_disp : Disp → DispKind
+kind_of_disp disp.None = disp_kind.None
+kind_of_disp (disp.D8 value) = disp_kind.D8
+kind_of_disp (disp.D32 value) = disp_kind.D32
+
+-- ---- the immediate
+
+abbrev pub alone_rule : Cell → ImmRule
+alone_rule Absent = imm_rule.None
+alone_rule (Plain rex imm) = imm
+alone_rule (ModRm operand) = imm_rule.None
+
+abbrev pub operand_rule : Option Operand → ImmRule
+operand_rule None = imm_rule.None
+operand_rule (Some operand) = operand.imm
+
+abbrev pub rule_of : Cell → Option ℕ → ImmRule
+rule_of cell None = alone_rule cell
+rule_of cell (Some modrm) = operand_rule (operand_of cell (reg_field modrm))
+
+abbrev pub imm_kind_of : ImmRule → Option ℕ → ImmKind
+imm_kind_of imm_rule.None rex = imm_kind.None
+imm_kind_of imm_rule.I8 rex = imm_kind.I8
+imm_kind_of imm_rule.I32 rex = imm_kind.I32
+imm_kind_of imm_rule.Wide rex = if is_wide rex then imm_kind.I64 else imm_kind.I32
+
+abbrev pub kind_of_imm : Imm → ImmKind
+kind_of_imm imm.None = imm_kind.None
+kind_of_imm (imm.I8 value) = imm_kind.I8
+kind_of_imm (imm.I32 value) = imm_kind.I32
+kind_of_imm (imm.I64 value) = imm_kind.I64

@@ -1,0 +1,164 @@
+//! What each field says of the fields behind it.
+
+ghost use Rattle.std.specs.Prelude.{◌≡◌};
+ghost use Rattle.sb_insn.specs.Fields.{is_none, permits_rex, permits_rm, permits, is_register, needs_rex, stands_alone, is_modrm_field, has_sib, wants_sib, has_no_base, modrm_disp, disp_kind_of, rule_of, is_wide, imm_kind_of};
+
+use crate::insn::{Disp, DispKind, Imm, ImmKind};
+use crate::opcode_map::{Cell, ImmRule, Operand, RexRule, RmRule, operand_of};
+
+/// Whether rm is a register.
+fn is_register(modrm: u8) -> bool
+    ensures { result ≡ is_register modrm }
+{
+    modrm / 64 == 3
+}
+
+fn needs_rex(operand: &Operand, modrm: u8) -> bool
+    ensures { result ≡ needs_rex operand.now modrm }
+{
+    (operand.byte_reg && modrm / 8 % 8 >= 4)
+        || (operand.byte_rm && (is_register(modrm) && modrm % 8 >= 4))
+}
+
+fn permits_rex(rule: RexRule, rex: Option<u8>) -> bool
+    ensures { result ≡ permits_rex rule rex }
+{
+    match rule {
+        RexRule::Permitted => true,
+        RexRule::Refused => rex.is_none(),
+    }
+}
+
+fn permits_rm(rule: RmRule, modrm: u8) -> bool
+    ensures { result ≡ permits_rm rule modrm }
+{
+    match rule {
+        RmRule::Any => true,
+        RmRule::Register => is_register(modrm),
+        RmRule::Memory => !is_register(modrm),
+    }
+}
+
+#[tactic(auto, unfolding(crate::specs::Fields::permits))]
+fn permits(operand: &Operand, lock: bool, rex: Option<u8>, modrm: u8) -> bool
+    ensures { result ≡ permits operand.now lock rex modrm }
+{
+    (!lock || (operand.lock && !is_register(modrm)))
+        && (permits_rm(operand.rm, modrm) && !(rex.is_none() && needs_rex(operand, modrm)))
+}
+
+/// Whether an opcode behind these prefixes permits this ModRM byte.
+pub fn permits_modrm(cell: Cell, lock: bool, rex: Option<u8>, modrm: u8) -> bool
+    ensures { result ≡ is_modrm_field cell lock rex (Some modrm) }
+{
+    match operand_of(cell, modrm / 8 % 8) {
+        None => false,
+        Some(operand) => permits(&operand, lock, rex, modrm),
+    }
+}
+
+/// Whether an opcode has no ModRM byte and permits these prefixes.
+pub fn stands_alone(cell: Cell, lock: bool, rex: Option<u8>) -> bool
+    ensures { result ≡ stands_alone cell lock rex }
+{
+    match cell {
+        Cell::Plain(rule, _) => !lock && permits_rex(rule, rex),
+        Cell::Absent | Cell::ModRm(_) => false,
+    }
+}
+
+#[tactic(auto, unfolding(crate::specs::Fields::has_sib))]
+fn has_sib(modrm: u8) -> bool
+    ensures { result ≡ has_sib modrm }
+{
+    !is_register(modrm) && modrm % 8 == 4
+}
+
+/// Whether an SIB byte stands.
+pub fn wants_sib(modrm: Option<u8>) -> bool
+    ensures { result ≡ wants_sib modrm }
+{
+    match modrm {
+        None => false,
+        Some(modrm) => has_sib(modrm),
+    }
+}
+
+fn has_no_base(sib: Option<u8>) -> bool
+    ensures { result ≡ has_no_base sib }
+{
+    match sib {
+        None => false,
+        Some(sib) => sib % 8 == 5,
+    }
+}
+
+#[tactic(auto, unfolding(crate::specs::Fields::modrm_disp))]
+fn modrm_disp(modrm: u8, sib: Option<u8>) -> DispKind
+    ensures { result ≡ modrm_disp modrm sib }
+{
+    match modrm / 64 {
+        0 => {
+            if modrm % 8 == 5 || has_no_base(sib) {
+                DispKind::D32
+            } else {
+                DispKind::None
+            }
+        }
+        1 => DispKind::D8,
+        2 => DispKind::D32,
+        _ => DispKind::None,
+    }
+}
+
+/// Which displacement stands.
+pub fn disp_kind(modrm: Option<u8>, sib: Option<u8>) -> DispKind
+    ensures { result ≡ disp_kind_of modrm sib }
+{
+    match modrm {
+        None => DispKind::None,
+        Some(modrm) => modrm_disp(modrm, sib),
+    }
+}
+
+fn rule_of(cell: Cell, modrm: Option<u8>) -> ImmRule
+    ensures { result ≡ rule_of cell modrm }
+{
+    match modrm {
+        None => match cell {
+            Cell::Plain(_, rule) => rule,
+            _ => ImmRule::None,
+        },
+        Some(modrm) => match operand_of(cell, modrm / 8 % 8) {
+            None => ImmRule::None,
+            Some(operand) => operand.imm,
+        },
+    }
+}
+
+fn is_wide(rex: Option<u8>) -> bool
+    ensures { result ≡ is_wide rex }
+{
+    match rex {
+        None => false,
+        Some(byte) => byte / 8 % 2 == 1,
+    }
+}
+
+/// Which immediate stands.
+pub fn imm_kind(cell: Cell, modrm: Option<u8>, rex: Option<u8>) -> ImmKind
+    ensures { result ≡ imm_kind_of (rule_of cell modrm) rex }
+{
+    match rule_of(cell, modrm) {
+        ImmRule::None => ImmKind::None,
+        ImmRule::I8 => ImmKind::I8,
+        ImmRule::I32 => ImmKind::I32,
+        ImmRule::Wide => {
+            if is_wide(rex) {
+                ImmKind::I64
+            } else {
+                ImmKind::I32
+            }
+        }
+    }
+}

@@ -1,0 +1,68 @@
+//! A `Vec` that contracts see as the list of its elements.
+//!
+//! Inside: one generic type, `Listed<T>`, made from a `Vec` and given back as one without taking memory. Not inside: any
+//! operation on lists. Callers lend the slice and use what slices have.
+//!
+//! The list types of this workspace (`Lines`, `Bytes`, `Words` and others) are aliases of it, so that a struct which
+//! holds one is compared with a definition's value by one equation:
+//!
+//! ```text
+//! pub type Words = Listed<u64>;
+//! let words = Words::new(vec![in alloc; 5, 7]?);    // a contract sees 5 ∷ 7 ∷ []
+//! ```
+#![tactic(auto)]
+
+ghost use Rattle.std.specs.Prelude.{◌≡◌};
+
+use std::marker::Model;
+
+/// A list of values: to contracts, the list itself.
+#[derive(Debug, Drop)]
+pub struct Listed<T> {
+    values: Vec<T>,
+}
+
+impl<T> Model for Listed<T> {
+    ghost use Rattle.std.specs.Prelude.{List};
+
+    ghost Value = { List T };
+
+    ghost view = { λ listed. listed.values.items };
+}
+
+impl<T> Listed<T> {
+    /// Takes over the values of a `Vec`.
+    pub fn new(values: Vec<T>) -> Listed<T>
+        ensures { result ≡ values.items }
+    {
+        Listed { values }
+    }
+
+    /// Lends the values.
+    pub fn items(&self) -> &[T]
+        ensures { result.now ≡ self.now }
+    {
+        &self.values
+    }
+
+    /// Gives the `Vec` back.
+    pub fn into_vec(self) -> Vec<T>
+        ensures { result.items ≡ self }
+    {
+        self.values
+    }
+}
+
+#[cfg(test)]
+mod tests {
+    use super::Listed;
+    use std::test::Fail;
+
+    #[test]
+    fn a_list_gives_its_vec_back(rt: HostRuntime) -> Result<(), Fail> {
+        let words: Listed<u64> = Listed::new(vec![in rt.alloc(); 5, 7]?);
+        assert_eq!(rt; words.items(), [5, 7].as_slice());
+        assert_eq!(rt; words.into_vec().as_slice(), [5, 7].as_slice());
+        Ok(())
+    }
+}
