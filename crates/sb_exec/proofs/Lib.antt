@@ -1,0 +1,4 @@
+pub mod Accesses
+pub mod Left
+pub mod Effects
+pub mod Known

@@ -1,0 +1,11 @@
+pub mod Stop
+pub mod Interface
+pub mod Access
+pub mod Size
+pub mod Operand
+pub mod Arithmetic
+pub mod Row
+pub mod Execution
+pub mod Actions
+pub mod Rows
+pub mod Steps

@@ -1,0 +1,103 @@
+-- The operands of an instruction (SDM volume 2, sections 2.1 and 2.2.1).
+use Rattle.std.specs.Prelude.{ℕ, ◌+◌, ◌*◌, ◌/◌, ◌%◌, ◌^◌, ◌==◌, ◌<◌, if◌then◌else◌, length, Option, Some, None, slice_index, slice_set, unwrap_or}
+use Rattle.std.specs.Int.{w64, cast_unsigned}
+use Rattle.sb_insn.specs.declared.insn.Insn.{Insn}
+use Rattle.sb_insn.specs.declared.insn.Op.{Op}
+use Rattle.sb_insn.specs.declared.insn.Op.TheVariants.{One, Two, Endbr, Vmfunc}
+use Rattle.sb_insn.specs.declared.insn.Imm.{Imm}
+use Rattle.sb_insn.specs.declared.insn.Imm.TheVariants as imm
+use Rattle.sb_insn.specs.declared.registers.Regs.{Regs}
+use Rattle.sb_insn.specs.Spelling.{spelling}
+use Rattle.sb_insn.specs.Fields.{reg_field, rm_field}
+use Rattle.sb_exec.specs.declared.size.Size.{Size}
+use Rattle.sb_exec.specs.declared.size.Size.TheVariants.{Byte, Double, Quad}
+use Rattle.sb_exec.specs.declared.action.Place.{Place}
+use Rattle.sb_exec.specs.declared.action.Place.TheVariants.{Register, Memory}
+use Rattle.sb_exec.specs.Size.{modulus}
+
+-- ---- fields
+
+abbrev pub bit_of_rex : Option ℕ → ℕ → ℕ
+bit_of_rex None place = 0
+bit_of_rex (Some rex) place = rex / 2 ^ place % 2
+
+-- a bit of the REX byte: 3 W, 2 R, 1 X, 0 B
+abbrev pub rex_bit : Insn → ℕ → ℕ
+rex_bit insn place = bit_of_rex insn.rex place
+
+abbrev pub modrm_of : Insn → ℕ
+modrm_of insn = unwrap_or insn.modrm 0
+
+-- the register that reg names
+abbrev pub reg_number : Insn → ℕ
+reg_number insn = reg_field (modrm_of insn) + 8 * rex_bit insn 2
+
+-- the register that rm names, where mod is 3
+abbrev pub rm_number : Insn → ℕ
+rm_number insn = rm_field (modrm_of insn) + 8 * rex_bit insn 0
+
+-- the last byte of the opcode
+abbrev pub opcode_of : Op → ℕ
+opcode_of (One opcode) = opcode
+opcode_of (Two opcode) = opcode
+opcode_of Endbr = 0xFA
+opcode_of Vmfunc = 0xD4
+
+-- the register that the opcode names
+abbrev pub opcode_number : Insn → ℕ
+opcode_number insn = opcode_of insn.op % 8 + 8 * rex_bit insn 0
+
+-- 64 bits with REX.W, else 32
+abbrev pub operand_size : Insn → Size
+operand_size insn = if rex_bit insn 3 == 1 then Quad else Double
+
+-- ---- numbers beside the opcode
+
+-- the immediate, sign-extended to 64 bits
+abbrev pub imm_value : Imm → ℕ
+imm_value imm.None = 0
+imm_value (imm.I8 value) = cast_unsigned w64 value
+imm_value (imm.I32 value) = cast_unsigned w64 value
+imm_value (imm.I64 value) = cast_unsigned w64 value
+
+-- the address of the next instruction
+abbrev pub next_rip : Insn → Regs → ℕ
+next_rip insn regs = (regs.rip + length (spelling insn)) % 2 ^ 64
+
+-- ---- places
+
+-- The operand that ModRM names. It is a register: in each instruction of the subset mod is 3.
+unfoldable pub rm_place : Insn → Place
+rm_place insn = Register (rm_number insn)
+
+-- there are sixteen registers
+abbrev pub IsPlace : Place → Type 0
+IsPlace (Register number) = number < 16
+IsPlace (Memory address) = Unit {0}
+
+-- ---- registers at a size
+
+-- the lowest bits of a number
+unfoldable pub low : Size → ℕ → ℕ
+low size value = value % modulus size
+
+abbrev pub general : Regs → ℕ → ℕ
+general regs number = slice_index regs.general number
+
+abbrev pub register : Size → ℕ → Regs → ℕ
+register size number regs = low size (general regs number)
+
+-- What a register holds after a value is written to it: 32 bits clear its upper half, a byte leaves the bits above it.
+unfoldable pub merged : Size → ℕ → ℕ → ℕ
+merged Byte old value = old / 256 * 256 + value % 256
+merged Double old value = value % 2 ^ 32
+merged Quad old value = value
+
+abbrev pub with_register : Size → ℕ → ℕ → Regs → Regs
+with_register size number value regs =
+    record regs { general = slice_set regs.general number (merged size (general regs number) value) }
+
+-- the value of an operand, whose bytes were loaded if it is in memory
+abbrev pub operand_value : Size → Place → Regs → ℕ → ℕ
+operand_value size (Register number) regs loaded = register size number regs
+operand_value size (Memory address) regs loaded = low size loaded

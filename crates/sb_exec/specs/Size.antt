@@ -1,0 +1,21 @@
+-- The sizes of operands.
+use Rattle.std.specs.Prelude.{ℕ, ◌^◌}
+use Rattle.sb_exec.specs.declared.size.Size.{Size}
+use Rattle.sb_exec.specs.declared.size.Size.TheVariants.{Byte, Double, Quad}
+
+abbrev pub size_bytes : Size → ℕ
+size_bytes Byte = 1
+size_bytes Double = 4
+size_bytes Quad = 8
+
+-- how many numbers there are of a size
+abbrev pub modulus : Size → ℕ
+modulus Byte = 2 ^ 8
+modulus Double = 2 ^ 32
+modulus Quad = 2 ^ 64
+
+-- the number of which only the top bit is set
+abbrev pub half : Size → ℕ
+half Byte = 2 ^ 7
+half Double = 2 ^ 31
+half Quad = 2 ^ 63
