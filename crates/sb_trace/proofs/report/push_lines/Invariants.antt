@@ -1,0 +1,6 @@
+use Rattle.std.proofs.Common.{◌≡◌, ◌++◌, string_bytes, take}
+use Rattle.sb_trace.specs.Report.{lines_text}
+use Rattle.sb_trace.proofs.report.push_lines.Given as goal
+
+abbrev pub invariant-loop-line : goal.invariant-loop-line
+invariant-loop-line l = string_bytes l.out ≡ string_bytes l.initial.out ++ lines_text (take l.line-index l.lines)

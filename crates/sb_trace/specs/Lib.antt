@@ -1,0 +1,4 @@
+pub mod Landing
+pub mod EventText
+pub mod Report
+pub mod Run

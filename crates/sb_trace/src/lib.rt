@@ -1,0 +1,17 @@
+//! What a run of the machine says: its lines, its last state, and the text of the report.
+//!
+//! Inside: `Line` and `Event`, one line for each entry of a schedule; `EndState`, what each thread is at the end;
+//! `report_text`, the bytes of the report; and the definition of a run over any machine (`specs/Run.antt`). Not inside:
+//! what a step does.
+//!
+//! A line is the core and what happened there, as in `0 step 400000`. Addresses are hexadecimal, all other numbers
+//! decimal (docs/FORMATS.md, "The report").
+#![tactic(auto)]
+
+mod end;
+mod event;
+mod report;
+
+pub use end::{EndKind, EndState, ThreadEnd, ThreadEnds};
+pub use event::{Event, Line, Lines, VMFUNC_PHASE, is_landing};
+pub use report::report_text;

@@ -1,0 +1,96 @@
+//! The text of the report.
+
+ghost use Rattle.std.specs.Prelude.{◌≡◌, ◌++◌, OnOk, IfOk, string_bytes};
+ghost use Rattle.sb_trace.specs.Report.{lines_text, thread_line, regs_line, registers_text, flight_line, thread_text, threads_text, counts_text, report_text as text_of_report};
+
+use crate::end::{EndState, ThreadEnd};
+use crate::event::{Line, Lines};
+use sb_insn::Regs;
+use std::alloc::{AllocError, Global};
+
+fn push_lines(out: &mut String, lines: &[Line]) -> Result<(), AllocError>
+    ensures { OnOk result (string_bytes out.new ≡ string_bytes out.old ++ lines_text lines.now) }
+{
+    for line in lines {
+        writeln!(out, "{line}")?;
+    }
+    Ok(())
+}
+
+fn push_thread_line(out: &mut String, number: usize, thread: &ThreadEnd) -> Result<(), AllocError>
+    ensures { OnOk result (string_bytes out.new ≡ string_bytes out.old ++ thread_line number thread.now) }
+{
+    let home = thread.home;
+    let view = thread.view;
+    let present = thread.present;
+    let state = thread.state;
+    writeln!(out, "thread {number} home {home} view {view} at {present} {state}")?;
+    Ok(())
+}
+
+fn push_registers(out: &mut String, general: &[u64]) -> Result<(), AllocError>
+    ensures { OnOk result (string_bytes out.new ≡ string_bytes out.old ++ registers_text general.now) }
+{
+    for value in general {
+        write!(out, " {value:x}")?;
+    }
+    Ok(())
+}
+
+fn push_regs_line(out: &mut String, number: usize, regs: &Regs) -> Result<(), AllocError>
+    ensures { OnOk result (string_bytes out.new ≡ string_bytes out.old ++ regs_line number regs.now) }
+{
+    let rip = regs.rip;
+    let flags = regs.flags.image();
+    write!(out, "regs {number} rip {rip:x} flags {flags:x}")?;
+    push_registers(out, &regs.general)?;
+    out.push_str("\n")?;
+    Ok(())
+}
+
+fn push_flight_line(out: &mut String, number: usize, flight: Option<u8>) -> Result<(), AllocError>
+    ensures { OnOk result (string_bytes out.new ≡ string_bytes out.old ++ flight_line number flight) }
+{
+    match flight {
+        None => Ok(()),
+        Some(phase) => writeln!(out, "flight {number} {phase}"),
+    }
+}
+
+fn push_thread(out: &mut String, number: usize, thread: &ThreadEnd) -> Result<(), AllocError>
+    ensures { OnOk result (string_bytes out.new ≡ string_bytes out.old ++ thread_text number thread.now) }
+{
+    push_thread_line(out, number, thread)?;
+    push_regs_line(out, number, &thread.regs)?;
+    push_flight_line(out, number, thread.flight)
+}
+
+fn push_threads(out: &mut String, threads: &[ThreadEnd]) -> Result<(), AllocError>
+    ensures { OnOk result (string_bytes out.new ≡ string_bytes out.old ++ threads_text 0 threads.now) }
+{
+    for (number, thread) in threads.iter().enumerate() {
+        push_thread(out, number, thread)?;
+    }
+    Ok(())
+}
+
+fn push_counts(out: &mut String, end: &EndState) -> Result<(), AllocError>
+    ensures { OnOk result (string_bytes out.new ≡ string_bytes out.old ++ counts_text end.now) }
+{
+    let free = end.free;
+    let keys = end.keys;
+    write!(out, "free {free}\nkeys {keys}\nend\n")?;
+    Ok(())
+}
+
+/// The report: a head line, a line for each step, the threads at the end, and the counts of what is left.
+pub fn report_text(alloc: Global, lines: &Lines, end: &EndState) -> Result<String, AllocError>
+    ensures { IfOk result (λ text. string_bytes text ≡ text_of_report lines.now end.now) }
+{
+    let mut out = String::new(alloc);
+    out.push_str("skybridge report 1\n")?;
+    push_lines(&mut out, lines.items())?;
+    push_threads(&mut out, end.threads.items())?;
+    push_counts(&mut out, end)?;
+    Ok(out)
+}
