@@ -1,0 +1,252 @@
+-- The whole instruction is read exactly.
+use Rattle.std.proofs.Common.{◌≡◌, ℕ, pos, ◌-◌, ◌<◌, ◌≤◌, true, List, [], ◌∷◌, ◌++◌, length, Option, Result, Ok, Err, refl, sym, ap, subst, ◌∙◌, arith, length-append}
+use Rattle.std.specs.Option.{option_to_list}
+use Rattle.std.proofs.lemmas.List.{append-nil}
+use Rattle.sb_insn.specs.declared.insn.Insn.{Insn}
+use Rattle.sb_insn.specs.declared.insn.Disp.{Disp}
+use Rattle.sb_insn.specs.declared.insn.Disp.TheVariants as disp
+use Rattle.sb_insn.specs.declared.insn.Imm.{Imm}
+use Rattle.sb_insn.specs.declared.insn.Imm.TheVariants as imm
+use Rattle.sb_insn.specs.declared.insn.DispKind.{DispKind}
+use Rattle.sb_insn.specs.declared.insn.DispKind.TheVariants as disp_kinds
+use Rattle.sb_insn.specs.declared.insn.ImmKind.{ImmKind}
+use Rattle.sb_insn.specs.declared.insn.ImmKind.TheVariants as imm_kinds
+use Rattle.sb_insn.specs.declared.insn.Op.{Op}
+use Rattle.sb_insn.specs.declared.insn.Op.TheVariants.{One, Two, Endbr, Vmfunc}
+use Rattle.sb_insn.specs.OpcodeMap.{cell_of, one_byte, one_byte_rows, two_byte, two_byte_rows}
+use Rattle.sb_insn.specs.Spelling.{lock_bytes, op_bytes, front_bytes, disp_bytes, imm_bytes, spelling}
+use Rattle.sb_insn.specs.Fields.{disp_kind_of, rule_of, imm_kind_of}
+use Rattle.sb_insn.specs.Grammar.{IsValid, BeginsWith, IsShort, IsUndecoded}
+use Rattle.sb_insn.proofs.Longest.{spelling_13, looked_up}
+use Rattle.sb_decode.specs.declared.fault.DecodeFault.{DecodeFault}
+use Rattle.sb_decode.specs.declared.fault.DecodeFault.TheVariants.{Short, Undecoded}
+use Rattle.sb_decode.specs.declared.front.Front.{Front}
+use Rattle.sb_decode.specs.Reading.{Read, and_then}
+use Rattle.sb_decode.specs.FrontReader.{front_at}
+use Rattle.sb_decode.specs.FieldReaders.{modrm_at, sib_at, disp_at, imm_at}
+use Rattle.sb_decode.specs.InsnReader.{Parts, parts_at, insn_of, from_parts}
+use Rattle.sb_decode.specs.Decode.{Decodes, NoneBeginsAnother, OneBegins, SpelledApart}
+use Rattle.sb_decode.proofs.Reader.{IsBytes, Reads, both, one}
+use Rattle.sb_decode.proofs.Tail.{GoodDisp, GoodImm, disp_reads, imm_reads}
+use Rattle.sb_decode.proofs.Operands.{GoodSib, sib_reads, some_sib, GoodModrm, modrm_reads, some_modrm, modrm_takes_prefixes, is_open}
+use Rattle.sb_decode.proofs.Opcodes.{GoodFront, spell_front, front_reads}
+
+-- ---- the displacement and the immediate
+
+some_disp : (kind : DispKind) → (value : Disp) × GoodDisp kind value
+some_disp disp_kinds.None = (disp.None, (refl, tt))
+some_disp disp_kinds.D8 = (disp.D8 (pos 0), (refl, omega arith))
+some_disp disp_kinds.D32 = (disp.D32 (pos 0), (refl, omega arith))
+
+some_imm : (kind : ImmKind) → (value : Imm) × GoodImm kind value
+some_imm imm_kinds.None = (imm.None, (refl, tt))
+some_imm imm_kinds.I8 = (imm.I8 (pos 0), (refl, omega arith))
+some_imm imm_kinds.I32 = (imm.I32 (pos 0), (refl, omega arith))
+some_imm imm_kinds.I64 = (imm.I64 (pos 0), (refl, omega arith))
+
+abbrev GoodEnd : DispKind → ImmKind → Disp × Imm → Type 0
+GoodEnd disp_kind imm_kind end = GoodDisp disp_kind end.0 × GoodImm imm_kind end.1
+
+abbrev spell_end : Disp × Imm → List ℕ
+spell_end end = disp_bytes end.0 ++ imm_bytes end.1
+
+end_reads : (disp_kind : DispKind) (imm_kind : ImmKind) → Reads (Disp × Imm) (GoodEnd disp_kind imm_kind) spell_end (and_then (disp_at disp_kind) (λ d. imm_at imm_kind))
+end_reads disp_kind imm_kind =
+    both Disp Imm (GoodDisp disp_kind) (λ d. GoodImm imm_kind) disp_bytes imm_bytes (disp_at disp_kind) (λ d. imm_at imm_kind)
+    (disp_reads disp_kind) (λ d good. imm_reads imm_kind) (λ d good. some_imm imm_kind)
+
+some_end : (disp_kind : DispKind) (imm_kind : ImmKind) → (end : Disp × Imm) × GoodEnd disp_kind imm_kind end
+some_end disp_kind imm_kind = let d = some_disp disp_kind in let v = some_imm imm_kind in ((d.0, v.0), (d.1, v.1))
+
+-- ---- behind ModRM
+
+abbrev GoodBehind : Option ℕ → ImmKind → Option ℕ × (Disp × Imm) → Type 0
+GoodBehind modrm imm_kind behind = GoodSib modrm behind.0 × GoodEnd (disp_kind_of modrm behind.0) imm_kind behind.1
+
+abbrev spell_behind : Option ℕ × (Disp × Imm) → List ℕ
+spell_behind behind = option_to_list behind.0 ++ spell_end behind.1
+
+behind_reads : (modrm : Option ℕ) (imm_kind : ImmKind)
+    → Reads (Option ℕ × (Disp × Imm)) (GoodBehind modrm imm_kind) spell_behind (and_then (sib_at modrm) (λ sib. and_then (disp_at (disp_kind_of modrm sib)) (λ d. imm_at imm_kind)))
+behind_reads modrm imm_kind =
+    both (Option ℕ) (Disp × Imm) (GoodSib modrm) (λ sib. GoodEnd (disp_kind_of modrm sib) imm_kind) (λ sib. option_to_list sib) spell_end
+    (sib_at modrm) (λ sib. and_then (disp_at (disp_kind_of modrm sib)) (λ d. imm_at imm_kind))
+    (sib_reads modrm) (λ sib good. end_reads (disp_kind_of modrm sib) imm_kind) (λ sib good. some_end (disp_kind_of modrm sib) imm_kind)
+
+some_behind : (modrm : Option ℕ) (imm_kind : ImmKind) → (behind : Option ℕ × (Disp × Imm)) × GoodBehind modrm imm_kind behind
+some_behind modrm imm_kind = let sib = some_sib modrm in let end = some_end (disp_kind_of modrm sib.0) imm_kind in ((sib.0, end.0), (sib.1, end.1))
+
+-- ---- behind the opcode
+
+abbrev Rest : Type 0
+Rest = Option ℕ × (Option ℕ × (Disp × Imm))
+
+abbrev imm_kind_at : Front → Option ℕ → ImmKind
+imm_kind_at front modrm = imm_kind_of (rule_of (cell_of front.op) modrm) front.rex
+
+abbrev GoodRest : Front → Rest → Type 0
+GoodRest front rest = GoodModrm (cell_of front.op) front.lock front.rex rest.0 × GoodBehind rest.0 (imm_kind_at front rest.0) rest.1
+
+abbrev spell_rest : Rest → List ℕ
+spell_rest rest = option_to_list rest.0 ++ spell_behind rest.1
+
+abbrev rest_at : Front → List ℕ → Read Rest
+rest_at front =
+    and_then (modrm_at (cell_of front.op) front.lock front.rex)
+    (λ modrm. and_then (sib_at modrm) (λ sib. and_then (disp_at (disp_kind_of modrm sib)) (λ d. imm_at (imm_kind_at front modrm))))
+
+open_cell : (op : Op) → is_open (cell_of op) ≡ true
+unfolding one_byte two_byte
+open_cell (One opcode) = looked_up is_open opcode one_byte_rows refl refl
+open_cell (Two opcode) = looked_up is_open opcode two_byte_rows refl refl
+open_cell Endbr = refl
+open_cell Vmfunc = refl
+
+rest_reads : (front : Front) → GoodFront front → Reads Rest (GoodRest front) spell_rest (rest_at front)
+rest_reads front good =
+    both (Option ℕ) (Option ℕ × (Disp × Imm)) (GoodModrm (cell_of front.op) front.lock front.rex) (λ modrm. GoodBehind modrm (imm_kind_at front modrm)) (λ modrm. option_to_list modrm) spell_behind
+    (modrm_at (cell_of front.op) front.lock front.rex)
+    (λ modrm. and_then (sib_at modrm) (λ sib. and_then (disp_at (disp_kind_of modrm sib)) (λ d. imm_at (imm_kind_at front modrm))))
+    (modrm_reads (cell_of front.op) front.lock front.rex (open_cell front.op) good.takes)
+    (λ modrm fits. behind_reads modrm (imm_kind_at front modrm)) (λ modrm fits. some_behind modrm (imm_kind_at front modrm))
+
+some_rest : (front : Front) → GoodFront front → (rest : Rest) × GoodRest front rest
+some_rest front good =
+    let modrm = some_modrm (cell_of front.op) front.lock front.rex (open_cell front.op) good.takes in
+    let behind = some_behind modrm.0 (imm_kind_at front modrm.0) in
+    ((modrm.0, behind.0), (modrm.1, behind.1))
+
+-- ---- the whole
+
+abbrev GoodParts : Parts → Type 0
+GoodParts parts = GoodFront parts.0 × GoodRest parts.0 parts.1
+
+abbrev spell_parts : Parts → List ℕ
+spell_parts parts = spell_front parts.0 ++ spell_rest parts.1
+
+parts_reads : Reads Parts GoodParts spell_parts parts_at
+unfolding parts_at
+parts_reads = both Front Rest GoodFront GoodRest spell_front spell_rest front_at rest_at front_reads rest_reads some_rest
+
+abbrev parts_of : Insn → Parts
+parts_of insn = (record { lock = insn.lock; rex = insn.rex; op = insn.op }, (insn.modrm, (insn.sib, (insn.disp, insn.imm))))
+
+valid_parts : (parts : Parts) → GoodParts parts → IsValid (insn_of parts)
+valid_parts parts good = record {
+  rex = good.0.rex;
+  modrm = good.1.0.0;
+  modrm_byte = good.1.0.1;
+  sib = good.1.1.0.0;
+  sib_byte = good.1.1.0.1;
+  disp = good.1.1.1.0.0;
+  disp_fits = good.1.1.1.0.1;
+  imm = good.1.1.1.1.0;
+  imm_fits = good.1.1.1.1.1;
+}
+
+good_parts : (insn : Insn) → IsValid insn → GoodParts (parts_of insn)
+good_parts insn valid = (
+  record { rex = valid.rex; takes = modrm_takes_prefixes (cell_of insn.op) insn.lock insn.rex insn.modrm valid.modrm },
+  ((valid.modrm, valid.modrm_byte), ((valid.sib, valid.sib_byte), ((valid.disp, valid.disp_fits), (valid.imm, valid.imm_fits)))),
+)
+
+-- ---- no spelling begins another
+
+one_begins_with : (i j : Insn) → IsValid i → IsValid j → (x y : List ℕ) → spelling i ++ x ≡ spelling j ++ y → i ≡ j
+one_begins_with i j v w x y e =
+    let same = one Parts GoodParts spell_parts parts_at parts_reads (parts_of i) (parts_of j) x y (good_parts i v) (good_parts j w) e in
+    ap (λ (p : Parts). insn_of p) same.0
+
+pub none_begins_another : NoneBeginsAnother
+none_begins_another first second rest v w e = one_begins_with first second v w rest [] (sym e ∙ sym (append-nil (spelling second)))
+
+pub one_begins : OneBegins
+one_begins bytes first second a b = one_begins_with first second a.0 b.0 a.1.0 b.1.0 (sym a.1.1 ∙ b.1.1)
+
+pub spelled_apart : SpelledApart
+spelled_apart bytes first second a b = one_begins_with first second a.0 b.0 [] [] (ap (λ (t : List ℕ). t ++ []) (sym a.1 ∙ b.1))
+
+-- ---- what the decoder answers
+
+begins_read : (bytes : List ℕ) (insn : Insn) → BeginsWith bytes insn → (rest : List ℕ) × (parts_at bytes ≡ Ok (parts_of insn, rest))
+begins_read bytes insn begins =
+    (begins.1.0, ap (λ (t : List ℕ). parts_at t) begins.1.1 ∙ parts_reads.again (parts_of insn) begins.1.0 (good_parts insn begins.0))
+
+from_parts_ok : (q : Read Parts) (y : Insn × List ℕ) → from_parts q ≡ Ok y → (x : Parts × List ℕ) × (q ≡ Ok x) × ((insn_of x.0, x.1) ≡ y)
+from_parts_ok (Ok x) y e = (x, refl, cc)
+from_parts_ok (Err d) y e = absurd cc
+
+abbrev failed : {A : Type 0} → DecodeFault → Result A DecodeFault
+failed e = Err e
+
+from_parts_err : (q : Read Parts) (fault : DecodeFault) → from_parts q ≡ Err fault → q ≡ Err fault
+from_parts_err (Ok x) fault e = absurd cc
+from_parts_err (Err c) fault e = let same : c ≡ fault = cc in ap (λ (z : DecodeFault). failed {A = Parts × List ℕ} z) same
+
+not_both : (q : Read Parts) (x : Parts × List ℕ) (fault : DecodeFault) → q ≡ Ok x → q ≡ Err fault → ⊥
+not_both q x fault e f = cc
+
+pub found : (bytes : List ℕ) (insn : Insn) (rest : List ℕ) → IsBytes bytes → from_parts (parts_at bytes) ≡ Ok (insn, rest) → IsValid insn × (bytes ≡ spelling insn ++ rest)
+found bytes insn rest fits e =
+    let x = from_parts_ok (parts_at bytes) (insn, rest) e in
+    let t = parts_reads.takes bytes x.0.0 x.0.1 fits x.1 in
+    subst (λ (y : Insn × List ℕ). IsValid y.0 × (bytes ≡ spelling y.0 ++ y.1)) x.2 (valid_parts x.0.0 t.0, t.1)
+
+is_short : (bytes : List ℕ) → IsBytes bytes → from_parts (parts_at bytes) ≡ Err Short → IsShort bytes
+is_short bytes fits e =
+    let none = from_parts_err (parts_at bytes) Short e in
+    let o = parts_reads.opens bytes fits none in
+    let whole : bytes ++ o.0 ≡ spelling (insn_of o.1) ++ [] = o.3 ∙ sym (append-nil (spell_parts o.1)) in
+    (λ insn begins. let r = begins_read bytes insn begins in not_both (parts_at bytes) (parts_of insn, r.0) Short r.1 none, (o.0, insn_of o.1, (valid_parts o.1 o.2, ([], whole))))
+
+is_undecoded : (bytes : List ℕ) → IsBytes bytes → from_parts (parts_at bytes) ≡ Err Undecoded → IsUndecoded bytes
+is_undecoded bytes fits e = λ more insn begins.
+    let none = from_parts_err (parts_at bytes) Undecoded e in
+    let still = parts_reads.final bytes more fits none in
+    let r = begins_read (bytes ++ more) insn begins in
+    not_both (parts_at (bytes ++ more)) (parts_of insn, r.0) Undecoded r.1 still
+
+pub refused : (bytes : List ℕ) (fault : DecodeFault) → IsBytes bytes → from_parts (parts_at bytes) ≡ Err fault → Decodes bytes (Err fault)
+refused bytes Short fits e = is_short bytes fits e
+refused bytes Undecoded fits e = is_undecoded bytes fits e
+
+pub shorter : (bytes : List ℕ) (insn : Insn) (rest : List ℕ) → IsBytes bytes → from_parts (parts_at bytes) ≡ Ok (insn, rest) → length rest ≤ length bytes
+shorter bytes insn rest fits e = let f = found bytes insn rest fits e in omega (arith, ap (λ (t : List ℕ). length t) f.1, length-append (spelling insn) rest)
+
+pub decoded : (bytes : List ℕ) (insn : Insn) (rest : List ℕ) → IsBytes bytes → from_parts (parts_at bytes) ≡ Ok (insn, rest) → Decodes bytes (Ok (insn, length bytes - length rest))
+decoded bytes insn rest fits e =
+    let f = found bytes insn rest fits e in
+    ((f.0, (rest, f.1)), omega (arith, ap (λ (t : List ℕ). length t) f.1, length-append (spelling insn) rest))
+
+-- ---- what loops over instructions need
+
+op_some : (op : Op) → 0 < length (op_bytes op)
+op_some (One opcode) = omega arith
+op_some (Two opcode) = omega arith
+op_some Endbr = omega arith
+op_some Vmfunc = omega arith
+
+spelling_some : (insn : Insn) → 0 < length (spelling insn)
+spelling_some insn =
+    omega (
+      arith,
+      op_some insn.op,
+      length-append (front_bytes insn.lock insn.rex insn.op) (option_to_list insn.modrm ++ (option_to_list insn.sib ++ (disp_bytes insn.disp ++ imm_bytes insn.imm))),
+      length-append (lock_bytes insn.lock) (option_to_list insn.rex ++ op_bytes insn.op),
+      length-append (option_to_list insn.rex) (op_bytes insn.op),
+    )
+
+pub found_some : (bytes : List ℕ) (insn : Insn) (rest : List ℕ) → IsBytes bytes → from_parts (parts_at bytes) ≡ Ok (insn, rest) → 0 < length bytes - length rest
+found_some bytes insn rest fits e =
+    let f = found bytes insn rest fits e in
+    omega (arith, spelling_some insn, ap (λ (t : List ℕ). length t) f.1, length-append (spelling insn) rest)
+
+short_12_by : (bytes more : List ℕ) (insn : Insn) → IsValid insn → (BeginsWith bytes insn → ⊥) → bytes ++ more ≡ spelling insn → length bytes < 13
+short_12_by bytes [] insn v none e = absurd (none (v, ([], sym (append-nil bytes) ∙ e ∙ sym (append-nil (spelling insn)))))
+short_12_by bytes (b ∷ more) insn v none e = omega (arith, spelling_13 insn v, ap (λ (t : List ℕ). length t) e, length-append bytes (b ∷ more))
+
+pub short_12 : (bytes : List ℕ) (fault : DecodeFault) → IsBytes bytes → from_parts (parts_at bytes) ≡ Err fault → failed {A = Insn × ℕ} fault ≡ Err Short → length bytes < 13
+short_12 bytes Short fits e is =
+    let o = parts_reads.opens bytes fits (from_parts_err (parts_at bytes) Short e) in
+    short_12_by bytes o.0 (insn_of o.1) (valid_parts o.1 o.2) ((is_short bytes fits e).0 (insn_of o.1)) o.3
+short_12 bytes Undecoded fits e is = absurd cc

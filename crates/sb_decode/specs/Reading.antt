@@ -1,0 +1,23 @@
+-- Reading from left to right: a reader gives a field and the bytes behind it, or says why it cannot.
+use Rattle.std.specs.Prelude.{◌≡◌, List, ℕ, Result, Ok, Err}
+use Rattle.std.specs.Borrow.{Bor}
+use Rattle.sb_decode.specs.declared.fault.DecodeFault.{DecodeFault}
+
+-- What reading gives: a field and the bytes behind it.
+abbrev pub Read : Type 0 → Type 0
+Read Field = Result (Field × List ℕ) DecodeFault
+
+-- a function that returned a field and a slice gave what is read
+abbrev pub Gives : {Field : Type 0} → Result (Field × Bor (List ℕ)) DecodeFault → Read Field → Type 0
+Gives (Ok got) read = read ≡ Ok (got.0, got.1.now)
+Gives (Err fault) read = read ≡ Err fault
+
+-- go on with what was read
+infixl 10 ◌>>=◌
+abbrev pub ◌>>=◌ : {First Second : Type 0} → Result First DecodeFault → (First → Result Second DecodeFault) → Result Second DecodeFault
+(Ok got) >>= next = next got
+(Err fault) >>= next = Err fault
+
+-- one field, and then one that it decides
+abbrev pub and_then : {First Second : Type 0} → (List ℕ → Read First) → (First → List ℕ → Read Second) → List ℕ → Read (First × Second)
+and_then read next bytes = read bytes >>= λ first. next first.0 first.1 >>= λ second. Ok ((first.0, second.0), second.1)

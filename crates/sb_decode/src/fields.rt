@@ -1,0 +1,89 @@
+//! The fields behind the opcode: each function gives one, and the bytes behind it.
+
+ghost use Rattle.std.specs.Prelude.{◌≡◌};
+ghost use Rattle.sb_decode.specs.Reading.{Gives};
+ghost use Rattle.sb_decode.specs.FieldReaders.{is_alone, modrm_at, sib_at, disp_at, imm_at};
+
+use crate::fault::DecodeFault;
+use crate::front::Front;
+use crate::number::{number_8, number_32, number_64};
+use sb_insn::{Cell, Disp, DispKind, Imm, ImmKind, permits_modrm, wants_sib};
+
+// Whether an opcode has no ModRM byte.
+fn is_alone(cell: Cell) -> bool
+    ensures { result ≡ is_alone cell }
+{
+    matches!(cell, Cell::Plain(_, _))
+}
+
+/// ModRM, where the opcode has it.
+#[tactic(auto, unfolding(crate::specs::FieldReaders::modrm_at))]
+pub fn modrm(cell: Cell, front: Front, bytes: &[u8]) -> Result<(Option<u8>, &[u8]), DecodeFault>
+    ensures { Gives result (modrm_at cell front.lock front.rex bytes.now) }
+{
+    if is_alone(cell) {
+        return Ok((None, bytes));
+    }
+    match bytes {
+        [] => Err(DecodeFault::Short),
+        [byte, rest @ ..] => {
+            if permits_modrm(cell, front.lock, front.rex, *byte) {
+                Ok((Some(*byte), rest))
+            } else {
+                Err(DecodeFault::Undecoded)
+            }
+        }
+    }
+}
+
+/// SIB, where ModRM wants it.
+#[tactic(auto, unfolding(crate::specs::FieldReaders::sib_at))]
+pub fn sib(modrm: Option<u8>, bytes: &[u8]) -> Result<(Option<u8>, &[u8]), DecodeFault>
+    ensures { Gives result (sib_at modrm bytes.now) }
+{
+    if !wants_sib(modrm) {
+        return Ok((None, bytes));
+    }
+    match bytes {
+        [] => Err(DecodeFault::Short),
+        [byte, rest @ ..] => Ok((Some(*byte), rest)),
+    }
+}
+
+/// The displacement.
+pub fn disp(kind: DispKind, bytes: &[u8]) -> Result<(Disp, &[u8]), DecodeFault>
+    ensures { Gives result (disp_at kind bytes.now) }
+{
+    match kind {
+        DispKind::None => Ok((Disp::None, bytes)),
+        DispKind::D8 => {
+            let (number, rest) = number_8(bytes)?;
+            Ok((Disp::D8(number), rest))
+        }
+        DispKind::D32 => {
+            let (number, rest) = number_32(bytes)?;
+            Ok((Disp::D32(number), rest))
+        }
+    }
+}
+
+/// The immediate.
+pub fn imm(kind: ImmKind, bytes: &[u8]) -> Result<(Imm, &[u8]), DecodeFault>
+    ensures { Gives result (imm_at kind bytes.now) }
+{
+    match kind {
+        ImmKind::None => Ok((Imm::None, bytes)),
+        ImmKind::I8 => {
+            let (number, rest) = number_8(bytes)?;
+            Ok((Imm::I8(number), rest))
+        }
+        ImmKind::I32 => {
+            let (number, rest) = number_32(bytes)?;
+            Ok((Imm::I32(number), rest))
+        }
+        ImmKind::I64 => {
+            let (number, rest) = number_64(bytes)?;
+            Ok((Imm::I64(number), rest))
+        }
+    }
+}
