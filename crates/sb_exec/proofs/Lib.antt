@@ -2,3 +2,5 @@ pub mod Accesses
 pub mod Left
 pub mod Effects
 pub mod Known
+pub mod Fetched
+pub mod OneFetch

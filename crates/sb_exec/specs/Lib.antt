@@ -9,3 +9,4 @@ pub mod Execution
 pub mod Actions
 pub mod Rows
 pub mod Steps
+pub mod Fetching

@@ -14,6 +14,7 @@
 mod action;
 mod arithmetic;
 mod bus;
+mod fetch;
 mod operand;
 mod rows;
 mod size;
@@ -25,6 +26,7 @@ pub use action::{
     Action, After, Effect, Load, MemoryUse, OperandForm, Operation, Outcome, Place, Store,
 };
 pub use bus::Bus;
+pub use fetch::{fetch_insn, one_fetch, one_fetch_on};
 pub use size::Size;
 pub use step::execute;
 pub use stop::{BusStop, FaultKind};

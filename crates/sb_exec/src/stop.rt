@@ -2,6 +2,7 @@
 
 use sb_memory::{Frame, Linear};
 use std::fmt;
+use thiserror::Error;
 
 /// The kinds of fault.
 #[derive(Clone, Copy, Debug, PartialEq, Eq)]
@@ -33,10 +34,12 @@ impl fmt::Display for FaultKind {
 }
 
 /// Why a byte is not accessed.
-#[derive(Clone, Copy, Debug, PartialEq, Eq)]
+#[derive(Clone, Copy, Debug, PartialEq, Eq, Error)]
 pub enum BusStop {
     /// A fault at this address.
+    #[error("fault {0} at {address:x}", address = .1.0)]
     Fault(FaultKind, Linear),
     /// The access meets a frame that this memory does not have.
+    #[error("no frame {number}", number = .0.0)]
     Missing(Frame),
 }
