@@ -4,3 +4,4 @@ pub mod Effects
 pub mod Known
 pub mod Fetched
 pub mod OneFetch
+pub mod Stops
