@@ -1,10 +1,9 @@
 -- What stops an instruction is what stops a byte: if each byte's stop has a property, then so has the instruction's.
-use Rattle.std.proofs.Common.{ℕ, zero, suc, ◌+◌, ◌%◌, ◌^◌, ◌≡◌, List, [], ◌∷◌, Result, Ok, Err, inl, inr, subst, sym}
+use Rattle.std.proofs.Common.{ℕ, zero, suc, ◌+◌, ◌%◌, ◌^◌, List, [], ◌∷◌, Result, Ok, Err, inl, inr, subst, sym}
 use Rattle.std.specs.Prelude.{IfErr}
 use Rattle.sb_memory.specs.declared.address.Access.{Access}
 use Rattle.sb_memory.specs.declared.address.Access.TheVariants as access
 use Rattle.sb_memory.specs.Outcome.{and_then, done}
-use Rattle.sb_insn.specs.declared.insn.Insn.{Insn}
 use Rattle.sb_insn.specs.declared.registers.Regs.{Regs}
 use Rattle.sb_exec.specs.declared.stop.BusStop.{BusStop}
 use Rattle.sb_exec.specs.declared.action.Effect.{Effect}

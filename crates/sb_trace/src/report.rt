@@ -24,7 +24,10 @@ fn push_thread_line(out: &mut String, number: usize, thread: &ThreadEnd) -> Resu
     let view = thread.view;
     let present = thread.present;
     let state = thread.state;
-    writeln!(out, "thread {number} home {home} view {view} at {present} {state}")?;
+    writeln!(
+        out,
+        "thread {number} home {home} view {view} at {present} {state}"
+    )?;
     Ok(())
 }
 

@@ -1,0 +1,5 @@
+pub mod Bundles
+pub mod Listing
+pub mod Parts
+pub mod Page
+pub mod Determined
