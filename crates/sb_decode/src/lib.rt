@@ -44,7 +44,7 @@ pub fn one_spelling()
     ensures spelled { SpelledApart }
 {}
 
-// The instruction, and the bytes behind it.
+/// The instruction, and the bytes behind it.
 #[tactic(auto, unfolding(crate::specs::InsnReader::parts_at))]
 fn insn(bytes: &[u8]) -> Result<(Insn, &[u8]), DecodeFault>
     ensures { Gives result (from_parts (parts_at bytes.now)) }
