@@ -10,8 +10,11 @@ use sb_insn::{Cell, Op, RexRule, cell_of};
 /// The fields before ModRM.
 #[derive(Clone, Copy, Debug, PartialEq, Eq)]
 pub struct Front {
+    /// Whether LOCK stands.
     pub lock: bool,
+    /// The REX prefix, if one stands.
     pub rex: Option<u8>,
+    /// The opcode.
     pub op: Op,
 }
 

@@ -25,7 +25,12 @@ use sb_insn::{Insn, cell_of, disp_kind, imm_kind};
 
 /// The instruction with which the bytes begin, and its length in bytes (SDM volume 2, chapter 2).
 ///
-/// What stands behind the instruction is not read.
+/// What stands behind the instruction makes no difference.
+///
+/// # Errors
+///
+/// `Short` where no instruction begins the bytes, and one begins some longer input that begins with all of them;
+/// `Undecoded` where none does, however the bytes go on.
 pub fn decode(bytes: &[u8]) -> Result<(Insn, usize), DecodeFault>
     ensures answer { Decodes bytes.now result }
     // What loops over instructions need: a length within the bytes and not 0, and Short near the end alone.
@@ -117,7 +122,7 @@ mod tests {
                 &[0x31, 0x00],
                 Err(DecodeFault::Undecoded),
             ),
-            ("D4", &[0xD4], Err(DecodeFault::Undecoded)),
+            ("AAM", &[0xD4], Err(DecodeFault::Undecoded)),
             ("INT3", &[0xCC], Err(DecodeFault::Undecoded)),
             ("VMFUNC", &[0x0F, 0x01, 0xD4], Err(DecodeFault::Undecoded)),
             ("a REX prefix", &[0x48], Err(DecodeFault::Undecoded)),
