@@ -41,7 +41,8 @@ impl From<Failed> for ReadAll {
     }
 }
 
-/// Reads to the end of the input, which may have at most `limit` bytes.
+/// Reads to the end of the input, which may have at most `limit` bytes. Each call of the source takes at least one byte
+/// or is the last.
 ///
 /// # Errors
 ///
@@ -73,10 +74,11 @@ pub fn read_all<S: Source>(alloc: Global, source: &mut S, limit: usize) -> Resul
     }
 }
 
-/// The sink failed, and counted it. So many bytes were appended before.
+/// The sink failed, and counted it, before all the bytes were written.
 #[derive(Clone, Copy, Debug, PartialEq, Eq, Error)]
 #[error("the sink failed after {written} bytes")]
 pub struct WriteFault {
+    /// How many of the bytes were appended.
     pub written: usize,
 }
 
