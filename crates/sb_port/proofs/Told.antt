@@ -1,23 +1,24 @@
 -- Bytes that were read or written in several calls.
-use Rattle.std.proofs.Common.{◌≡◌, ℕ, ◌+◌, ◌-◌, ◌<◌, ◌≤◌, ◌↔◌, ◌++◌, List, Option, Some, None, length, take, drop, ap, sym, ◌∙◌, subst, arith, append_assoc, length-drop, length-append, length-take}
+use Rattle.std.proofs.Common.{◌≡◌, ℕ, ◌+◌, ◌-◌, ◌≤◌, ◌++◌, List, Option, Some, None, length, take, drop, refl, ap, sym, ◌∙◌, subst, arith, append_assoc, length-drop, length-append, length-take}
 use Rattle.std.proofs.Math.Seq.{take-add, take-length, drop-append_seam}
 use Rattle.std.proofs.lemmas.List.{take_at, take-append-drop, drop-drop}
 use Rattle.std.proofs.KnownBytes.{Consumes-trans}
 use Rattle.std.specs.Io.KnownBytes.{Appends, Consumes}
 use Rattle.sb_port.specs.Port.{Appended, TookFirst}
 
--- `&bytes[i..]`, as a call sees it
-pub from_there : (i : ℕ) (bytes : List ℕ) → take (length bytes - i) (drop i bytes) ≡ drop i bytes
-from_there i bytes = rw (← length-drop i bytes) (take-length (drop i bytes))
+-- `&bytes[at..]`, as a call sees it
+pub from_there : (at : ℕ) (bytes : List ℕ) → take (length bytes - at) (drop at bytes) ≡ drop at bytes
+from_there at bytes = rw (← length-drop at bytes) (take-length (drop at bytes))
 
--- a call appended n more of the bytes
-pub appended_more : (told before now : Option (List ℕ)) (bytes : List ℕ) (i n : ℕ) → Appended told before (take i bytes) → Appends before now (take n (take (length bytes - i) (drop i bytes))) → Appended told now (take (i + n) bytes)
-appended_more None before now bytes i n a p = tt
-appended_more (Some old) before None bytes i n a p = absurd (subst (λ (b : Option (List ℕ)). Appends b None (take n (take (length bytes - i) (drop i bytes)))) a p)
-appended_more (Some old) before (Some now) bytes i n a p =
-    let put = subst (λ (b : Option (List ℕ)). Appends b (Some now) (take n (take (length bytes - i) (drop i bytes)))) a p in
-    ap Some (put ∙ ap (λ (r : List ℕ). (old ++ take i bytes) ++ take n r) (from_there i bytes)
-    ∙ append_assoc old (take i bytes) (take n (drop i bytes)) ∙ ap (λ (x : List ℕ). old ++ x) (sym (take-add i n bytes)))
+-- a call appended so many more of the bytes
+pub appended_more : (told before now : Option (List ℕ)) (bytes : List ℕ) (at count : ℕ) → Appended told before (take at bytes) → Appends before now (take count (take (length bytes - at) (drop at bytes)))
+    → Appended told now (take (at + count) bytes)
+appended_more None before now bytes at count appended put = tt
+appended_more (Some old) before None bytes at count appended put = absurd (rw appended at put)
+appended_more (Some old) before (Some now) bytes at count appended put =
+    let part : take count (take (length bytes - at) (drop at bytes)) ≡ take count (drop at bytes) = ap (take count) (from_there at bytes) in
+    let more : now ≡ (old ++ take at bytes) ++ take count (drop at bytes) = (rw appended at put) ∙ ap (λ x. (old ++ take at bytes) ++ x) part in
+    rw (more, append_assoc, take-add at count bytes) refl
 
 -- what was consumed are the first bytes
 pub took_first : (told now : Option (List ℕ)) (bytes : List ℕ) (claim : ℕ → Type 0) → Consumes told now bytes → claim (length bytes) → TookFirst told now claim

@@ -93,3 +93,71 @@ impl<W: Write> Sink for WriteSink<W> {
         }
     }
 }
+
+#[cfg(test)]
+mod tests {
+    use super::{ReadSource, WriteSink};
+    use crate::{ReadAll, WriteFault, read_all, write_all};
+    use std::io::{self, Cursor, ErrorKind, Read};
+    use std::test::Fail;
+
+    /// A reader that gives one byte a call, and an error in place of the third.
+    #[derive(Drop)]
+    struct FailsThird {
+        calls: u8,
+    }
+
+    impl Read for FailsThird {
+        fn read(&mut self, buf: &mut [u8]) -> io::Result<usize> {
+            self.calls = self.calls.saturating_add(1);
+            match buf.first_mut() {
+                Some(place) if self.calls != 3 => {
+                    *place = self.calls;
+                    Ok(1)
+                }
+                _ => Err(io::Error::from(ErrorKind::BrokenPipe)),
+            }
+        }
+    }
+
+    #[test]
+    fn a_reader_is_read_from_where_it_stands(rt: HostRuntime) -> Result<(), Fail> {
+        let mut cursor = Cursor::new(b"skybridge".as_slice());
+        cursor.set_position(3);
+        let mut source = ReadSource::new(cursor);
+        let bytes = read_all(rt.alloc(), &mut source, 6)?;
+        assert_eq!(rt; bytes.as_slice(), b"bridge".as_slice());
+        assert_eq!(rt; source.faults, 0);
+        Ok(())
+    }
+
+    #[test]
+    fn an_error_of_the_reader_is_one_fault_at_that_call(rt: HostRuntime) -> Result<(), Fail> {
+        let mut source = ReadSource::new(FailsThird { calls: 0 });
+        let refused = read_all(rt.alloc(), &mut source, 100).err();
+        assert_eq!(rt; refused, Some(ReadAll::ReadFault));
+        assert_eq!(rt; source.faults, 1);
+        assert_eq!(rt; source.reader.calls, 3);
+        Ok(())
+    }
+
+    #[test]
+    fn a_writer_is_written_behind_what_it_holds(rt: HostRuntime) -> Result<(), Fail> {
+        let alloc = rt.alloc();
+        let mut sink = WriteSink::new(Vec::from_slice(alloc, b"sky")?);
+        write_all(&mut sink, b"bridge")?;
+        assert_eq!(rt; sink.writer.as_slice(), b"skybridge".as_slice());
+        assert_eq!(rt; sink.faults, 0);
+        Ok(())
+    }
+
+    #[test]
+    fn a_writer_that_takes_nothing_has_failed(rt: HostRuntime) -> Result<(), Fail> {
+        let mut room = [0; 4];
+        let mut sink = WriteSink::new(room.as_mut_slice());
+        let fault = write_all(&mut sink, b"bridge").err();
+        assert_eq!(rt; fault, Some(WriteFault { written: 4 }));
+        assert_eq!(rt; sink.faults, 1);
+        Ok(())
+    }
+}

@@ -10,8 +10,8 @@
 //!
 //! ```text
 //! let mut source = MemorySource::new(bytes, 16, fails);    // gives 16 bytes a call
-//! let input = read_all(alloc, &mut source, 1024)?;         // all of them, or why not
-//! let mut sink = WriteSink::new(rt.stdout());
+//! let input = read_all(alloc, &mut source, 1024)?;         // all of the bytes, or why not
+//! let mut sink = WriteSink::new(io::writer(&rt));
 //! write_all(&mut sink, &input)?;                           // all of them, or how many were written
 //! ```
 #![tactic(auto)]

@@ -29,12 +29,12 @@ impl Model for MemorySink {
     ghost Value = { SinkInMemory };
 
     ghost view = { λ s. record {
-        held = s.bytes.items;
-        capacity = s.capacity;
-        per_call = s.per_call;
-        fails = s.fails.items;
-        calls = s.calls;
-        faults = s.faults
+      held = s.bytes.items;
+      capacity = s.capacity;
+      per_call = s.per_call;
+      fails = s.fails.items;
+      calls = s.calls;
+      faults = s.faults;
     } };
 
     ghost invariant = { λ s. (0 < s.per_call) × (vec_len s.bytes ≤ s.capacity) × (s.capacity ≤ vec_capacity s.bytes) };
@@ -54,12 +54,12 @@ impl MemorySink {
     ) -> Result<MemorySink, AllocError>
         requires { 0 < per_call }
         ensures { IfOk result (λ sink. sink ≡ record {
-            held = [];
-            capacity = capacity;
-            per_call = per_call;
-            fails = fails.items;
-            calls = 0;
-            faults = 0
+          held = [];
+          capacity = capacity;
+          per_call = per_call;
+          fails = fails.items;
+          calls = 0;
+          faults = 0;
         }) }
     {
         Ok(MemorySink {
@@ -98,12 +98,12 @@ impl Sink for MemorySink {
         ensures fails { IsErr result ↔ (Contains self.old.fails (one_more self.old.calls) ⊎ IsFull self.old) }
         ensures count { IfOk result (λ count. count ≡ taken_count self.old (length bytes.now)) }
         ensures after { IfOk result (λ count. self.new ≡ record self.old {
-            held = self.old.held ++ take count bytes.now;
-            calls = one_more self.old.calls
+          held = self.old.held ++ take count bytes.now;
+          calls = one_more self.old.calls;
         }) }
         ensures after_fault { OnErr result (self.new ≡ record self.old {
-            calls = one_more self.old.calls;
-            faults = one_more self.old.faults
+          calls = one_more self.old.calls;
+          faults = one_more self.old.faults;
         }) }
     {
         self.calls = self.calls.saturating_add(1);
@@ -113,6 +113,7 @@ impl Sink for MemorySink {
             return Err(Failed);
         }
         let count = bytes.len().min(self.per_call).min(room);
+        // `new` took the memory for all that there is room for.
         self.bytes.extend_from_slice(&bytes[..count]).unwrap();
         Ok(count)
     }

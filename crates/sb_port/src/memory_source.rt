@@ -28,11 +28,11 @@ impl Model for MemorySource {
     ghost Value = { SourceInMemory };
 
     ghost view = { λ s. record {
-        left = drop s.at s.bytes.items;
-        per_call = s.per_call;
-        fails = s.fails.items;
-        calls = s.calls;
-        faults = s.faults
+      left = drop s.at s.bytes.items;
+      per_call = s.per_call;
+      fails = s.fails.items;
+      calls = s.calls;
+      faults = s.faults;
     } };
 
     ghost invariant = { λ s. (0 < s.per_call) × (s.at ≤ vec_len s.bytes) };
@@ -43,11 +43,11 @@ impl MemorySource {
     pub fn new(bytes: Vec<u8>, per_call: usize, fails: Vec<u64>) -> MemorySource
         requires { 0 < per_call }
         ensures { result ≡ record {
-            left = bytes.items;
-            per_call = per_call;
-            fails = fails.items;
-            calls = 0;
-            faults = 0
+          left = bytes.items;
+          per_call = per_call;
+          fails = fails.items;
+          calls = 0;
+          faults = 0;
         } }
     {
         MemorySource {
@@ -77,12 +77,12 @@ impl Source for MemorySource {
         ensures count { IfOk result (λ count. count ≡ given_count self.old (length into.old)) }
         ensures given { IfOk result (λ count. into.new ≡ take count self.old.left ++ drop count into.old) }
         ensures after { IfOk result (λ count. self.new ≡ record self.old {
-            left = drop count self.old.left;
-            calls = one_more self.old.calls
+          left = drop count self.old.left;
+          calls = one_more self.old.calls;
         }) }
         ensures after_fault { OnErr result (self.new ≡ record self.old {
-            calls = one_more self.old.calls;
-            faults = one_more self.old.faults
+          calls = one_more self.old.calls;
+          faults = one_more self.old.faults;
         }) }
         ensures untouched { OnErr result (into.new ≡ into.old) }
     {
