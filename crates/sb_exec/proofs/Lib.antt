@@ -1,4 +1,5 @@
 pub mod Accesses
+pub mod Refused
 pub mod Left
 pub mod Effects
 pub mod Known

@@ -30,3 +30,6 @@ pub use fetch::{fetch_insn, one_fetch, one_fetch_on};
 pub use size::Size;
 pub use step::execute;
 pub use stop::{BusStop, FaultKind};
+
+#[cfg(test)]
+mod tests;
