@@ -1,5 +1,5 @@
--- Numbers, and fields made of them.
-use Rattle.std.proofs.Common.{◌≡◌, inl, inr, ℕ, zero, suc, lit<, ◌-◌, ◌<◌, ◌≤◌, Bool, true, false, cond, ltb, List, [], ◌∷◌, ◌++◌, ℤ, length, take, drop, replicate, Result, Ok, Err, refl, sym, ap, subst, ◌∙◌, arith, FitsSigned, Fits}
+-- Signed numbers of one, four and eight bytes are read exactly.
+use Rattle.std.proofs.Common.{◌≡◌, inl, inr, ℕ, zero, suc, lit<, ◌-◌, ◌<◌, ◌≤◌, Bool, true, false, cond, ltb, List, [], ◌∷◌, ◌++◌, ℤ, length, take, drop, replicate, Ok, Err, refl, sym, ap, subst, ◌∙◌, arith, FitsSigned, Fits}
 use Rattle.std.specs.Int.{Width, w8, w32, w64, byte_len, from_le_bytes, to_le_bytes, cast_signed, cast_unsigned}
 use Rattle.std.proofs.Math.Facts.{sfits_to_z, of_z-to_z, to_z-of_z, Fits-of_z}
 use Rattle.std.proofs.lemmas.Bool.{cases_lt, ltb-false, ltb-true, le-ltb}
@@ -8,9 +8,8 @@ use Rattle.std.proofs.lemmas.Nat.{le_bytes_4, le_bytes_8, from_le_bytes-to_le_by
 use Rattle.sb_insn.specs.Spelling.{number}
 use Rattle.sb_decode.specs.declared.fault.DecodeFault.{DecodeFault}
 use Rattle.sb_decode.specs.declared.fault.DecodeFault.TheVariants.{Short, Undecoded}
-use Rattle.sb_decode.specs.Reading.{Read}
-use Rattle.sb_decode.specs.FieldReaders.{number_at, made}
-use Rattle.sb_decode.proofs.Reader.{IsBytes, Reads, ok_is}
+use Rattle.sb_decode.specs.FieldReaders.{number_at}
+use Rattle.sb_decode.proofs.Reader.{IsBytes, Reads}
 
 IsBytes-take : (n : ℕ) (bytes : List ℕ) → IsBytes bytes → IsBytes (take n bytes)
 IsBytes-take n bytes h i =
@@ -116,42 +115,3 @@ number_opens width wide bytes fits e =
 
 pub number_reads : (width : Width) → IsWide width → Reads ℤ (λ value. FitsSigned width value) (λ value. number width value) (number_at width)
 number_reads width wide = record { takes = number_takes width wide; again = number_again width wide; final = number_final width; opens = number_opens width wide }
-
--- ---- a field that is made of a number
-
-made_ok : {A : Type 0} (make : ℤ → A) (q : Read ℤ) (y : A × List ℕ) → made make q ≡ Ok y → (x : ℤ × List ℕ) × (q ≡ Ok x) × ((make x.0, x.1) ≡ y)
-made_ok make (Ok x) y e = (x, refl, cc)
-made_ok make (Err d) y e = absurd cc
-
-abbrev failed : {A : Type 0} → DecodeFault → Result A DecodeFault
-failed e = Err e
-
-made_err : {A : Type 0} (make : ℤ → A) (q : Read ℤ) (d : DecodeFault) → made make q ≡ Err d → q ≡ Err d
-made_err make (Ok x) d e = absurd cc
-made_err make (Err c) d e = let same : c ≡ d = cc in ap (λ (z : DecodeFault). failed {A = ℤ × List ℕ} z) same
-
-pub made_reads : (A : Type 0) (GA : A → Type 0) (sa : A → List ℕ) (make : ℤ → A) (width : Width) → IsWide width
-    → ((value : ℤ) → FitsSigned width value → GA (make value)) → ((value : ℤ) → sa (make value) ≡ number width value) → ((a : A) → GA a → (value : ℤ) × FitsSigned width value × (make value ≡ a))
-    → Reads A GA sa (λ bytes. made make (number_at width bytes))
-made_reads A GA sa make width wide good spell only = record {
-  takes = λ bytes a rest fits e.
-      let x = made_ok make (number_at width bytes) (a, rest) e in
-      let t = number_takes width wide bytes x.0.0 x.0.1 fits x.1 in
-      subst (λ (z : A × List ℕ). GA z.0 × (bytes ≡ sa z.0 ++ z.1)) x.2 (good x.0.0 t.0, t.1 ∙ ap (λ (s : List ℕ). s ++ x.0.1) (sym (spell x.0.0)));
-  again = λ a rest g.
-      let value = only a g in
-      subst (λ (z : A). made make (number_at width (sa z ++ rest)) ≡ Ok (z, rest)) value.2 (ap (λ (s : List ℕ). made make (number_at width (s ++ rest))) (spell value.0) ∙ ap (λ (q : Read ℤ). made make q) (number_again width wide value.0 rest value.1));
-  final = λ bytes more fits e. ap (λ (q : Read ℤ). made make q) (number_final width bytes more fits (made_err make (number_at width bytes) Undecoded e));
-  opens = λ bytes fits e.
-      let o = number_opens width wide bytes fits (made_err make (number_at width bytes) Short e) in
-      (o.0, make o.1, good o.1 o.2, o.3 ∙ sym (spell o.1));
-}
-
--- a field that is not there
-pub none_reads : (A : Type 0) (GA : A → Type 0) (sa : A → List ℕ) (x : A) → GA x → sa x ≡ [] → ((a : A) → GA a → x ≡ a) → Reads A GA sa (λ bytes. Ok (x, bytes))
-none_reads A GA sa x good spell only = record {
-  takes = λ bytes a rest fits e. subst (λ (z : A × List ℕ). GA z.0 × (bytes ≡ sa z.0 ++ z.1)) (ok_is (x, bytes) (a, rest) e) (good, ap (λ (s : List ℕ). s ++ bytes) (sym spell));
-  again = λ a rest g. let same = only a g in let nothing : sa a ≡ [] = ap (λ (z : A). sa z) (sym same) ∙ spell in rw (nothing, same) refl;
-  final = λ bytes more fits e. absurd (cc (e));
-  opens = λ bytes fits e. absurd (cc (e));
-}

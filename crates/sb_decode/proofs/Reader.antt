@@ -1,9 +1,10 @@
--- A reader of field field is exact in four ways, and two exact readers, one behind the other, make one.
+-- A reader of a field is exact in four ways, and two exact readers, one behind the other, make one.
 use Rattle.std.proofs.Common.{◌≡◌, ◌⊎◌, inl, inr, ℕ, suc, ◌<◌, Bool, true, false, cond, List, [], ◌∷◌, ◌++◌, get_or, Result, Ok, Err, refl, sym, ap, subst, ◌∙◌, append_assoc}
 use Rattle.sb_decode.specs.declared.fault.DecodeFault.{DecodeFault}
 use Rattle.sb_decode.specs.declared.fault.DecodeFault.TheVariants.{Short, Undecoded}
 use Rattle.sb_decode.specs.Reading.{◌>>=◌, Read, and_then}
 
+-- each is below 256
 abbrev pub IsBytes : List ℕ → Type 0
 IsBytes bytes = (k : ℕ) → get_or bytes k 0 < 256
 
@@ -22,10 +23,12 @@ pub record Reads (Field : Type 0) (Good : Field → Type 0) (spell : Field → L
   -- what is too short can be completed
   pub opens : (bytes : List ℕ) → IsBytes bytes → read bytes ≡ Err Short → (more : List ℕ) × (field : Field) × Good field × (bytes ++ more ≡ spell field)
 
+-- what holds of both answers of a test holds of its answer
 pub by_test : {A : Type 0} (P : A → Type 0) (b : Bool) (x y : A) → (b ≡ true → P x) → (b ≡ false → P y) → P (cond b x y)
 by_test P true x y if_true if_false = if_true refl
 by_test P false x y if_true if_false = if_false refl
 
+-- where two steps succeeded, both did
 pub bind_ok : {A B : Type 0} (q : Result A DecodeFault) (f : A → Result B DecodeFault) (y : B) → (q >>= f) ≡ Ok y → (x : A) × (q ≡ Ok x) × (f x ≡ Ok y)
 bind_ok (Ok x) f y e = (x, refl, e)
 bind_ok (Err d) f y e = absurd cc
@@ -33,6 +36,7 @@ bind_ok (Err d) f y e = absurd cc
 abbrev failed : {A : Type 0} → DecodeFault → Result A DecodeFault
 failed e = Err e
 
+-- where two steps failed, the first did, or the second after it
 pub bind_err : {A B : Type 0} (q : Result A DecodeFault) (f : A → Result B DecodeFault) (d : DecodeFault) → (q >>= f) ≡ Err d → (q ≡ Err d) ⊎ ((x : A) × (q ≡ Ok x) × (f x ≡ Err d))
 bind_err (Ok x) f d e = inr (x, refl, e)
 bind_err {A = A} (Err c) f d e = let same : c ≡ d = cc in inl (ap (λ (z : DecodeFault). failed {A = A} z) same)
@@ -42,6 +46,8 @@ done x = Ok x
 
 pub ok_is : {A : Type 0} (x y : A) → done x ≡ done y → x ≡ y
 ok_is x y e = cc
+
+-- ---- the four ways for a field and one that it decides
 
 then_takes : (First Second : Type 0) (GoodFirst : First → Type 0) (GoodSecond : First → Second → Type 0) (spell_first : First → List ℕ) (spell_second : Second → List ℕ) (read : List ℕ → Read First) (next : First → List ℕ → Read Second)
     → Reads First GoodFirst spell_first read → ((a : First) → GoodFirst a → Reads Second (GoodSecond a) spell_second (next a))

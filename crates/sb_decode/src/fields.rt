@@ -9,7 +9,7 @@ use crate::front::Front;
 use crate::number::{number_8, number_32, number_64};
 use sb_insn::{Cell, Disp, DispKind, Imm, ImmKind, permits_modrm, wants_sib};
 
-// Whether an opcode has no ModRM byte.
+/// Whether an opcode has no ModRM byte.
 fn is_alone(cell: Cell) -> bool
     ensures { result ≡ is_alone cell }
 {

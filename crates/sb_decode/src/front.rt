@@ -10,8 +10,11 @@ use sb_insn::{Cell, Op, RexRule, cell_of};
 /// The fields before ModRM.
 #[derive(Clone, Copy, Debug, PartialEq, Eq)]
 pub struct Front {
+    /// Whether LOCK stands.
     pub lock: bool,
+    /// The REX prefix, if one stands.
     pub rex: Option<u8>,
+    /// The opcode.
     pub op: Op,
 }
 
@@ -38,7 +41,7 @@ fn takes_prefixes(cell: Cell, lock: bool, rex: Option<u8>) -> bool
     }
 }
 
-// The whole front is read: does its opcode go with its prefixes?
+/// The whole front is read: does its opcode go with its prefixes?
 fn checked(front: Front, rest: &[u8]) -> Result<(Front, &[u8]), DecodeFault>
     ensures { Gives result (checked front rest.now) }
 {
@@ -49,7 +52,7 @@ fn checked(front: Front, rest: &[u8]) -> Result<(Front, &[u8]), DecodeFault>
     }
 }
 
-// The bytes behind 0F, which leads to the two-byte opcode map.
+/// The bytes behind 0F, which leads to the two-byte opcode map.
 #[tactic(auto, unfolding(crate::specs::FrontReader::second_at))]
 fn second(bytes: &[u8]) -> Result<(Front, &[u8]), DecodeFault>
     ensures { Gives result (second_at bytes.now) }

@@ -6,13 +6,14 @@ ghost use Rattle.sb_insn.specs.Fields.{is_none, permits_rex, permits_rm, permits
 use crate::insn::{Disp, DispKind, Imm, ImmKind};
 use crate::opcode_map::{Cell, ImmRule, Operand, RexRule, RmRule, operand_of};
 
-/// Whether rm is a register.
+/// Whether the operand that rm names is a register: mod is 3.
 fn is_register(modrm: u8) -> bool
     ensures { result ≡ is_register modrm }
 {
     modrm / 64 == 3
 }
 
+/// Whether a byte register is named that only a REX byte gives: without one, 4 to 7 are AH, CH, DH and BH.
 fn needs_rex(operand: &Operand, modrm: u8) -> bool
     ensures { result ≡ needs_rex operand.now modrm }
 {
@@ -20,6 +21,7 @@ fn needs_rex(operand: &Operand, modrm: u8) -> bool
         || (operand.byte_rm && (is_register(modrm) && modrm % 8 >= 4))
 }
 
+/// Whether this REX field may stand before an opcode without ModRM byte.
 fn permits_rex(rule: RexRule, rex: Option<u8>) -> bool
     ensures { result ≡ permits_rex rule rex }
 {
@@ -29,6 +31,7 @@ fn permits_rex(rule: RexRule, rex: Option<u8>) -> bool
     }
 }
 
+/// Whether rm names what the opcode takes.
 fn permits_rm(rule: RmRule, modrm: u8) -> bool
     ensures { result ≡ permits_rm rule modrm }
 {
@@ -39,6 +42,7 @@ fn permits_rm(rule: RmRule, modrm: u8) -> bool
     }
 }
 
+/// Whether an opcode with these operands permits this ModRM byte behind these prefixes.
 #[tactic(auto, unfolding(crate::specs::Fields::permits))]
 fn permits(operand: &Operand, lock: bool, rex: Option<u8>, modrm: u8) -> bool
     ensures { result ≡ permits operand.now lock rex modrm }
@@ -67,6 +71,7 @@ pub fn stands_alone(cell: Cell, lock: bool, rex: Option<u8>) -> bool
     }
 }
 
+/// Whether an SIB byte stands behind this ModRM byte.
 #[tactic(auto, unfolding(crate::specs::Fields::has_sib))]
 fn has_sib(modrm: u8) -> bool
     ensures { result ≡ has_sib modrm }
@@ -74,7 +79,7 @@ fn has_sib(modrm: u8) -> bool
     !is_register(modrm) && modrm % 8 == 4
 }
 
-/// Whether an SIB byte stands.
+/// Whether an SIB byte stands behind this ModRM field.
 pub fn wants_sib(modrm: Option<u8>) -> bool
     ensures { result ≡ wants_sib modrm }
 {
@@ -84,6 +89,7 @@ pub fn wants_sib(modrm: Option<u8>) -> bool
     }
 }
 
+/// Whether the SIB byte names no base register where mod is 0: base is 5.
 fn has_no_base(sib: Option<u8>) -> bool
     ensures { result ≡ has_no_base sib }
 {
@@ -93,6 +99,7 @@ fn has_no_base(sib: Option<u8>) -> bool
     }
 }
 
+/// Which displacement stands behind this ModRM byte and this SIB field.
 #[tactic(auto, unfolding(crate::specs::Fields::modrm_disp))]
 fn modrm_disp(modrm: u8, sib: Option<u8>) -> DispKind
     ensures { result ≡ modrm_disp modrm sib }
@@ -111,7 +118,7 @@ fn modrm_disp(modrm: u8, sib: Option<u8>) -> DispKind
     }
 }
 
-/// Which displacement stands.
+/// Which displacement stands behind these fields.
 pub fn disp_kind(modrm: Option<u8>, sib: Option<u8>) -> DispKind
     ensures { result ≡ disp_kind_of modrm sib }
 {
@@ -121,6 +128,7 @@ pub fn disp_kind(modrm: Option<u8>, sib: Option<u8>) -> DispKind
     }
 }
 
+/// Which immediate the opcode wants with this ModRM field.
 fn rule_of(cell: Cell, modrm: Option<u8>) -> ImmRule
     ensures { result ≡ rule_of cell modrm }
 {
@@ -136,6 +144,7 @@ fn rule_of(cell: Cell, modrm: Option<u8>) -> ImmRule
     }
 }
 
+/// Whether REX.W is set.
 fn is_wide(rex: Option<u8>) -> bool
     ensures { result ≡ is_wide rex }
 {
@@ -145,7 +154,7 @@ fn is_wide(rex: Option<u8>) -> bool
     }
 }
 
-/// Which immediate stands.
+/// Which immediate stands behind these fields.
 pub fn imm_kind(cell: Cell, modrm: Option<u8>, rex: Option<u8>) -> ImmKind
     ensures { result ≡ imm_kind_of (rule_of cell modrm) rex }
 {

@@ -1,4 +1,4 @@
-//! Instructions by their fields.
+//! Instructions by their fields (SDM volume 2, sections 2.1 and 2.2.1).
 
 ghost use Rattle.std.specs.Prelude.{◌≡◌, ◌≤◌, length, IsTrue, ◌↔◌, ◌&&◌};
 ghost use Rattle.std.specs.Option.{option_to_list};
@@ -9,59 +9,94 @@ ghost use Rattle.sb_insn.specs.Grammar.{IsByte, FitsDisp, FitsImm, IsValid};
 use crate::fields::{disp_kind, imm_kind, permits_modrm, stands_alone, wants_sib};
 use crate::opcode_map::{Cell, cell_of};
 
+/// An opcode, by the map in which it stands (SDM volume 2, section 2.1.2 and appendix A).
 #[derive(Clone, Copy, Debug, PartialEq, Eq)]
 pub enum Op {
+    /// This byte, in the one-byte opcode map.
     One(u8),
+    /// `0F` and this byte, in the two-byte opcode map.
     Two(u8),
+    /// `F3 0F 1E FA`: ENDBR64.
     Endbr,
+    /// `0F 01 D4`: VMFUNC (SDM volume 3).
     Vmfunc,
 }
 
+/// A displacement as it is encoded (SDM volume 2, section 2.1.4).
+///
+/// The number is the one of the encoding: whoever adds it to an address extends its sign.
 #[derive(Clone, Copy, Debug, PartialEq, Eq)]
 pub enum Disp {
+    /// No displacement.
     None,
+    /// One byte.
     D8(i8),
+    /// Four bytes, the lowest first.
     D32(i32),
 }
 
+/// An immediate as it is encoded (SDM volume 2, section 2.1.4).
+///
+/// The number is the one of the encoding: whoever takes it as an operand extends its sign.
 #[derive(Clone, Copy, Debug, PartialEq, Eq)]
 pub enum Imm {
+    /// No immediate.
     None,
+    /// One byte.
     I8(i8),
+    /// Four bytes, the lowest first.
     I32(i32),
+    /// Eight bytes, the lowest first.
     I64(i64),
 }
 
 /// Which displacement stands, without its value.
 #[derive(Clone, Copy, Debug, PartialEq, Eq)]
 pub enum DispKind {
+    /// No displacement.
     None,
+    /// One byte.
     D8,
+    /// Four bytes.
     D32,
 }
 
 /// Which immediate stands, without its value.
 #[derive(Clone, Copy, Debug, PartialEq, Eq)]
 pub enum ImmKind {
+    /// No immediate.
     None,
+    /// One byte.
     I8,
+    /// Four bytes.
     I32,
+    /// Eight bytes.
     I64,
 }
 
-/// An instruction by its fields, each as it is encoded.
+/// An instruction by its fields, each as it is encoded, in the order of the encoding (SDM volume 2, figure 2-1).
+///
+/// Any values may stand beside each other here: `is_valid` says which are an instruction of the subset.
 #[derive(Clone, Copy, Debug, PartialEq, Eq)]
 pub struct Insn {
+    /// Whether the prefix `F0`, LOCK, stands (SDM volume 2, section 2.1.1).
     pub lock: bool,
+    /// The REX prefix, the whole byte, if one stands (SDM volume 2, section 2.2.1).
     pub rex: Option<u8>,
+    /// The opcode.
     pub op: Op,
+    /// The ModRM byte, if one stands: mod, reg and rm (SDM volume 2, section 2.1.3).
     pub modrm: Option<u8>,
+    /// The SIB byte, if one stands: scale, index and base (SDM volume 2, section 2.1.3).
     pub sib: Option<u8>,
+    /// The displacement.
     pub disp: Disp,
+    /// The immediate. The distance of a direct jump or call is kept here.
     pub imm: Imm,
 }
 
 impl Disp {
+    /// Which displacement it is, without its value.
     pub fn kind(self) -> DispKind
         ensures kind { result ≡ kind_of_disp self }
         ensures fits { FitsDisp self }
@@ -73,6 +108,7 @@ impl Disp {
         }
     }
 
+    /// How many bytes it has. The bound is what the sum over the fields needs.
     fn length(&self) -> usize
         ensures value { result ≡ length (disp_bytes self.now) }
         ensures bound { result ≤ 8 }
@@ -86,6 +122,7 @@ impl Disp {
 }
 
 impl Imm {
+    /// Which immediate it is, without its value.
     pub fn kind(self) -> ImmKind
         ensures kind { result ≡ kind_of_imm self }
         ensures fits { FitsImm self }
@@ -98,6 +135,7 @@ impl Imm {
         }
     }
 
+    /// How many bytes it has.
     fn length(&self) -> usize
         ensures value { result ≡ length (imm_bytes self.now) }
         ensures bound { result ≤ 8 }
@@ -112,6 +150,7 @@ impl Imm {
 }
 
 impl Op {
+    /// How many bytes it has.
     fn length(&self) -> usize
         ensures value { result ≡ length (op_bytes self.now) }
         ensures bound { result ≤ 8 }
@@ -125,6 +164,7 @@ impl Op {
     }
 }
 
+/// How many bytes a field has that is one byte, if it stands.
 fn byte_count(field: Option<u8>) -> usize
     ensures value { result ≡ length (option_to_list field) }
     ensures bound { result ≤ 1 }
@@ -135,6 +175,7 @@ fn byte_count(field: Option<u8>) -> usize
     }
 }
 
+/// Whether this REX field may stand: no instruction of the subset has one.
 fn is_rex_field(rex: Option<u8>) -> bool
     ensures { result ≡ is_rex_field rex }
 {
@@ -144,6 +185,7 @@ fn is_rex_field(rex: Option<u8>) -> bool
     }
 }
 
+/// Whether this ModRM field may stand behind these prefixes and an opcode of this cell.
 fn is_modrm_field(cell: Cell, lock: bool, rex: Option<u8>, modrm: Option<u8>) -> bool
     ensures test { result ≡ is_modrm_field cell lock rex modrm }
     ensures byte { IsByte modrm }
@@ -154,6 +196,7 @@ fn is_modrm_field(cell: Cell, lock: bool, rex: Option<u8>, modrm: Option<u8>) ->
     }
 }
 
+/// Whether this SIB field may stand behind this ModRM field.
 fn is_sib_field(modrm: Option<u8>, sib: Option<u8>) -> bool
     ensures test { result ≡ is_sib_field modrm sib }
     ensures byte { IsByte sib }
@@ -165,7 +208,10 @@ fn is_sib_field(modrm: Option<u8>, sib: Option<u8>) -> bool
 }
 
 impl Insn {
-    /// Whether it is of the subset: each field is one that the fields before it permit.
+    /// Whether it is an instruction of the subset: each field is one that the fields before it permit.
+    ///
+    /// LOCK, REX and ModRM go by the opcode's cell of the opcode map, SIB by ModRM, the displacement by ModRM and SIB,
+    /// and the immediate by the cell, ModRM and REX.
     pub fn is_valid(&self) -> bool
         ensures { IsTrue result ↔ IsValid self.now }
     {
@@ -185,7 +231,7 @@ impl Insn {
         self.imm.kind() == imm_kind(cell, self.modrm, self.rex)
     }
 
-    /// How many bytes its spelling has.
+    /// How many bytes its spelling has; 13 at most where it is valid.
     #[tactic(auto, using(crate::proofs::Longest::spelling_13))]
     pub fn length(&self) -> usize
         ensures value { result ≡ length (spelling self.now) }
@@ -194,6 +240,7 @@ impl Insn {
         self.field_lengths()
     }
 
+    /// The sum over the fields, which the proof of `length` bounds for valid instructions alone.
     fn field_lengths(&self) -> usize
         ensures value { result ≡ length (spelling self.now) }
         ensures bound { result ≤ 28 }

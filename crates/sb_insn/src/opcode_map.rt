@@ -8,7 +8,9 @@ use crate::insn::Op;
 /// Whether a REX prefix may stand before an opcode without ModRM byte.
 #[derive(Clone, Copy, Debug, PartialEq, Eq)]
 pub enum RexRule {
+    /// No REX prefix.
     Refused,
+    /// Any REX prefix, or none.
     Permitted,
 }
 
@@ -26,6 +28,7 @@ pub enum RmRule {
 /// Which immediate stands behind an opcode.
 #[derive(Clone, Copy, Debug, PartialEq, Eq)]
 pub enum ImmRule {
+    /// No immediate.
     None,
     /// One byte.
     I8,
@@ -40,11 +43,13 @@ pub enum ImmRule {
 pub struct Operand {
     /// LOCK may stand, where rm names memory.
     pub lock: bool,
+    /// What rm may name.
     pub rm: RmRule,
     /// reg names a byte register.
     pub byte_reg: bool,
     /// rm names a byte register or a byte of memory.
     pub byte_rm: bool,
+    /// Which immediate stands.
     pub imm: ImmRule,
 }
 
@@ -72,6 +77,7 @@ const fn registers_alone() -> Operand
     }
 }
 
+/// The one-byte opcode map.
 #[tactic(auto, unfolding(crate::specs::OpcodeMap::one_byte))]
 fn one_byte(opcode: u8) -> Cell
     ensures { result ≡ one_byte opcode }
@@ -83,6 +89,7 @@ fn one_byte(opcode: u8) -> Cell
     }
 }
 
+/// The two-byte opcode map, behind 0F.
 #[tactic(auto, unfolding(crate::specs::OpcodeMap::two_byte))]
 fn two_byte(opcode: u8) -> Cell
     ensures { result ≡ two_byte opcode }

@@ -47,5 +47,6 @@ pub struct Regs {
     pub general: [u64; 16],
     /// The address of the next instruction.
     pub rip: u64,
+    /// The status flags.
     pub flags: Flags,
 }
