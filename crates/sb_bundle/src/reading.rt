@@ -21,7 +21,7 @@ pub(crate) const MAGIC: [u8; 4] = [0x53, 0x4B, 0x59, 0x42];
 pub(crate) const VERSION: u16 = 1;
 
 #[tactic(auto, unfolding(crate::specs::Reading::magic_field))]
-fn magic_of(cursor: &mut Cursor<'_>) -> Result<u32, BundleRefusal>
+fn read_magic(cursor: &mut Cursor<'_>) -> Result<u32, BundleRefusal>
     ensures { Gives (λ n. n) result cursor.new (magic_field cursor.old) }
 {
     let at = cursor.offset();
@@ -33,7 +33,7 @@ fn magic_of(cursor: &mut Cursor<'_>) -> Result<u32, BundleRefusal>
 }
 
 #[tactic(auto, unfolding(crate::specs::Reading::version_field))]
-fn version_of(cursor: &mut Cursor<'_>) -> Result<u16, BundleRefusal>
+fn read_version(cursor: &mut Cursor<'_>) -> Result<u16, BundleRefusal>
     ensures { Gives (λ n. n) result cursor.new (version_field cursor.old) }
 {
     let at = cursor.offset();
@@ -45,7 +45,7 @@ fn version_of(cursor: &mut Cursor<'_>) -> Result<u16, BundleRefusal>
 }
 
 #[tactic(auto, unfolding(crate::specs::Reading::count))]
-fn small_count_of(cursor: &mut Cursor<'_>, limits: &Limits) -> Result<u8, BundleRefusal>
+fn read_small_count(cursor: &mut Cursor<'_>, limits: &Limits) -> Result<u8, BundleRefusal>
     ensures { Gives (λ n. n) result cursor.new (count limits.now 1 cursor.old) }
 {
     let at = cursor.offset();
@@ -57,7 +57,7 @@ fn small_count_of(cursor: &mut Cursor<'_>, limits: &Limits) -> Result<u8, Bundle
 }
 
 #[tactic(auto, unfolding(crate::specs::Reading::count))]
-fn count_of(cursor: &mut Cursor<'_>, limits: &Limits) -> Result<u32, BundleRefusal>
+fn read_count(cursor: &mut Cursor<'_>, limits: &Limits) -> Result<u32, BundleRefusal>
     ensures { Gives (λ n. n) result cursor.new (count limits.now 4 cursor.old) }
 {
     let at = cursor.offset();
@@ -69,7 +69,7 @@ fn count_of(cursor: &mut Cursor<'_>, limits: &Limits) -> Result<u32, BundleRefus
 }
 
 #[tactic(auto, unfolding(crate::specs::Reading::length_field))]
-fn length_of(cursor: &mut Cursor<'_>, limits: &Limits) -> Result<u32, BundleRefusal>
+fn read_length(cursor: &mut Cursor<'_>, limits: &Limits) -> Result<u32, BundleRefusal>
     ensures { Gives (λ n. n) result cursor.new (length_field limits.now cursor.old) }
 {
     let at = cursor.offset();
@@ -81,7 +81,7 @@ fn length_of(cursor: &mut Cursor<'_>, limits: &Limits) -> Result<u32, BundleRefu
 }
 
 #[tactic(auto, unfolding(crate::specs::Reading::index))]
-fn process_of(cursor: &mut Cursor<'_>, processes: u8) -> Result<u32, BundleRefusal>
+fn read_process(cursor: &mut Cursor<'_>, processes: u8) -> Result<u32, BundleRefusal>
     ensures { Gives (λ n. n) result cursor.new (index processes 4 cursor.old) }
 {
     let at = cursor.offset();
@@ -93,7 +93,7 @@ fn process_of(cursor: &mut Cursor<'_>, processes: u8) -> Result<u32, BundleRefus
 }
 
 #[tactic(auto, unfolding(crate::specs::Reading::index))]
-fn core_of(cursor: &mut Cursor<'_>, cores: u8) -> Result<u8, BundleRefusal>
+fn read_core(cursor: &mut Cursor<'_>, cores: u8) -> Result<u8, BundleRefusal>
     ensures { Gives (λ n. n) result cursor.new (index cores 1 cursor.old) }
 {
     let at = cursor.offset();
@@ -105,16 +105,16 @@ fn core_of(cursor: &mut Cursor<'_>, cores: u8) -> Result<u8, BundleRefusal>
 }
 
 #[tactic(auto, unfolding(crate::specs::Reading::header))]
-fn header_of(cursor: &mut Cursor<'_>) -> Result<Header, BundleRefusal>
+fn read_header(cursor: &mut Cursor<'_>) -> Result<Header, BundleRefusal>
     ensures { Gives (λ h. h) result cursor.new (header cursor.old) }
 {
-    magic_of(cursor)?;
-    version_of(cursor)?;
-    let cores = small_count_of(cursor, &CORES)?;
-    let processes = small_count_of(cursor, &PROCESSES)?;
-    let frames = count_of(cursor, &FRAMES)?;
-    let keys = count_of(cursor, &KEYS)?;
-    let schedule = count_of(cursor, &SCHEDULE)?;
+    read_magic(cursor)?;
+    read_version(cursor)?;
+    let cores = read_small_count(cursor, &CORES)?;
+    let processes = read_small_count(cursor, &PROCESSES)?;
+    let frames = read_count(cursor, &FRAMES)?;
+    let keys = read_count(cursor, &KEYS)?;
+    let schedule = read_count(cursor, &SCHEDULE)?;
     Ok(Header {
         cores,
         processes,
@@ -125,12 +125,12 @@ fn header_of(cursor: &mut Cursor<'_>) -> Result<Header, BundleRefusal>
 }
 
 #[tactic(auto, unfolding(crate::specs::Reading::image))]
-fn image_of(alloc: Global, cursor: &mut Cursor<'_>) -> Result<Image, BundleRefusal>
+fn read_image(alloc: Global, cursor: &mut Cursor<'_>) -> Result<Image, BundleRefusal>
     ensures { Gives (λ i. i) result cursor.new (image cursor.old) }
 {
-    let text_length = length_of(cursor, &TEXT)?;
-    let initial_length = length_of(cursor, &INITIAL)?;
-    let heap_pages = length_of(cursor, &HEAP)?;
+    let text_length = read_length(cursor, &TEXT)?;
+    let initial_length = read_length(cursor, &INITIAL)?;
+    let heap_pages = read_length(cursor, &HEAP)?;
     let text = cursor.bytes(text_length as usize)?;
     let initial = cursor.bytes(initial_length as usize)?;
     Ok(Image {
@@ -141,23 +141,23 @@ fn image_of(alloc: Global, cursor: &mut Cursor<'_>) -> Result<Image, BundleRefus
 }
 
 #[tactic(auto, unfolding(crate::specs::Reading::core_start))]
-fn core_start_of(cursor: &mut Cursor<'_>, processes: u8) -> Result<CoreStart, BundleRefusal>
+fn read_core_start(cursor: &mut Cursor<'_>, processes: u8) -> Result<CoreStart, BundleRefusal>
     ensures { Gives (λ c. c) result cursor.new (core_start processes cursor.old) }
 {
-    let process = process_of(cursor, processes)?;
+    let process = read_process(cursor, processes)?;
     let entry = cursor.number64()?;
     Ok(CoreStart { process, entry })
 }
 
-/// What a bundle has many of, one behind the other.
+/// What a bundle has a list of.
 trait Part: Sized {
     ghost use Rattle.sb_bundle.specs.declared.header.Header.{Header};
     ghost use Rattle.sb_bundle.specs.Fields.{Field};
 
     ghost field: { Header → Field Self };
 
-    /// The next one.
-    fn next(
+    /// The next one of the list.
+    fn read(
         alloc: Global,
         cursor: &mut Cursor<'_>,
         header: &Header,
@@ -169,7 +169,7 @@ trait Part: Sized {
 impl Part for u64 {
     ghost field = { λ header. number 8 };
 
-    fn next(_: Global, cursor: &mut Cursor<'_>, _: &Header) -> Result<u64, BundleRefusal> {
+    fn read(_: Global, cursor: &mut Cursor<'_>, _: &Header) -> Result<u64, BundleRefusal> {
         cursor.number64()
     }
 }
@@ -177,20 +177,20 @@ impl Part for u64 {
 impl Part for Image {
     ghost field = { λ header. image };
 
-    fn next(alloc: Global, cursor: &mut Cursor<'_>, _: &Header) -> Result<Image, BundleRefusal> {
-        image_of(alloc, cursor)
+    fn read(alloc: Global, cursor: &mut Cursor<'_>, _: &Header) -> Result<Image, BundleRefusal> {
+        read_image(alloc, cursor)
     }
 }
 
 impl Part for CoreStart {
     ghost field = { λ header. core_start header.processes };
 
-    fn next(
+    fn read(
         _: Global,
         cursor: &mut Cursor<'_>,
         header: &Header,
     ) -> Result<CoreStart, BundleRefusal> {
-        core_start_of(cursor, header.processes)
+        read_core_start(cursor, header.processes)
     }
 }
 
@@ -198,12 +198,12 @@ impl Part for CoreStart {
 impl Part for u8 {
     ghost field = { λ header. index header.cores 1 };
 
-    fn next(_: Global, cursor: &mut Cursor<'_>, header: &Header) -> Result<u8, BundleRefusal> {
-        core_of(cursor, header.cores)
+    fn read(_: Global, cursor: &mut Cursor<'_>, header: &Header) -> Result<u8, BundleRefusal> {
+        read_core(cursor, header.cores)
     }
 }
 
-fn parts<P: Part + Drop>(
+fn read_list<P: Part + Drop>(
     alloc: Global,
     cursor: &mut Cursor<'_>,
     header: &Header,
@@ -213,20 +213,20 @@ fn parts<P: Part + Drop>(
 {
     let mut parts = Vec::new(alloc);
     for _ in 0..count {
-        parts.push(P::next(alloc, cursor, header)?)?;
+        parts.push(P::read(alloc, cursor, header)?)?;
     }
     Ok(Listed::new(parts))
 }
 
 #[tactic(auto, unfolding(crate::specs::Reading::bundle))]
-fn bundle_of(alloc: Global, cursor: &mut Cursor<'_>) -> Result<Bundle, BundleRefusal>
+fn read_fields(alloc: Global, cursor: &mut Cursor<'_>) -> Result<Bundle, BundleRefusal>
     ensures { Gives (λ b. b) result cursor.new (bundle cursor.old) }
 {
-    let header = header_of(cursor)?;
-    let keys: Words = parts(alloc, cursor, &header, header.keys)?;
-    let images: Images = parts(alloc, cursor, &header, u32::from(header.processes))?;
-    let cores: CoreStarts = parts(alloc, cursor, &header, u32::from(header.cores))?;
-    let schedule: Bytes = parts(alloc, cursor, &header, header.schedule)?;
+    let header = read_header(cursor)?;
+    let keys: Words = read_list(alloc, cursor, &header, header.keys)?;
+    let images: Images = read_list(alloc, cursor, &header, u32::from(header.processes))?;
+    let cores: CoreStarts = read_list(alloc, cursor, &header, u32::from(header.cores))?;
+    let schedule: Bytes = read_list(alloc, cursor, &header, header.schedule)?;
     Ok(Bundle {
         frames: header.frames,
         keys,
@@ -237,11 +237,11 @@ fn bundle_of(alloc: Global, cursor: &mut Cursor<'_>) -> Result<Bundle, BundleRef
 }
 
 #[tactic(auto, unfolding(crate::specs::Reading::reading))]
-fn whole(alloc: Global, bytes: &[u8]) -> Result<Bundle, BundleRefusal>
+fn read_whole(alloc: Global, bytes: &[u8]) -> Result<Bundle, BundleRefusal>
     ensures { Answers result (reading bytes.now) }
 {
     let mut cursor = Cursor::new(bytes);
-    let bundle = bundle_of(alloc, &mut cursor)?;
+    let bundle = read_fields(alloc, &mut cursor)?;
     if !cursor.is_at_end() {
         return Err(BundleRefusal::Trailing {
             at: cursor.offset(),
@@ -259,7 +259,7 @@ pub fn read_bundle(alloc: Global, bytes: &[u8]) -> Result<Bundle, BundleRefusal>
     // Which refusal it is.
     ensures exact { Answers result (reading bytes.now) }
 {
-    whole(alloc, bytes)
+    read_whole(alloc, bytes)
 }
 
 /// No two bundles have one spelling.
