@@ -1,9 +1,8 @@
 -- What it is to read a field exactly, and that fields one behind the other are read exactly.
-use Rattle.std.proofs.Common.{◌≡◌, ℕ, zero, suc, ◌^◌, ◌<◌, ◌≤◌, Bool, true, false, cond, ltb, IsTrue, List, [], ◌∷◌, ◌++◌, length, take, drop, Result, Ok, Err, refl, sym, ap, subst, ◌∙◌, append_assoc, arith, inl, inr}
+use Rattle.std.proofs.Common.{◌≡◌, ℕ, zero, suc, ◌^◌, ◌<◌, ◌≤◌, Bool, true, false, cond, ltb, List, [], ◌∷◌, ◌++◌, length, take, drop, Result, Ok, Err, refl, sym, ap, subst, ◌∙◌, append_assoc, arith}
 use Rattle.std.specs.List.{AllByRecursion, flat_map}
 use Rattle.std.proofs.lemmas.Bool.{ltb-false, le-ltb}
 use Rattle.std.proofs.lemmas.List.{nil_from_length, take_at, drop_at, take-append-drop, length-append, length-take-le}
-use Rattle.std.proofs.lemmas.List.Concat.{flat_map-cons}
 use Rattle.byteorder.specs.Endian.{little_number}
 use Rattle.sb_bundle.specs.declared.refusal.BundleRefusal.{BundleRefusal}
 use Rattle.sb_bundle.specs.declared.refusal.BundleRefusal.TheVariants.{Short}
@@ -47,14 +46,14 @@ pub bind_good : {A B : Type 0} {R : A → List ℕ → List ℕ → Type 0} {S :
     → Reads R field → ((first : A) (bytes middle : List ℕ) → R first bytes middle → Reads (S first) (next first)) → Reads (Then R S) (field >>= next)
 bind_good {R = R} {S = S} {field = field} {next = next} first second = record {
   takes = λ from value left fits e.
-    let a = bind_ok (field from) (λ read. next read.0 read.1) (value, left) e in
-    let one = first.takes from a.0.0 a.0.1 fits a.1 in
-    let two = (second a.0.0 from.rest a.0.1.rest one.0).takes a.0.1 value left one.1 a.2 in
-    ((a.0.0, a.0.1.rest, one.0, two.0), two.1);
+      let a = bind_ok (field from) (λ read. next read.0 read.1) (value, left) e in
+      let one = first.takes from a.0.0 a.0.1 fits a.1 in
+      let two = (second a.0.0 from.rest a.0.1.rest one.0).takes a.0.1 value left one.1 a.2 in
+      ((a.0.0, a.0.1.rest, one.0, two.0), two.1);
   again = λ total value bytes rest good.
-    let one = first.again total good.0 bytes good.1 good.2 in
-    let two = (second good.0 bytes good.1 good.2).again total value good.1 rest good.3 in
-    rw (one, two) refl;
+      let one = first.again total good.0 bytes good.1 good.2 in
+      let two = (second good.0 bytes good.1 good.2).again total value good.1 rest good.3 in
+      rw (one, two) refl;
 }
 
 pub bind : {A B : Type 0} {R : A → List ℕ → List ℕ → Type 0} {S : A → B → List ℕ → List ℕ → Type 0} {field : Field A} {next : A → Field B}
@@ -64,8 +63,8 @@ bind first second = bind_good first (λ value bytes middle good. second value)
 pub gives : {A : Type 0} (made : A) → Reads (λ value bytes rest. (value ≡ made) × (bytes ≡ rest)) (give made)
 gives made = record {
   takes = λ from value left fits e.
-    let same = ok_is (made, from) (value, left) e in
-    ((sym (ap (λ (p : _ × Input). p.0) same), ap (λ (p : _ × Input). p.1.rest) same), subst (λ (p : _ × Input). AllBelow 256 p.1.rest) same fits);
+      let same = ok_is (made, from) (value, left) e in
+      ((sym (ap (λ (p : _ × Input). p.0) same), ap (λ (p : _ × Input). p.1.rest) same), subst (λ (p : _ × Input). AllBelow 256 p.1.rest) same fits);
   again = λ total value bytes rest good. rw (good.0, good.1) refl;
 }
 
@@ -98,27 +97,27 @@ pub bytes_reads : (size : ℕ) → Reads (Spelled (AreBytes size) itself) (bytes
 unfolding bytes_field
 bytes_reads size = record {
   takes = λ from value left fits e.
-    let read : List ℕ × Input = (take size from.rest, record { total = from.total; rest = drop size from.rest }) in
-    let want : List ℕ × Input = (value, left) in
-    let guard = guard_ok (ltb (length from.rest) size) (Short (offset from)) read want e in
-    let long : size ≤ length from.rest = ltb-false _ _ guard.0 in
-    let parts : from.rest ≡ take size from.rest ++ drop size from.rest = sym (take-append-drop size from.rest) in
-    let both = AllBelow-parts 256 (take size from.rest) (drop size from.rest) (subst (AllBelow 256) parts fits) in
-    subst (λ (p : List ℕ × Input). Spelled (AreBytes size) itself p.0 from.rest p.1.rest × AllBelow 256 p.1.rest) guard.1 (((length-take-le size from.rest long, both.0), parts), both.1);
+      let read : List ℕ × Input = (take size from.rest, record { total = from.total; rest = drop size from.rest }) in
+      let want : List ℕ × Input = (value, left) in
+      let guard = guard_ok (ltb (length from.rest) size) (Short (offset from)) read want e in
+      let long : size ≤ length from.rest = ltb-false _ _ guard.0 in
+      let parts : from.rest ≡ take size from.rest ++ drop size from.rest = sym (take-append-drop size from.rest) in
+      let both = AllBelow-parts 256 (take size from.rest) (drop size from.rest) (subst (AllBelow 256) parts fits) in
+      subst (λ (p : List ℕ × Input). Spelled (AreBytes size) itself p.0 from.rest p.1.rest × AllBelow 256 p.1.rest) guard.1 (((length-take-le size from.rest long, both.0), parts), both.1);
   again = λ total value bytes rest good.
-    let long : ltb (length (value ++ rest)) size ≡ false = le-ltb _ _ (omega (arith, length-append value rest, good.0.0)) in
-    rw (good.1, long, take_at value rest size good.0.0, drop_at value rest size good.0.0) refl;
+      let long : ltb (length (value ++ rest)) size ≡ false = le-ltb _ _ (omega (arith, length-append value rest, good.0.0)) in
+      rw (good.1, long, take_at value rest size good.0.0, drop_at value rest size good.0.0) refl;
 }
 
 pub number_reads : (size : ℕ) → Reads (Spelled (λ n. n < 256 ^ size) (number_bytes size)) (number size)
 unfolding number
 number_reads size =
     restated (bind (bytes_reads size) (λ bytes. gives (little_number size bytes)))
-        (λ n bytes rest good.
-            let front = good.2 in
-            (rw good.3.0 (number-fits size good.0 front.0.1), front.1 ∙ rw (good.3.0, ← good.3.1) (ap (λ (xs : List ℕ). xs ++ good.1) (sym (bytes-again size good.0 front.0.0 front.0.1)))))
-        (λ n bytes rest good.
-            (number_bytes size n, rest, ((length-number_bytes size n, number_bytes-fit size n), good.1), (sym (number-again size n good.0), refl)))
+    (λ n bytes rest good.
+    let front = good.2 in
+    (rw good.3.0 (number-fits size good.0 front.0.1), front.1 ∙ rw (good.3.0, ← good.3.1) (ap (λ (xs : List ℕ). xs ++ good.1) (sym (bytes-again size good.0 front.0.0 front.0.1)))))
+    (λ n bytes rest good.
+    (number_bytes size n, rest, ((length-number_bytes size n, number_bytes-fit size n), good.1), (sym (number-again size n good.0), refl)))
 
 -- ---- a field that is judged
 
@@ -130,14 +129,14 @@ pub judged_reads : {A : Type 0} {R : A → List ℕ → List ℕ → Type 0} {fi
     → Reads R field → Reads (λ value bytes rest. R value bytes rest × (is_good value ≡ true)) (judged refusal is_good field)
 judged_reads {A = A} {R = R} {field = field} refusal is_good reads = record {
   takes = λ from value left fits e.
-    let a = bind_ok (field from) (λ read. cond (is_good read.0) (Ok read) (Err (refusal (offset from)))) (value, left) e in
-    let want : A × Input = (value, left) in
-    let test = test_ok (is_good a.0.0) (refusal (offset from)) a.0 want a.2 in
-    let one = reads.takes from a.0.0 a.0.1 fits a.1 in
-    subst (λ (p : A × Input). (R p.0 from.rest p.1.rest × (is_good p.0 ≡ true)) × AllBelow 256 p.1.rest) test.1 ((one.0, test.0), one.1);
+      let a = bind_ok (field from) (λ read. cond (is_good read.0) (Ok read) (Err (refusal (offset from)))) (value, left) e in
+      let want : A × Input = (value, left) in
+      let test = test_ok (is_good a.0.0) (refusal (offset from)) a.0 want a.2 in
+      let one = reads.takes from a.0.0 a.0.1 fits a.1 in
+      subst (λ (p : A × Input). (R p.0 from.rest p.1.rest × (is_good p.0 ≡ true)) × AllBelow 256 p.1.rest) test.1 ((one.0, test.0), one.1);
   again = λ total value bytes rest good.
-    let one = reads.again total value bytes rest good.0 in
-    rw (one, good.1) refl;
+      let one = reads.again total value bytes rest good.0 in
+      rw (one, good.1) refl;
 }
 
 -- ---- many fields of one kind
@@ -157,13 +156,13 @@ pub many_reads : {A : Type 0} (Good : A → Type 0) (spell : A → List ℕ) (fi
 unfolding many
 many_reads Good spell field reads zero =
     restated (gives [])
-        (λ values bytes rest good. rw good.0 ((refl, tt), good.1))
-        (λ values bytes rest good. let none = nil_from_length values good.0.0 in (none, good.1 ∙ rw none refl))
+    (λ values bytes rest good. rw good.0 ((refl, tt), good.1))
+    (λ values bytes rest good. let none = nil_from_length values good.0.0 in (none, good.1 ∙ rw none refl))
 many_reads Good spell field reads (suc count) =
     restated (bind reads (λ first. bind (many_reads Good spell field reads count) (λ others. gives (first ∷ others))))
-        (λ values bytes rest good.
-            let others = good.3 in
-            let tail = others.3 in
-            let behind : good.1 ≡ flat_map spell others.0 ++ rest = others.2.1 ∙ ap (λ (xs : List ℕ). flat_map spell others.0 ++ xs) tail.1 in
-            rw tail.0 ((ap suc others.2.0.0, (good.2.0, others.2.0.1)), good.2.1 ∙ ap (λ (xs : List ℕ). spell good.0 ++ xs) behind ∙ sym (append_assoc (spell good.0) (flat_map spell others.0) rest)))
-        (first_of_many Good spell count)
+    (λ values bytes rest good.
+    let others = good.3 in
+    let tail = others.3 in
+    let behind : good.1 ≡ flat_map spell others.0 ++ rest = others.2.1 ∙ ap (λ (xs : List ℕ). flat_map spell others.0 ++ xs) tail.1 in
+    rw tail.0 ((ap suc others.2.0.0, (good.2.0, others.2.0.1)), good.2.1 ∙ ap (λ (xs : List ℕ). spell good.0 ++ xs) behind ∙ sym (append_assoc (spell good.0) (flat_map spell others.0) rest)))
+    (first_of_many Good spell count)

@@ -1,6 +1,6 @@
 -- The numbers of a bundle, its images and its cores are read exactly.
-use Rattle.std.proofs.Common.{◌≡◌, ℕ, zero, suc, ◌^◌, ◌<◌, ◌≤◌, Bool, true, false, ltb, leb, eqb, ◌&&◌, List, [], ◌∷◌, ◌++◌, length, refl, sym, ap, subst, ◌∙◌, append_assoc, arith}
-use Rattle.std.specs.List.{AllByRecursion, flat_map}
+use Rattle.std.proofs.Common.{◌≡◌, ℕ, ◌^◌, ◌<◌, ◌≤◌, Bool, true, ltb, leb, eqb, List, [], ◌∷◌, ◌++◌, length, refl, sym, ap, ◌∙◌, append_assoc, arith}
+use Rattle.std.specs.List.{flat_map}
 use Rattle.std.proofs.Math.Nat.{mod-eq_of_lt}
 use Rattle.std.proofs.lemmas.Bool.{ltb-true, lt-ltb, leb-true, le-leb, eqb-true, and_parts, and_from}
 use Rattle.byteorder.specs.Endian.{little_number}
@@ -9,10 +9,10 @@ use Rattle.sb_bundle.specs.declared.bundle.CoreStart.{CoreStart}
 use Rattle.sb_bundle.specs.declared.limits.Limits.{Limits}
 use Rattle.sb_bundle.specs.declared.refusal.BundleRefusal.{BundleRefusal}
 use Rattle.sb_bundle.specs.declared.refusal.BundleRefusal.TheVariants.{Magic, Version, Count, Range}
-use Rattle.sb_bundle.specs.Limits.{IsWithin, IsImage, IsCoreStart, IsBundle, AllBelow, core_limits, process_limits, frame_limits, key_limits, schedule_limits, text_limits, initial_limits, heap_limits}
+use Rattle.sb_bundle.specs.Limits.{IsWithin, IsImage, IsCoreStart, AllBelow, text_limits, initial_limits, heap_limits}
 use Rattle.sb_bundle.specs.Spelling.{number_bytes, magic, version, image_bytes, core_bytes}
-use Rattle.sb_bundle.specs.Fields.{Field, is_within, number, bytes_field, judged, many, give}
-use Rattle.sb_bundle.specs.Reading.{count, length_field, index, magic_field, version_field, header, image, core_start, bundle}
+use Rattle.sb_bundle.specs.Fields.{is_within, number, judged, many}
+use Rattle.sb_bundle.specs.Reading.{count, length_field, index, magic_field, version_field, image, core_start}
 use Rattle.sb_bundle.proofs.Exact.{Reads, AreBytes, AreAll, itself, Spelled, Then, bind, gives, restated, judged_reads, number_reads, bytes_reads, many_reads}
 
 within : (limits : Limits) (n : ℕ) → is_within limits n ≡ true → IsWithin limits n
@@ -27,8 +27,8 @@ judged_number : (refusal : ℕ → BundleRefusal) (test : ℕ → Bool) (size : 
     → Reads (Spelled Good (number_bytes size)) (judged refusal test (number size))
 judged_number refusal test size Good passed passes fits =
     restated (judged_reads refusal test (number_reads size))
-        (λ n bytes rest good. (passed n good.1, good.0.1))
-        (λ n bytes rest good. ((fits n good.0, good.1), passes n good.0))
+    (λ n bytes rest good. (passed n good.1, good.0.1))
+    (λ n bytes rest good. ((fits n good.0, good.1), passes n good.0))
 
 pub count_reads : (limits : Limits) (size : ℕ) → limits.most < 256 ^ size → Reads (Spelled (IsWithin limits) (number_bytes size)) (count limits size)
 unfolding count
@@ -63,9 +63,9 @@ pub core_start_reads : (processes : ℕ) → processes ≤ 256 → Reads (Spelle
 unfolding core_start
 core_start_reads processes room =
     restated (bind (index_reads processes 4 (omega (arith, room))) (λ process. bind (number_reads 8) (λ entry. gives (record { process = process; entry = entry }))))
-        (core_there processes)
-        (λ core bytes rest good.
-            (core.process, number_bytes 8 core.entry ++ rest, (good.0.process, good.1 ∙ append_assoc (number_bytes 4 core.process) (number_bytes 8 core.entry) rest), (core.entry, rest, (good.0.entry, refl), (refl, refl))))
+    (core_there processes)
+    (λ core bytes rest good.
+    (core.process, number_bytes 8 core.entry ++ rest, (good.0.process, good.1 ∙ append_assoc (number_bytes 4 core.process) (number_bytes 8 core.entry) rest), (core.entry, rest, (good.0.entry, refl), (refl, refl))))
 
 abbrev text_then : ℕ → ℕ → ℕ → Image → List ℕ → List ℕ → Type 0
 text_then text_length initial_length heap_pages =
@@ -86,35 +86,52 @@ image_there image bytes rest good =
     let heap_pages = initial_length.3 in
     let text = heap_pages.3 in
     let initial = text.3 in
-    rw initial.3.0 (record {
-            text = rw text.2.0.0 good.2.0;
-            text_bytes = text.2.0.1;
-            initial = rw initial.2.0.0 initial_length.2.0;
-            initial_bytes = initial.2.0.1;
-            heap_pages = heap_pages.2.0
-        },
-        good.2.1 ∙ rw (initial_length.2.1, heap_pages.2.1, text.2.1, initial.2.1, initial.3.1, text.2.0.0, initial.2.0.0) (simp append_assoc refl))
+    rw initial.3.0 (
+      record {
+        text = rw text.2.0.0 good.2.0;
+        text_bytes = text.2.0.1;
+        initial = rw initial.2.0.0 initial_length.2.0;
+        initial_bytes = initial.2.0.1;
+        heap_pages = heap_pages.2.0;
+      },
+      good.2.1 ∙ rw (initial_length.2.1, heap_pages.2.1, text.2.1, initial.2.1, initial.3.1, text.2.0.0, initial.2.0.0) (simp append_assoc refl),
+    )
 
 image_back : (image : Image) (bytes rest : List ℕ) → Spelled IsImage image_bytes image bytes rest → lengths_then image bytes rest
 image_back image bytes rest good =
     let tail : List ℕ = image.text ++ (image.initial ++ rest) in
-    let regrouped : bytes ≡ number_bytes 4 (length image.text) ++ (number_bytes 4 (length image.initial) ++ (number_bytes 4 image.heap_pages ++ tail)) = good.1 ∙ simp append_assoc refl in
-    (length image.text, number_bytes 4 (length image.initial) ++ (number_bytes 4 image.heap_pages ++ tail), (good.0.text, regrouped),
-        (length image.initial, number_bytes 4 image.heap_pages ++ tail, (good.0.initial, refl),
-            (image.heap_pages, tail, (good.0.heap_pages, refl),
-                (image.text, image.initial ++ rest, ((refl, good.0.text_bytes), refl),
-                    (image.initial, rest, ((refl, good.0.initial_bytes), refl), (refl, refl))))))
+    let regrouped : bytes ≡ number_bytes 4 (length image.text) ++ (number_bytes 4 (length image.initial) ++ (number_bytes 4 image.heap_pages ++ tail)) = good.1 ∙ simp append_assoc refl in (
+      length image.text,
+      number_bytes 4 (length image.initial) ++ (number_bytes 4 image.heap_pages ++ tail),
+      (good.0.text, regrouped),
+      (
+        length image.initial,
+        number_bytes 4 image.heap_pages ++ tail,
+        (good.0.initial, refl),
+        (
+          image.heap_pages,
+          tail,
+          (good.0.heap_pages, refl),
+          (
+            image.text,
+            image.initial ++ rest,
+            ((refl, good.0.text_bytes), refl),
+            (image.initial, rest, ((refl, good.0.initial_bytes), refl), (refl, refl)),
+          ),
+        ),
+      ),
+    )
 
 pub image_reads : Reads (Spelled IsImage image_bytes) image
 unfolding image
 image_reads =
     restated (bind (length_reads text_limits (omega arith)) (λ text_length.
-        bind (length_reads initial_limits (omega arith)) (λ initial_length.
-        bind (length_reads heap_limits (omega arith)) (λ heap_pages.
-        bind (bytes_reads text_length) (λ text.
-        bind (bytes_reads initial_length) (λ initial.
-        gives (record { text = text; initial = initial; heap_pages = heap_pages })))))))
-        image_there image_back
+    bind (length_reads initial_limits (omega arith)) (λ initial_length.
+    bind (length_reads heap_limits (omega arith)) (λ heap_pages.
+    bind (bytes_reads text_length) (λ text.
+    bind (bytes_reads initial_length) (λ initial.
+    gives (record { text = text; initial = initial; heap_pages = heap_pages })))))))
+    image_there image_back
 
 -- ---- the schedule
 
@@ -130,5 +147,5 @@ entries_are cores (core ∷ entries) room fits =
 pub schedule_reads : (cores count : ℕ) → cores ≤ 256 → Reads (Spelled (AreAll (λ core. core < cores) count) itself) (many count (index cores 1))
 schedule_reads cores count room =
     restated (many_reads (λ core. core < cores) (number_bytes 1) (index cores 1) (index_reads cores 1 (omega (arith, room))) count)
-        (λ entries bytes rest good. (good.0, good.1 ∙ ap (λ (xs : List ℕ). xs ++ rest) (entries_are cores entries room good.0.1)))
-        (λ entries bytes rest good. (good.0, good.1 ∙ ap (λ (xs : List ℕ). xs ++ rest) (sym (entries_are cores entries room good.0.1))))
+    (λ entries bytes rest good. (good.0, good.1 ∙ ap (λ (xs : List ℕ). xs ++ rest) (entries_are cores entries room good.0.1)))
+    (λ entries bytes rest good. (good.0, good.1 ∙ ap (λ (xs : List ℕ). xs ++ rest) (sym (entries_are cores entries room good.0.1))))

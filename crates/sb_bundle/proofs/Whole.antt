@@ -1,5 +1,5 @@
 -- The header, the bundle and the whole input are read exactly.
-use Rattle.std.proofs.Common.{◌≡◌, ℕ, ◌^◌, ◌<◌, ◌≤◌, eqb, List, [], ◌∷◌, ◌++◌, length, Result, Ok, Err, refl, sym, ap, subst, ◌∙◌, append_assoc, arith}
+use Rattle.std.proofs.Common.{◌≡◌, ℕ, ◌^◌, ◌<◌, eqb, List, [], ◌++◌, length, Result, Ok, Err, refl, sym, ap, subst, ◌∙◌, append_assoc, arith}
 use Rattle.std.specs.Prelude.{IfOk}
 use Rattle.std.specs.List.{flat_map}
 use Rattle.std.proofs.lemmas.Bool.{eqb-true}
@@ -11,10 +11,10 @@ use Rattle.sb_bundle.specs.declared.refusal.BundleRefusal.{BundleRefusal}
 use Rattle.sb_bundle.specs.declared.refusal.BundleRefusal.TheVariants.{Trailing}
 use Rattle.sb_bundle.specs.Limits.{IsWithin, IsImage, IsCoreStart, IsBundle, AllBelow, core_limits, process_limits, frame_limits, key_limits, schedule_limits}
 use Rattle.sb_bundle.specs.Spelling.{number_bytes, magic, version, key_bytes, image_bytes, core_bytes, header_bytes, spelling}
-use Rattle.sb_bundle.specs.Fields.{Input, Answers, offset, number, many, give}
-use Rattle.sb_bundle.specs.Reading.{index, header, image, core_start, bundle, reading}
+use Rattle.sb_bundle.specs.Fields.{Answers, offset, number}
+use Rattle.sb_bundle.specs.Reading.{header, image, core_start, bundle, reading}
 use Rattle.sb_bundle.proofs.Exact.{Reads, itself, AreAll, Spelled, Then, bind, bind_good, bind_ok, ok_is, test_ok, gives, restated, number_reads, many_reads, input}
-use Rattle.sb_bundle.proofs.Parts.{count_reads, index_reads, magic_reads, version_reads, core_start_reads, image_reads, schedule_reads}
+use Rattle.sb_bundle.proofs.Parts.{count_reads, magic_reads, version_reads, core_start_reads, image_reads, schedule_reads}
 
 -- ---- the header
 
@@ -58,8 +58,10 @@ header_there header bytes rest good =
     let frames = processes.3 in
     let keys = frames.3 in
     let schedule = keys.3 in
-    rw schedule.3.0 (record { cores = cores.2.0; processes = processes.2.0; frames = frames.2.0; keys = keys.2.0; schedule = schedule.2.0 },
-        good.2.1 ∙ rw (good.2.0, version.2.1, version.2.0, cores.2.1, processes.2.1, frames.2.1, keys.2.1, schedule.2.1, schedule.3.1) refl)
+    rw schedule.3.0 (
+      record { cores = cores.2.0; processes = processes.2.0; frames = frames.2.0; keys = keys.2.0; schedule = schedule.2.0 },
+      good.2.1 ∙ rw (good.2.0, version.2.1, version.2.0, cores.2.1, processes.2.1, frames.2.1, keys.2.1, schedule.2.1, schedule.3.1) refl,
+    )
 
 header_back : (header : Header) (bytes rest : List ℕ) → HeaderSpelled header bytes rest → header_then header bytes rest
 header_back header bytes rest good =
@@ -67,27 +69,50 @@ header_back header bytes rest good =
     let t5 : List ℕ = number_bytes 4 header.keys ++ t6 in
     let t4 : List ℕ = number_bytes 4 header.frames ++ t5 in
     let t3 : List ℕ = number_bytes 1 header.processes ++ t4 in
-    let t2 : List ℕ = number_bytes 1 header.cores ++ t3 in
-    (little_number 4 magic, number_bytes 2 version ++ t2, (refl, good.1),
-        (version, t2, (refl, refl),
-            (header.cores, t3, (good.0.cores, refl),
-                (header.processes, t4, (good.0.processes, refl),
-                    (header.frames, t5, (good.0.frames, refl),
-                        (header.keys, t6, (good.0.keys, refl),
-                            (header.schedule, rest, (good.0.schedule, refl), (refl, refl))))))))
+    let t2 : List ℕ = number_bytes 1 header.cores ++ t3 in (
+      little_number 4 magic,
+      number_bytes 2 version ++ t2,
+      (refl, good.1),
+      (
+        version,
+        t2,
+        (refl, refl),
+        (
+          header.cores,
+          t3,
+          (good.0.cores, refl),
+          (
+            header.processes,
+            t4,
+            (good.0.processes, refl),
+            (
+              header.frames,
+              t5,
+              (good.0.frames, refl),
+              (
+                header.keys,
+                t6,
+                (good.0.keys, refl),
+                (header.schedule, rest, (good.0.schedule, refl), (refl, refl)),
+              ),
+            ),
+          ),
+        ),
+      ),
+    )
 
 header_reads : Reads HeaderSpelled header
 unfolding header
 header_reads =
     restated (bind magic_reads (λ magic.
-        bind version_reads (λ version.
-        bind (count_reads core_limits 1 (omega arith)) (λ cores.
-        bind (count_reads process_limits 1 (omega arith)) (λ processes.
-        bind (count_reads frame_limits 4 (omega arith)) (λ frames.
-        bind (count_reads key_limits 4 (omega arith)) (λ keys.
-        bind (count_reads schedule_limits 4 (omega arith)) (λ schedule.
-        gives (record { cores = cores; processes = processes; frames = frames; keys = keys; schedule = schedule })))))))))
-        header_there header_back
+    bind version_reads (λ version.
+    bind (count_reads core_limits 1 (omega arith)) (λ cores.
+    bind (count_reads process_limits 1 (omega arith)) (λ processes.
+    bind (count_reads frame_limits 4 (omega arith)) (λ frames.
+    bind (count_reads key_limits 4 (omega arith)) (λ keys.
+    bind (count_reads schedule_limits 4 (omega arith)) (λ schedule.
+    gives (record { cores = cores; processes = processes; frames = frames; keys = keys; schedule = schedule })))))))))
+    header_there header_back
 
 -- ---- the bundle
 
@@ -133,18 +158,20 @@ bundle_there value bytes rest good =
     let made : Bundle = record { frames = good.0.frames; keys = keys.0; images = images.0; cores = cores.0; schedule = schedule.0 } in
     let behind : counts_bytes good.0 good.1 ≡ counts_bytes (header_of made) (parts_bytes made rest) =
     rw (keys.2.1, images.2.1, cores.2.1, schedule.2.1, schedule.3.1, keys.2.0.0, images.2.0.0, cores.2.0.0, schedule.2.0.0) refl in
-    rw schedule.3.0 (record {
-            frames = head.frames;
-            key_count = rw keys.2.0.0 head.keys;
-            keys = keys.2.0.1;
-            process_count = rw images.2.0.0 head.processes;
-            images = images.2.0.1;
-            core_count = rw cores.2.0.0 head.cores;
-            cores = rw images.2.0.0 cores.2.0.1;
-            schedule_length = rw schedule.2.0.0 head.schedule;
-            schedule = rw cores.2.0.0 schedule.2.0.1
-        },
-        good.2.1 ∙ behind ∙ sym (spelling-behind made rest))
+    rw schedule.3.0 (
+      record {
+        frames = head.frames;
+        key_count = rw keys.2.0.0 head.keys;
+        keys = keys.2.0.1;
+        process_count = rw images.2.0.0 head.processes;
+        images = images.2.0.1;
+        core_count = rw cores.2.0.0 head.cores;
+        cores = rw images.2.0.0 cores.2.0.1;
+        schedule_length = rw schedule.2.0.0 head.schedule;
+        schedule = rw cores.2.0.0 schedule.2.0.1;
+      },
+      good.2.1 ∙ behind ∙ sym (spelling-behind made rest),
+    )
 
 bundle_back : (bundle : Bundle) (bytes rest : List ℕ) → Spelled IsBundle spelling bundle bytes rest → bundle_then bundle bytes rest
 bundle_back bundle bytes rest good =
@@ -153,23 +180,38 @@ bundle_back bundle bytes rest good =
     let t1 : List ℕ = flat_map image_bytes bundle.images ++ t2 in
     let t0 : List ℕ = flat_map key_bytes bundle.keys ++ t1 in
     let is = good.0 in
-    let regrouped : bytes ≡ counts_bytes (header_of bundle) t0 = good.1 ∙ spelling-behind bundle rest in
-    (header_of bundle, t0, (record { cores = is.core_count; processes = is.process_count; frames = is.frames; keys = is.key_count; schedule = is.schedule_length }, regrouped),
-        (bundle.keys, t1, ((refl, is.keys), refl),
-            (bundle.images, t2, ((refl, is.images), refl),
-                (bundle.cores, t3, ((refl, is.cores), refl),
-                    (bundle.schedule, rest, ((refl, is.schedule), refl), (refl, refl))))))
+    let regrouped : bytes ≡ counts_bytes (header_of bundle) t0 = good.1 ∙ spelling-behind bundle rest in (
+      header_of bundle,
+      t0,
+      (record { cores = is.core_count; processes = is.process_count; frames = is.frames; keys = is.key_count; schedule = is.schedule_length }, regrouped),
+      (
+        bundle.keys,
+        t1,
+        ((refl, is.keys), refl),
+        (
+          bundle.images,
+          t2,
+          ((refl, is.images), refl),
+          (
+            bundle.cores,
+            t3,
+            ((refl, is.cores), refl),
+            (bundle.schedule, rest, ((refl, is.schedule), refl), (refl, refl)),
+          ),
+        ),
+      ),
+    )
 
 bundle_reads : Reads (Spelled IsBundle spelling) bundle
 unfolding bundle
 bundle_reads =
     restated (bind_good header_reads (λ header bytes behind good.
-        bind (many_reads (λ n. n < 256 ^ 8) key_bytes (number 8) (number_reads 8) header.keys) (λ keys.
-        bind (many_reads IsImage image_bytes image image_reads header.processes) (λ images.
-        bind (many_reads (IsCoreStart header.processes) core_bytes (core_start header.processes) (core_start_reads header.processes (omega (arith, good.0.processes.1))) header.cores) (λ cores.
-        bind (schedule_reads header.cores header.schedule (omega (arith, good.0.cores.1))) (λ schedule.
-        gives (record { frames = header.frames; keys = keys; images = images; cores = cores; schedule = schedule })))))))
-        bundle_there bundle_back
+    bind (many_reads (λ n. n < 256 ^ 8) key_bytes (number 8) (number_reads 8) header.keys) (λ keys.
+    bind (many_reads IsImage image_bytes image image_reads header.processes) (λ images.
+    bind (many_reads (IsCoreStart header.processes) core_bytes (core_start header.processes) (core_start_reads header.processes (omega (arith, good.0.processes.1))) header.cores) (λ cores.
+    bind (schedule_reads header.cores header.schedule (omega (arith, good.0.cores.1))) (λ schedule.
+    gives (record { frames = header.frames; keys = keys; images = images; cores = cores; schedule = schedule })))))))
+    bundle_there bundle_back
 
 -- ---- all of the bytes
 

@@ -60,9 +60,13 @@ many (suc count) field = do
   give (first ∷ others)
 
 -- What a function returned, seen by view, and what it left are what reading gives, unless memory ran out.
-abbrev pub Gives : {X Y : Type 0} → (X → Y) → Result X BundleRefusal → Input → Result (Y × Input) BundleRefusal → Type 0
-Gives view (Ok x) left read = read ≡ Ok (view x, left)
-Gives view (Err refusal) left read = refusal ≢ Memory → read ≡ Err refusal
+abbrev pub GivesBy : {X Y : Type 0} → (X → Y) → Result X BundleRefusal → Input → Result (Y × Input) BundleRefusal → Type 0
+GivesBy view (Ok x) left read = read ≡ Ok (view x, left)
+GivesBy view (Err refusal) left read = refusal ≢ Memory → read ≡ Err refusal
+
+-- The same for a value that is seen as it is.
+abbrev pub Gives : {X : Type 0} → Result X BundleRefusal → Input → Result (X × Input) BundleRefusal → Type 0
+Gives result left read = GivesBy (λ value. value) result left read
 
 -- The same for a function that reads all.
 abbrev pub Answers : {X : Type 0} → Result X BundleRefusal → Result X BundleRefusal → Type 0

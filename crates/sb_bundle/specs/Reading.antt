@@ -1,5 +1,5 @@
 -- The fields of a bundle, in their order.
-use Rattle.std.specs.Prelude.{ℕ, Bool, nat_lt, ◌==◌, if◌then◌else◌, List, length, Result, Ok, Err}
+use Rattle.std.specs.Prelude.{ℕ, nat_lt, ◌==◌, if◌then◌else◌, List, length, Result, Ok, Err}
 use Rattle.byteorder.specs.Endian.{little_number}
 use Rattle.sb_bundle.specs.declared.bundle.Bundle.{Bundle}
 use Rattle.sb_bundle.specs.declared.bundle.Image.{Image}
@@ -10,13 +10,13 @@ use Rattle.sb_bundle.specs.declared.refusal.BundleRefusal.{BundleRefusal}
 use Rattle.sb_bundle.specs.declared.refusal.BundleRefusal.TheVariants.{Magic, Version, Count, Range, Trailing}
 use Rattle.sb_bundle.specs.Limits.{core_limits, process_limits, frame_limits, key_limits, schedule_limits, text_limits, initial_limits, heap_limits}
 use Rattle.sb_bundle.specs.Spelling.{magic, version}
-use Rattle.sb_bundle.specs.Fields.{◌>>=◌, Field, Input, and_then, offset, give, number, bytes_field, judged, is_within, many}
+use Rattle.sb_bundle.specs.Fields.{◌>>=◌, Field, and_then, offset, give, number, bytes_field, judged, is_within, many}
 
 -- a count of the header, of so many bytes
 unfoldable pub count : Limits → ℕ → Field ℕ
 count limits size = judged Count (is_within limits) (number size)
 
--- a length of an image
+-- a length of an image, or how many pages its heap has
 unfoldable pub length_field : Limits → Field ℕ
 length_field limits = judged Range (is_within limits) (number 4)
 

@@ -33,7 +33,7 @@ image_bytes image =
 abbrev pub core_bytes : CoreStart → List ℕ
 core_bytes core = number_bytes 4 core.process ++ number_bytes 8 core.entry
 
--- what stands before the lists, and how long they are
+-- what stands before the lists, and how long each of them is
 unfoldable pub header_bytes : Bundle → List ℕ
 header_bytes bundle =
     magic

@@ -2,13 +2,13 @@
 
 use sb_list::Listed;
 
-/// Words of 64 bits.
+/// Key words.
 pub type Words = Listed<u64>;
-/// Bytes.
+/// Bytes: a text, initial data, or a schedule.
 pub type Bytes = Listed<u8>;
-/// The images of processes.
+/// Images, by the numbers of their processes.
 pub type Images = Listed<Image>;
-/// Where each core starts.
+/// Where cores start, by their numbers.
 pub type CoreStarts = Listed<CoreStart>;
 
 /// All that a machine is started from.
@@ -18,18 +18,18 @@ pub struct Bundle {
     pub frames: u32,
     /// The words that keys are drawn from, in this order.
     pub keys: Words,
-    /// The image of each process, by its number.
+    /// The image of each process.
     pub images: Images,
-    /// Where each core starts, by its number.
+    /// Where each core starts.
     pub cores: CoreStarts,
-    /// The core that makes each step.
+    /// For each step, the core that makes it.
     pub schedule: Bytes,
 }
 
 /// What a process begins with.
 #[derive(Debug, Drop)]
 pub struct Image {
-    /// The program.
+    /// The program, as bytes.
     pub text: Bytes,
     /// The initial data.
     pub initial: Bytes,
@@ -40,7 +40,7 @@ pub struct Image {
 /// Where a core starts.
 #[derive(Clone, Copy, Debug, PartialEq, Eq)]
 pub struct CoreStart {
-    /// The process that is the thread's home.
+    /// The process that is at home on the core.
     pub process: u32,
     /// The address of its first instruction.
     pub entry: u64,

@@ -1,13 +1,13 @@
-//! The next field of an input.
+//! Takes field after field off the front of an input, and knows the offset of each.
 
 ghost use Rattle.std.specs.Prelude.{◌≡◌, ◌==◌, length, IfOk};
-ghost use Rattle.sb_bundle.specs.Fields.{Gives, bytes_field, number, offset};
+ghost use Rattle.sb_bundle.specs.Fields.{Gives, GivesBy, bytes_field, number, offset};
 
 use crate::refusal::BundleRefusal;
 use byteorder::{ByteOrder, LittleEndian};
 use std::marker::Model;
 
-/// What is left of an input.
+/// What is left of an input of `total` bytes.
 #[derive(Drop)]
 pub(crate) struct Cursor<'a> {
     total: u64,
@@ -46,7 +46,7 @@ impl<'a> Cursor<'a> {
     /// The next field, of `size` bytes.
     #[tactic(auto, unfolding(crate::specs::Fields::bytes_field))]
     pub(crate) fn bytes(&mut self, size: usize) -> Result<&'a [u8], BundleRefusal>
-        ensures field { Gives (λ bytes. bytes.now) result self.new (bytes_field size self.old) }
+        ensures field { GivesBy (λ bytes. bytes.now) result self.new (bytes_field size self.old) }
         ensures whole { IfOk result (λ bytes. length bytes.now ≡ size) }
     {
         if self.rest.len() < size {
@@ -60,7 +60,7 @@ impl<'a> Cursor<'a> {
     /// The next field, a number of one byte.
     #[tactic(auto, unfolding(crate::specs::Fields::number))]
     pub(crate) fn number8(&mut self) -> Result<u8, BundleRefusal>
-        ensures { Gives (λ n. n) result self.new (number 1 self.old) }
+        ensures { Gives result self.new (number 1 self.old) }
     {
         let bytes = self.bytes(1)?;
         Ok(bytes[0])
@@ -69,7 +69,7 @@ impl<'a> Cursor<'a> {
     /// The next field, a number of two bytes.
     #[tactic(auto, unfolding(crate::specs::Fields::number))]
     pub(crate) fn number16(&mut self) -> Result<u16, BundleRefusal>
-        ensures { Gives (λ n. n) result self.new (number 2 self.old) }
+        ensures { Gives result self.new (number 2 self.old) }
     {
         let bytes = self.bytes(2)?;
         Ok(LittleEndian::read_u16(bytes))
@@ -78,7 +78,7 @@ impl<'a> Cursor<'a> {
     /// The next field, a number of four bytes.
     #[tactic(auto, unfolding(crate::specs::Fields::number))]
     pub(crate) fn number32(&mut self) -> Result<u32, BundleRefusal>
-        ensures { Gives (λ n. n) result self.new (number 4 self.old) }
+        ensures { Gives result self.new (number 4 self.old) }
     {
         let bytes = self.bytes(4)?;
         Ok(LittleEndian::read_u32(bytes))
@@ -87,7 +87,7 @@ impl<'a> Cursor<'a> {
     /// The next field, a number of eight bytes.
     #[tactic(auto, unfolding(crate::specs::Fields::number))]
     pub(crate) fn number64(&mut self) -> Result<u64, BundleRefusal>
-        ensures { Gives (λ n. n) result self.new (number 8 self.old) }
+        ensures { Gives result self.new (number 8 self.old) }
     {
         let bytes = self.bytes(8)?;
         Ok(LittleEndian::read_u64(bytes))

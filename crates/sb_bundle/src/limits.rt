@@ -6,7 +6,9 @@ ghost use Rattle.sb_bundle.specs.Fields.{is_within};
 /// The least and the greatest number that a field may have.
 #[derive(Clone, Copy, Debug, PartialEq, Eq)]
 pub struct Limits {
+    /// The least that is allowed.
     pub least: u32,
+    /// The greatest that is allowed.
     pub most: u32,
 }
 
@@ -19,19 +21,37 @@ impl Limits {
     }
 }
 
-/// Cores, each with one thread.
+/// How many cores, each with one thread.
 pub const CORES: Limits = Limits { least: 1, most: 8 };
-/// Processes.
+/// How many processes.
 pub const PROCESSES: Limits = Limits { least: 1, most: 16 };
-/// Frames of 4,096 bytes.
-pub const FRAMES: Limits = Limits { least: 513, most: 8192 };
-/// Key words.
-pub const KEYS: Limits = Limits { least: 0, most: 128 };
-/// Entries of the schedule.
-pub const SCHEDULE: Limits = Limits { least: 0, most: 1_048_576 };
-/// Bytes of a text.
-pub const TEXT: Limits = Limits { least: 1, most: 2_097_152 };
-/// Bytes of a process's initial data.
-pub const INITIAL: Limits = Limits { least: 0, most: 2_097_152 };
-/// Heap pages of a process.
-pub const HEAP: Limits = Limits { least: 0, most: 512 };
+/// How many frames of 4,096 bytes: the kernels' 512 and at least one more.
+pub const FRAMES: Limits = Limits {
+    least: 513,
+    most: 8192,
+};
+/// How many key words.
+pub const KEYS: Limits = Limits {
+    least: 0,
+    most: 128,
+};
+/// How many entries in the schedule.
+pub const SCHEDULE: Limits = Limits {
+    least: 0,
+    most: 1_048_576,
+};
+/// How many bytes in a text.
+pub const TEXT: Limits = Limits {
+    least: 1,
+    most: 2_097_152,
+};
+/// How many bytes of initial data in a process.
+pub const INITIAL: Limits = Limits {
+    least: 0,
+    most: 2_097_152,
+};
+/// How many heap pages of 4,096 bytes in a process.
+pub const HEAP: Limits = Limits {
+    least: 0,
+    most: 512,
+};

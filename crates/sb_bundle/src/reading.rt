@@ -22,7 +22,7 @@ pub(crate) const VERSION: u16 = 1;
 
 #[tactic(auto, unfolding(crate::specs::Reading::magic_field))]
 fn read_magic(cursor: &mut Cursor<'_>) -> Result<u32, BundleRefusal>
-    ensures { Gives (λ n. n) result cursor.new (magic_field cursor.old) }
+    ensures { Gives result cursor.new (magic_field cursor.old) }
 {
     let at = cursor.offset();
     let magic = cursor.number32()?;
@@ -34,7 +34,7 @@ fn read_magic(cursor: &mut Cursor<'_>) -> Result<u32, BundleRefusal>
 
 #[tactic(auto, unfolding(crate::specs::Reading::version_field))]
 fn read_version(cursor: &mut Cursor<'_>) -> Result<u16, BundleRefusal>
-    ensures { Gives (λ n. n) result cursor.new (version_field cursor.old) }
+    ensures { Gives result cursor.new (version_field cursor.old) }
 {
     let at = cursor.offset();
     let version = cursor.number16()?;
@@ -46,7 +46,7 @@ fn read_version(cursor: &mut Cursor<'_>) -> Result<u16, BundleRefusal>
 
 #[tactic(auto, unfolding(crate::specs::Reading::count))]
 fn read_small_count(cursor: &mut Cursor<'_>, limits: &Limits) -> Result<u8, BundleRefusal>
-    ensures { Gives (λ n. n) result cursor.new (count limits.now 1 cursor.old) }
+    ensures { Gives result cursor.new (count limits.now 1 cursor.old) }
 {
     let at = cursor.offset();
     let count = cursor.number8()?;
@@ -58,7 +58,7 @@ fn read_small_count(cursor: &mut Cursor<'_>, limits: &Limits) -> Result<u8, Bund
 
 #[tactic(auto, unfolding(crate::specs::Reading::count))]
 fn read_count(cursor: &mut Cursor<'_>, limits: &Limits) -> Result<u32, BundleRefusal>
-    ensures { Gives (λ n. n) result cursor.new (count limits.now 4 cursor.old) }
+    ensures { Gives result cursor.new (count limits.now 4 cursor.old) }
 {
     let at = cursor.offset();
     let count = cursor.number32()?;
@@ -70,7 +70,7 @@ fn read_count(cursor: &mut Cursor<'_>, limits: &Limits) -> Result<u32, BundleRef
 
 #[tactic(auto, unfolding(crate::specs::Reading::length_field))]
 fn read_length(cursor: &mut Cursor<'_>, limits: &Limits) -> Result<u32, BundleRefusal>
-    ensures { Gives (λ n. n) result cursor.new (length_field limits.now cursor.old) }
+    ensures { Gives result cursor.new (length_field limits.now cursor.old) }
 {
     let at = cursor.offset();
     let length = cursor.number32()?;
@@ -82,7 +82,7 @@ fn read_length(cursor: &mut Cursor<'_>, limits: &Limits) -> Result<u32, BundleRe
 
 #[tactic(auto, unfolding(crate::specs::Reading::index))]
 fn read_process(cursor: &mut Cursor<'_>, processes: u8) -> Result<u32, BundleRefusal>
-    ensures { Gives (λ n. n) result cursor.new (index processes 4 cursor.old) }
+    ensures { Gives result cursor.new (index processes 4 cursor.old) }
 {
     let at = cursor.offset();
     let process = cursor.number32()?;
@@ -94,7 +94,7 @@ fn read_process(cursor: &mut Cursor<'_>, processes: u8) -> Result<u32, BundleRef
 
 #[tactic(auto, unfolding(crate::specs::Reading::index))]
 fn read_core(cursor: &mut Cursor<'_>, cores: u8) -> Result<u8, BundleRefusal>
-    ensures { Gives (λ n. n) result cursor.new (index cores 1 cursor.old) }
+    ensures { Gives result cursor.new (index cores 1 cursor.old) }
 {
     let at = cursor.offset();
     let core = cursor.number8()?;
@@ -106,7 +106,7 @@ fn read_core(cursor: &mut Cursor<'_>, cores: u8) -> Result<u8, BundleRefusal>
 
 #[tactic(auto, unfolding(crate::specs::Reading::header))]
 fn read_header(cursor: &mut Cursor<'_>) -> Result<Header, BundleRefusal>
-    ensures { Gives (λ h. h) result cursor.new (header cursor.old) }
+    ensures { Gives result cursor.new (header cursor.old) }
 {
     read_magic(cursor)?;
     read_version(cursor)?;
@@ -126,7 +126,7 @@ fn read_header(cursor: &mut Cursor<'_>) -> Result<Header, BundleRefusal>
 
 #[tactic(auto, unfolding(crate::specs::Reading::image))]
 fn read_image(alloc: Global, cursor: &mut Cursor<'_>) -> Result<Image, BundleRefusal>
-    ensures { Gives (λ i. i) result cursor.new (image cursor.old) }
+    ensures { Gives result cursor.new (image cursor.old) }
 {
     let text_length = read_length(cursor, &TEXT)?;
     let initial_length = read_length(cursor, &INITIAL)?;
@@ -142,7 +142,7 @@ fn read_image(alloc: Global, cursor: &mut Cursor<'_>) -> Result<Image, BundleRef
 
 #[tactic(auto, unfolding(crate::specs::Reading::core_start))]
 fn read_core_start(cursor: &mut Cursor<'_>, processes: u8) -> Result<CoreStart, BundleRefusal>
-    ensures { Gives (λ c. c) result cursor.new (core_start processes cursor.old) }
+    ensures { Gives result cursor.new (core_start processes cursor.old) }
 {
     let process = read_process(cursor, processes)?;
     let entry = cursor.number64()?;
@@ -157,12 +157,8 @@ trait Part: Sized {
     ghost field: { Header → Field Self };
 
     /// The next one of the list.
-    fn read(
-        alloc: Global,
-        cursor: &mut Cursor<'_>,
-        header: &Header,
-    ) -> Result<Self, BundleRefusal>
-        ensures { Gives (λ part. part) result cursor.new (field header.now cursor.old) };
+    fn read(alloc: Global, cursor: &mut Cursor<'_>, header: &Header) -> Result<Self, BundleRefusal>
+        ensures { Gives result cursor.new (field header.now cursor.old) };
 }
 
 /// A key word.
@@ -209,7 +205,7 @@ fn read_list<P: Part + Drop>(
     header: &Header,
     count: u32,
 ) -> Result<Listed<P>, BundleRefusal>
-    ensures { Gives (λ parts. parts) result cursor.new (many count (P.field header.now) cursor.old) }
+    ensures { Gives result cursor.new (many count (P.field header.now) cursor.old) }
 {
     let mut parts = Vec::new(alloc);
     for _ in 0..count {
@@ -220,7 +216,7 @@ fn read_list<P: Part + Drop>(
 
 #[tactic(auto, unfolding(crate::specs::Reading::bundle))]
 fn read_fields(alloc: Global, cursor: &mut Cursor<'_>) -> Result<Bundle, BundleRefusal>
-    ensures { Gives (λ b. b) result cursor.new (bundle cursor.old) }
+    ensures { Gives result cursor.new (bundle cursor.old) }
 {
     let header = read_header(cursor)?;
     let keys: Words = read_list(alloc, cursor, &header, header.keys)?;
@@ -250,21 +246,23 @@ fn read_whole(alloc: Global, bytes: &[u8]) -> Result<Bundle, BundleRefusal>
     Ok(bundle)
 }
 
-/// The bundle that the bytes spell, all of the bytes.
+/// The bundle that the bytes spell, all of the bytes, or the first refusal in the order of fields.
+///
+/// Each field is judged as soon as it is whole, before any byte behind it is looked at. `Memory` may come in place of
+/// any answer.
 pub fn read_bundle(alloc: Global, bytes: &[u8]) -> Result<Bundle, BundleRefusal>
     // What is read is a bundle, and the bytes are its spelling.
     ensures found { IfOk result (λ b. IsBundle b × (bytes.now ≡ spelling b)) }
     // What spells a bundle is read as it, unless memory runs out.
     ensures only { (b : Bundle) → IsBundle b → bytes.now ≡ spelling b → Answers result (Ok b) }
-    // Which refusal it is.
+    // Each answer is that of reading field after field: which refusal, and where.
     ensures exact { Answers result (reading bytes.now) }
 {
     read_whole(alloc, bytes)
 }
 
-/// No two bundles have one spelling.
+/// A law, which does nothing when it is called: no two bundles have one spelling.
 #[tactic(auto, using(crate::proofs::Whole::same_spelling))]
 pub fn one_spelling()
     ensures { (a b : Bundle) → IsBundle a → IsBundle b → spelling a ≡ spelling b → a ≡ b }
-{
-}
+{}

@@ -110,7 +110,7 @@ fn put_bundle(out: &mut Vec<u8>, bundle: &Bundle) -> Result<(), AllocError>
     out.extend_from_slice(bundle.schedule.items())
 }
 
-/// The one spelling of a bundle.
+/// The one spelling of a bundle, which has to be within the limits of each field. It fails only for want of memory.
 #[tactic(auto, using(crate::proofs::Whole::reading_again))]
 pub fn write_bundle(alloc: Global, bundle: &Bundle) -> Result<Vec<u8>, AllocError>
     requires { IsBundle bundle.now }

@@ -1,4 +1,4 @@
-use Rattle.std.proofs.Common.{Ok, ap, subst, ◌∙◌, arith}
+use Rattle.std.proofs.Common.{ap, subst, ◌∙◌, arith}
 use Rattle.sb_bundle.specs.Fields.{Answers}
 use Rattle.sb_bundle.specs.Reading.{reading}
 use Rattle.sb_bundle.proofs.Numbers.{AllBelow-from}
