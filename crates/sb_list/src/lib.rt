@@ -47,7 +47,8 @@ impl<T> Listed<T> {
 
     /// Puts a value in the place of another.
     pub fn set(&mut self, index: usize, value: T)
-        where T: Drop
+    where
+        T: Drop,
         requires { index < length self.old }
         ensures { self.new ≡ slice_set self.old index value }
     {
