@@ -1,7 +1,32 @@
--- The bundle that was read from an input.
-use Rattle.std.specs.Prelude.{length}
-use Rattle.skybridge.specs.declared.form.Input.{Input}
-use Rattle.skybridge.specs.Form.{Bundle}
+-- What the bytes of an input lead to. At most one of these holds of them.
+use Rattle.std.specs.Prelude.{◌≡◌, ℕ, ◌≤◌, ◌<◌, List, length, Result, Err}
+use Rattle.sb_bundle.specs.declared.bundle.Bundle.{Bundle}
+use Rattle.sb_bundle.specs.declared.refusal.BundleRefusal.{BundleRefusal}
+use Rattle.sb_bundle.specs.Limits.{IsBundle}
+use Rattle.sb_bundle.specs.Spelling.{spelling}
+use Rattle.sb_bundle.specs.Reading.{reading}
+use Rattle.sb_load.specs.declared.refusal.LoadRefusal.{LoadRefusal}
+use Rattle.sb_load.specs.Loading.{IsLoadable, RefusesLoad}
 
-abbrev pub bundle_of : Input → Bundle
-bundle_of input = record { text = input.text.now; steps = length input.schedule.now }
+-- the most bytes of an input: 64 MiB
+abbrev pub input_limit : ℕ
+input_limit = 67108864
+
+abbrev pub IsTooLong : List ℕ → Type 0
+IsTooLong bytes = input_limit < length bytes
+
+-- the bytes spell no bundle, and this is the first refusal
+abbrev pub IsNoBundle : List ℕ → BundleRefusal → Type 0
+IsNoBundle bytes refusal = (length bytes ≤ input_limit) × (reading bytes ≡ Err refusal)
+
+-- the bytes spell this bundle
+abbrev pub Spells : List ℕ → Bundle → Type 0
+Spells bytes bundle = (length bytes ≤ input_limit) × IsBundle bundle × (bytes ≡ spelling bundle)
+
+-- the bytes spell a bundle that the loader refuses
+abbrev pub IsNotLoadable : List ℕ → LoadRefusal → Type 0
+IsNotLoadable bytes refusal = (bundle : Bundle) × Spells bytes bundle × RefusesLoad bundle refusal
+
+-- the bytes spell this bundle, and the loader accepts it
+abbrev pub IsAccepted : List ℕ → Bundle → Type 0
+IsAccepted bytes bundle = Spells bytes bundle × IsLoadable bundle

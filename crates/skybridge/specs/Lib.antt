@@ -1,6 +1,4 @@
 pub mod Words
-pub mod TextPage
-pub mod Step
-pub mod Form
+pub mod Lines
 pub mod Input
 pub mod Output
