@@ -18,6 +18,7 @@ offset input = input.total - length input.rest
 abbrev pub Field : Type 0 → Type 0
 Field A = Input → Result (A × Input) BundleRefusal
 
+-- what follows a value; a refusal ends the reading
 abbrev pub and_then : {A B : Type 0} → Result A BundleRefusal → (A → Result B BundleRefusal) → Result B BundleRefusal
 and_then (Ok x) next = next x
 and_then (Err refusal) next = Err refusal
@@ -27,11 +28,11 @@ infixl 10 ◌>>=◌
 abbrev pub ◌>>=◌ : {A B : Type 0} → Field A → (A → Field B) → Field B
 (field >>= next) input = and_then (field input) (λ read. next read.0 read.1)
 
--- no bytes
+-- takes no bytes
 abbrev pub give : {A : Type 0} → A → Field A
 give value input = Ok (value, input)
 
--- so many bytes, which the input holds whole or not
+-- so many bytes: where the input does not hold them whole, it is short at their offset
 unfoldable pub bytes_field : ℕ → Field (List ℕ)
 bytes_field size input =
     if nat_lt (length input.rest) size then Err (Short (offset input))
@@ -43,11 +44,12 @@ number size = do
   bytes ← bytes_field size
   give (little_number size bytes)
 
--- a field that is refused where it is whole and fails the test
+-- a field that is whole and fails the test is refused at its offset
 abbrev pub judged : {A : Type 0} → (ℕ → BundleRefusal) → (A → Bool) → Field A → Field A
 judged refusal is_good field input =
     and_then (field input) (λ read. if is_good read.0 then Ok read else Err (refusal (offset input)))
 
+-- neither less than the least nor more than the most
 abbrev pub is_within : Limits → ℕ → Bool
 is_within limits n = nat_le limits.least n && nat_le n limits.most
 

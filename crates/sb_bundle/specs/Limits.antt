@@ -6,6 +6,7 @@ use Rattle.sb_bundle.specs.declared.bundle.Bundle.{Bundle}
 use Rattle.sb_bundle.specs.declared.bundle.Image.{Image}
 use Rattle.sb_bundle.specs.declared.bundle.CoreStart.{CoreStart}
 
+-- both ends are allowed
 abbrev pub from_to : ℕ → ℕ → Limits
 from_to least most = record { least = least; most = most }
 
@@ -13,6 +14,7 @@ from_to least most = record { least = least; most = most }
 abbrev pub core_limits : Limits
 core_limits = from_to 1 8
 
+-- processes
 abbrev pub process_limits : Limits
 process_limits = from_to 1 16
 
@@ -20,6 +22,7 @@ process_limits = from_to 1 16
 abbrev pub frame_limits : Limits
 frame_limits = from_to 513 8192
 
+-- key words
 abbrev pub key_limits : Limits
 key_limits = from_to 0 128
 
@@ -39,6 +42,7 @@ initial_limits = from_to 0 2097152
 abbrev pub heap_limits : Limits
 heap_limits = from_to 0 512
 
+-- the number is within the limits
 abbrev pub IsWithin : Limits → ℕ → Type 0
 IsWithin limits n = (limits.least ≤ n) × (n ≤ limits.most)
 
@@ -46,6 +50,7 @@ IsWithin limits n = (limits.least ≤ n) × (n ≤ limits.most)
 abbrev pub AllBelow : ℕ → List ℕ → Type 0
 AllBelow bound numbers = AllByRecursion (λ n. n < bound) numbers
 
+-- the image of a process that has a spelling
 pub record IsImage (image : Image) : Type 0 where
   pub text : IsWithin text_limits (length image.text)
   pub text_bytes : AllBelow 256 image.text

@@ -24,12 +24,15 @@ length_field limits = judged Range (is_within limits) (number 4)
 unfoldable pub index : ℕ → ℕ → Field ℕ
 index bound size = judged Range (λ n. nat_lt n bound) (number size)
 
+-- the first four bytes
 unfoldable pub magic_field : Field ℕ
 magic_field = judged Magic (λ n. n == little_number 4 magic) (number 4)
 
+-- the only version that is read
 unfoldable pub version_field : Field ℕ
 version_field = judged Version (λ n. n == version) (number 2)
 
+-- the counts, each judged before the next is read
 unfoldable pub header : Field Header
 header = do
   magic ← magic_field
@@ -41,6 +44,7 @@ header = do
   schedule ← count schedule_limits 4
   give (record { cores = cores; processes = processes; frames = frames; keys = keys; schedule = schedule })
 
+-- a process's three numbers, and then its text and its data, which are one field each
 unfoldable pub image : Field Image
 image = do
   text_length ← length_field text_limits
@@ -57,6 +61,7 @@ core_start processes = do
   entry ← number 8
   give (record { process = process; entry = entry })
 
+-- the header, and then the lists that it announces
 unfoldable pub bundle : Field Bundle
 bundle = do
   header ← header

@@ -18,6 +18,7 @@ magic = 0x53 ∷ 0x4B ∷ 0x59 ∷ 0x42 ∷ []
 abbrev pub version : ℕ
 version = 1
 
+-- a key word
 abbrev pub key_bytes : ℕ → List ℕ
 key_bytes word = number_bytes 8 word
 
@@ -30,6 +31,7 @@ image_bytes image =
     ++ (image.text
     ++ image.initial)))
 
+-- where a core starts
 abbrev pub core_bytes : CoreStart → List ℕ
 core_bytes core = number_bytes 4 core.process ++ number_bytes 8 core.entry
 

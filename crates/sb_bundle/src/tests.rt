@@ -1,4 +1,5 @@
 use super::*;
+use crate::refusal::BundleRefusal::{Count, Magic, Range, Short, Trailing, Version};
 use std::alloc::{AllocError, Global};
 use std::test::*;
 
@@ -52,178 +53,79 @@ fn a_bundle_that_ends_early_is_short_at_its_last_field(rt: HostRuntime) -> Resul
     Ok(())
 }
 
+/// What is edited, from where on, into which bytes, and what is then refused.
+type Edit = (&'static str, usize, &'static [u8], Option<BundleRefusal>);
+
+const EDITS: [Edit; 33] = [
+    ("as it is", 0, &[], None),
+    ("the magic's last byte", 3, &[0x43], Some(Magic { at: 0 })),
+    ("version 2", 4, &[2], Some(Version { at: 4 })),
+    ("version 257", 5, &[1], Some(Version { at: 4 })),
+    ("no core", 6, &[0], Some(Count { at: 6 })),
+    ("8 cores, one there", 6, &[8], Some(Short { at: 64 })),
+    ("9 cores", 6, &[9], Some(Count { at: 6 })),
+    ("no process", 7, &[0], Some(Count { at: 7 })),
+    ("16 processes, one there", 7, &[16], Some(Range { at: 48 })),
+    ("17 processes", 7, &[17], Some(Count { at: 7 })),
+    ("512 frames", 8, &[0x00, 0x02], Some(Count { at: 8 })),
+    ("513 frames", 8, &[0x01, 0x02], None),
+    ("8192 frames", 8, &[0x00, 0x20], None),
+    ("8193 frames", 8, &[0x01, 0x20], Some(Count { at: 8 })),
+    ("128 keys, five there", 12, &[128], Some(Short { at: 60 })),
+    ("129 keys", 12, &[129], Some(Count { at: 12 })),
+    ("no schedule", 16, &[0], Some(Trailing { at: 60 })),
+    ("one entry less", 16, &[4], Some(Trailing { at: 64 })),
+    ("2^20 entries", 16, &[0, 0, 16], Some(Short { at: 65 })),
+    ("2^20 + 1 entries", 16, &[1, 0, 16], Some(Count { at: 16 })),
+    ("no text", 20, &[0], Some(Range { at: 20 })),
+    (
+        "1 byte of text, process 7",
+        20,
+        &[1],
+        Some(Range { at: 33 }),
+    ),
+    ("2 MiB of text", 20, &[0, 0, 32], Some(Short { at: 32 })),
+    ("2 MiB + 1 of text", 20, &[1, 0, 32], Some(Range { at: 20 })),
+    ("2 MiB of data", 24, &[0, 0, 32], Some(Short { at: 48 })),
+    ("2 MiB + 1 of data", 24, &[1, 0, 32], Some(Range { at: 24 })),
+    ("512 heap pages", 28, &[0, 2], None),
+    ("513 heap pages", 28, &[1, 2], Some(Range { at: 28 })),
+    ("process 1 of 1", 48, &[1], Some(Range { at: 48 })),
+    ("process 2^24", 51, &[1], Some(Range { at: 48 })),
+    ("any entry address", 52, &[0xFF; 8], None),
+    ("core 1 of 1", 60, &[1], Some(Range { at: 60 })),
+    ("two wrong cores", 62, &[1, 9], Some(Range { at: 62 })),
+];
+
 #[test]
 fn each_limit_at_its_edge_and_past_it(rt: HostRuntime) -> Result<(), Fail> {
-    use crate::refusal::BundleRefusal::{Count, Magic, Range, Short, Trailing, Version};
-    let rows: [(&str, usize, &[u8], usize, Option<BundleRefusal>); 38] = [
-        ("as it is", 0, &[], 65, None),
-        (
-            "three wrong bytes of the magic",
-            0,
-            &[0, 0, 0],
-            3,
-            Some(Short { at: 0 }),
-        ),
-        (
-            "four wrong bytes",
-            0,
-            &[0, 0, 0, 0],
-            4,
-            Some(Magic { at: 0 }),
-        ),
-        (
-            "the magic's last byte",
-            3,
-            &[0x43],
-            65,
-            Some(Magic { at: 0 }),
-        ),
-        ("version 2", 4, &[2], 65, Some(Version { at: 4 })),
-        ("version 257", 5, &[1], 65, Some(Version { at: 4 })),
-        ("no core", 6, &[0], 65, Some(Count { at: 6 })),
-        (
-            "8 cores: the second has no entry",
-            6,
-            &[8],
-            65,
-            Some(Short { at: 64 }),
-        ),
-        ("9 cores", 6, &[9], 65, Some(Count { at: 6 })),
-        ("no process", 7, &[0], 65, Some(Count { at: 7 })),
-        (
-            "16 processes: the second has no text",
-            7,
-            &[16],
-            65,
-            Some(Range { at: 48 }),
-        ),
-        ("17 processes", 7, &[17], 65, Some(Count { at: 7 })),
-        ("512 frames", 8, &[0x00, 0x02], 65, Some(Count { at: 8 })),
-        ("513 frames", 8, &[0x01, 0x02], 65, None),
-        ("8192 frames", 8, &[0x00, 0x20], 65, None),
-        ("8193 frames", 8, &[0x01, 0x20], 65, Some(Count { at: 8 })),
-        (
-            "128 keys: five are there",
-            12,
-            &[128],
-            65,
-            Some(Short { at: 60 }),
-        ),
-        ("129 keys", 12, &[129], 65, Some(Count { at: 12 })),
-        (
-            "no entry in the schedule",
-            16,
-            &[0],
-            65,
-            Some(Trailing { at: 60 }),
-        ),
-        (
-            "2^20 entries: five are there",
-            16,
-            &[0, 0, 0x10],
-            65,
-            Some(Short { at: 65 }),
-        ),
-        (
-            "2^20 + 1 entries",
-            16,
-            &[1, 0, 0x10],
-            65,
-            Some(Count { at: 16 }),
-        ),
-        ("no text", 20, &[0], 65, Some(Range { at: 20 })),
-        (
-            "a text of one byte: 7 is no process",
-            20,
-            &[1],
-            65,
-            Some(Range { at: 33 }),
-        ),
-        (
-            "a text of 2 MiB",
-            20,
-            &[0, 0, 0x20],
-            65,
-            Some(Short { at: 32 }),
-        ),
-        (
-            "a text of 2 MiB and a byte",
-            20,
-            &[1, 0, 0x20],
-            65,
-            Some(Range { at: 20 }),
-        ),
-        (
-            "data of 2 MiB",
-            24,
-            &[0, 0, 0x20],
-            65,
-            Some(Short { at: 48 }),
-        ),
-        (
-            "data of 2 MiB and a byte",
-            24,
-            &[1, 0, 0x20],
-            65,
-            Some(Range { at: 24 }),
-        ),
-        ("512 heap pages", 28, &[0x00, 0x02], 65, None),
-        (
-            "513 heap pages",
-            28,
-            &[0x01, 0x02],
-            65,
-            Some(Range { at: 28 }),
-        ),
-        (
-            "lengths before their bytes",
-            28,
-            &[0x01, 0x02],
-            32,
-            Some(Range { at: 28 }),
-        ),
-        ("the core's process", 48, &[1], 65, Some(Range { at: 48 })),
-        (
-            "a process read from its lowest byte",
-            51,
-            &[1],
-            65,
-            Some(Range { at: 48 }),
-        ),
-        ("any entry address", 52, &[0xFF; 8], 65, None),
-        ("the core of an entry", 60, &[1], 65, Some(Range { at: 60 })),
-        (
-            "the first of two wrong cores",
-            62,
-            &[1, 9],
-            65,
-            Some(Range { at: 62 }),
-        ),
-        (
-            "a wrong core before the end",
-            61,
-            &[1],
-            62,
-            Some(Range { at: 61 }),
-        ),
-        (
-            "the end before a wrong core",
-            62,
-            &[1],
-            62,
-            Some(Short { at: 62 }),
-        ),
-        (
-            "a schedule that ends one entry early",
-            16,
-            &[4],
-            65,
-            Some(Trailing { at: 64 }),
-        ),
-    ];
-    for (name, at, other, length, refusal) in rows {
-        let bytes = edited(rt.alloc(), at, other, length)?;
+    for (name, at, other, refusal) in EDITS {
+        let bytes = edited(rt.alloc(), at, other, 65)?;
         assert_eq!(rt; read_bundle(rt.alloc(), &bytes).err(), refusal, "{name}");
+    }
+    Ok(())
+}
+
+/// What is edited, from where on, where the input is cut, and what is then refused.
+type Cut = (&'static str, usize, usize, BundleRefusal);
+
+const CUTS: [Cut; 5] = [
+    ("three wrong bytes of the magic", 0, 3, Short { at: 0 }),
+    ("four wrong bytes of the magic", 0, 4, Magic { at: 0 }),
+    ("a length before its bytes", 31, 32, Range { at: 28 }),
+    ("a wrong core, then the end", 61, 62, Range { at: 61 }),
+    ("the end, then a wrong core", 62, 62, Short { at: 62 }),
+];
+
+#[test]
+fn the_first_refusal_in_the_order_of_fields(rt: HostRuntime) -> Result<(), Fail> {
+    for (name, at, length, refusal) in CUTS {
+        let bytes = edited(rt.alloc(), at, &[1, 1, 1, 1], length)?;
+        assert_eq!(rt;
+            read_bundle(rt.alloc(), &bytes).err(),
+            Some(refusal),
+            "{name}"
+        );
     }
     Ok(())
 }
