@@ -1,0 +1,80 @@
+-- Two names that are one are equal, and `==` decides it.
+use Rattle.std.proofs.Common.{◌≡◌, ℕ, true, ◌&&◌, ◌==◌, refl}
+use Rattle.std.proofs.lemmas.Bool.{and_parts, and_from}
+use Rattle.std.proofs.lemmas.Bool.Decides.{Decides-eqb}
+use Rattle.sb_trace.specs.declared.page.PageName.{PageName}
+use Rattle.sb_trace.specs.declared.page.PageName.TheVariants.{Text, Area, Data, Heap, Pool, ServerStack, Save, Stack, Buffer, Record, Scratch, HomeTrampoline, ServerTrampoline}
+use Rattle.sb_trace.specs.PageName.{same_name}
+use Rattle.sb_plain.specs.Places.{equal_names}
+
+-- what `==` answers
+pub equal_same : (first second : PageName) → equal_names first second ≡ same_name first second
+unfolding same_name
+equal_same (Text process page) (Text process' page') = refl
+equal_same (Area process page) (Area process' page') = refl
+equal_same (Data process page) (Data process' page') = refl
+equal_same (Heap process page) (Heap process' page') = refl
+equal_same (Pool process) (Pool process') = refl
+equal_same (ServerStack process page) (ServerStack process' page') = refl
+equal_same (Save thread) (Save thread') = refl
+equal_same (Stack thread page) (Stack thread' page') = refl
+equal_same (Buffer thread index page) (Buffer thread' index' page') = refl
+equal_same (Record thread view) (Record thread' view') = refl
+equal_same (Scratch thread view) (Scratch thread' view') = refl
+equal_same HomeTrampoline HomeTrampoline = refl
+equal_same ServerTrampoline ServerTrampoline = refl
+equal_same _ _ = refl
+
+-- ---- numbers
+
+number : (first second : ℕ) → (first == second) ≡ true → first ≡ second
+number first second same = (Decides-eqb first second).0 same
+
+number_self : (number : ℕ) → (number == number) ≡ true
+number_self number = (Decides-eqb number number).1 refl
+
+two : (a b c d : ℕ) → ((a == b) && (c == d)) ≡ true → (a ≡ b) × (c ≡ d)
+two a b c d same = let parts = and_parts (a == b) (c == d) same in (number a b parts.0, number c d parts.1)
+
+two_self : (a c : ℕ) → ((a == a) && (c == c)) ≡ true
+two_self a c = and_from (a == a) (c == c) (number_self a) (number_self c)
+
+three : (a b c d e f : ℕ) → ((a == b) && ((c == d) && (e == f))) ≡ true → (a ≡ b) × (c ≡ d) × (e ≡ f)
+three a b c d e f same =
+    let parts = and_parts (a == b) ((c == d) && (e == f)) same in
+    let rest = two c d e f parts.1 in (number a b parts.0, rest.0, rest.1)
+
+-- ---- names
+
+pub name_self : (name : PageName) → same_name name name ≡ true
+unfolding same_name
+name_self (Text process page) = two_self process page
+name_self (Area process page) = two_self process page
+name_self (Data process page) = two_self process page
+name_self (Heap process page) = two_self process page
+name_self (Pool process) = number_self process
+name_self (ServerStack process page) = two_self process page
+name_self (Save thread) = number_self thread
+name_self (Stack thread page) = two_self thread page
+name_self (Buffer thread index page) = and_from _ _ (number_self thread) (two_self index page)
+name_self (Record thread view) = two_self thread view
+name_self (Scratch thread view) = two_self thread view
+name_self HomeTrampoline = refl
+name_self ServerTrampoline = refl
+
+pub name_same : (first second : PageName) → same_name first second ≡ true → first ≡ second
+unfolding same_name
+name_same (Text process page) (Text process' page') same = let parts = two process process' page page' same in cc
+name_same (Area process page) (Area process' page') same = let parts = two process process' page page' same in cc
+name_same (Data process page) (Data process' page') same = let parts = two process process' page page' same in cc
+name_same (Heap process page) (Heap process' page') same = let parts = two process process' page page' same in cc
+name_same (Pool process) (Pool process') same = let part = number process process' same in cc
+name_same (ServerStack process page) (ServerStack process' page') same = let parts = two process process' page page' same in cc
+name_same (Save thread) (Save thread') same = let part = number thread thread' same in cc
+name_same (Stack thread page) (Stack thread' page') same = let parts = two thread thread' page page' same in cc
+name_same (Buffer thread index page) (Buffer thread' index' page') same = let parts = three thread thread' index index' page page' same in cc
+name_same (Record thread view) (Record thread' view') same = let parts = two thread thread' view view' same in cc
+name_same (Scratch thread view) (Scratch thread' view') same = let parts = two thread thread' view view' same in cc
+name_same HomeTrampoline HomeTrampoline same = refl
+name_same ServerTrampoline ServerTrampoline same = refl
+name_same _ _ same = cc

@@ -1,0 +1,20 @@
+-- Where pages stand in a list, by name.
+use Rattle.std.specs.Prelude.{◌≡◌, ℕ, suc, Bool, List, [], ◌∷◌, Option, Some, None, if◌then◌else◌}
+use Rattle.std.specs.Option.{option_map}
+use Rattle.sb_trace.specs.declared.page.PageName.{PageName}
+use Rattle.sb_trace.specs.declared.page.Page.{Page}
+use Rattle.sb_trace.specs.contracts.page.PageNamePartialEq.TheImpl.{eq-value}
+use Rattle.sb_trace.specs.PageName.{same_name}
+
+-- what `==` answers of two names
+abbrev pub equal_names : PageName → PageName → Bool
+equal_names first second = eq-value.it first second
+
+-- the place of the first page of this name
+abbrev pub place_of : List Page → PageName → Option ℕ
+place_of [] name = None
+place_of (page ∷ pages) name = if same_name page.name name then Some 0 else option_map suc (place_of pages name)
+
+-- the index gives the place of each name
+abbrev pub IsIndex : (PageName → Option ℕ) → List Page → Type 0
+IsIndex index pages = (name : PageName) → index name ≡ place_of pages name

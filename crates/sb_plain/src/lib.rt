@@ -1,0 +1,6 @@
+//! The plain machine.
+#![tactic(auto)]
+
+mod pages;
+
+pub use pages::Pages;
