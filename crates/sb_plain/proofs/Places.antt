@@ -1,5 +1,5 @@
 -- Where pages stand after others are added, and after their bytes are replaced.
-use Rattle.std.proofs.Common.{◌≡◌, ◌<◌, ◌≤◌, ◌++◌, sym, ap, ◌∙◌, ℕ, zero, suc, Bool, true, false, cond, List, [], ◌∷◌, length, refl, arith}
+use Rattle.std.proofs.Common.{◌≡◌, ◌≢◌, ◌<◌, ◌≤◌, ◌++◌, sym, ap, ◌∙◌, ℕ, zero, suc, Bool, true, false, cond, List, [], ◌∷◌, length, refl, arith}
 use Rattle.std.specs.Prelude.{Option, Some, None, IfSome, if◌then◌else◌, slice_index_or, slice_set}
 use Rattle.std.specs.Option.{option_map}
 use Rattle.std.proofs.lemmas.List.{set_past}
@@ -69,31 +69,51 @@ found_none (page ∷ pages) name is =
 
 -- ---- a page is added
 
-apart_by : (other : Bool) (page new name : PageName) → same_name new name ≡ other → same_name page new ≡ false → page ≡ name → other ≡ false
-apart_by true page new name is apart same =
-    absurd (true≢false (sym (name_self page) ∙ ap (λ (n : PageName). same_name page n) (same ∙ sym (name_same new name is)) ∙ apart))
-apart_by false page new name is apart same = refl
-
-head_apart : (test : Bool) (page : Page) (behind : Option Page) → (if test then Some page else behind) ≡ None → (test ≡ false) × (behind ≡ None)
-head_apart true page behind none = cc
-head_apart false page behind none = (refl, none)
+-- the first answer, or else another
+abbrev pub or_else : Option ℕ → Option ℕ → Option ℕ
+or_else None other = other
+or_else (Some first) other = Some first
 
 pushed_by : (test other : Bool) (count : ℕ) (found behind : Option ℕ)
-    → (test ≡ true → other ≡ false) → behind ≡ (if other then Some count else found)
-    → (if test then Some 0 else option_map suc behind) ≡ (if other then Some (suc count) else (if test then Some 0 else option_map suc found))
-pushed_by true other count found behind apart more = rw (apart refl) refl
-pushed_by false true count found behind apart more = rw more refl
-pushed_by false false count found behind apart more = rw more refl
+    → behind ≡ or_else found (if other then Some count else None)
+    → (if test then Some 0 else option_map suc behind) ≡ or_else (if test then Some 0 else option_map suc found) (if other then Some (suc count) else None)
+pushed_by true other count found behind more = refl
+pushed_by false true count None behind more = rw more refl
+pushed_by false true count (Some place) behind more = rw more refl
+pushed_by false false count None behind more = rw more refl
+pushed_by false false count (Some place) behind more = rw more refl
 
--- the new page is behind the others, and of no name that they have
-pub place_pushed : (pages : List Page) (new : Page) (name : PageName) → find_page pages new.name ≡ None
-    → place_of (pages ++ new ∷ []) name ≡ (if same_name new.name name then Some (length pages) else place_of pages name)
-place_pushed [] new name none = refl
-place_pushed (page ∷ pages) new name none =
-    let apart = head_apart (same_name page.name new.name) page (find_page pages new.name) none in
+-- the new page is behind the others
+pub place_pushed : (pages : List Page) (new : Page) (name : PageName)
+    → place_of (pages ++ new ∷ []) name ≡ or_else (place_of pages name) (if same_name new.name name then Some (length pages) else None)
+place_pushed [] new name = refl
+place_pushed (page ∷ pages) new name =
     pushed_by (same_name page.name name) (same_name new.name name) (length pages) (place_of pages name) (place_of (pages ++ new ∷ []) name)
-    (λ is. apart_by (same_name new.name name) page.name new.name name refl apart.0 (name_same page.name name is))
-    (place_pushed pages new name apart.1)
+    (place_pushed pages new name)
+
+behind_by : (other : Bool) (count : ℕ) (found : Option ℕ) → (other ≡ true → found ≢ None) → or_else found (if other then Some count else None) ≡ found
+behind_by other count (Some place) there = refl
+behind_by true count None there = absurd (there refl refl)
+behind_by false count None there = refl
+
+-- a page whose name another one has is not found
+pub place_behind : (pages : List Page) (new : Page) (name : PageName) → place_of pages new.name ≢ None → place_of (pages ++ new ∷ []) name ≡ place_of pages name
+place_behind pages new name there =
+    place_pushed pages new name ∙ behind_by (same_name new.name name) (length pages) (place_of pages name)
+    (λ same none. there (ap (λ (one : PageName). place_of pages one) (name_same new.name name same) ∙ none))
+
+new_by : (other : Bool) (count : ℕ) (found : Option ℕ) → (other ≡ true → found ≡ None)
+    → or_else found (if other then Some count else None) ≡ (if other then Some count else found)
+new_by true count found none = rw (none refl) refl
+new_by false count None none = refl
+new_by false count (Some place) none = refl
+
+-- a page of a new name is found behind the others
+pub place_new : (pages : List Page) (new : Page) (name : PageName) → place_of pages new.name ≡ None
+    → place_of (pages ++ new ∷ []) name ≡ (if same_name new.name name then Some (length pages) else place_of pages name)
+place_new pages new name none =
+    place_pushed pages new name ∙ new_by (same_name new.name name) (length pages) (place_of pages name)
+    (λ same. ap (λ (one : PageName). place_of pages one) (sym (name_same new.name name same)) ∙ none)
 
 -- ---- the bytes of a page are replaced
 
@@ -175,9 +195,14 @@ place_put pages name other place offset value page is at =
 -- ---- the index
 
 -- the index after the name of the new page is put into it
-pub index_pushed : (index now : PageName → Option ℕ) (pages : List Page) (new : Page) (count : ℕ) → find_page pages new.name ≡ None
+pub index_new : (index now : PageName → Option ℕ) (pages : List Page) (new : Page) (count : ℕ) → place_of pages new.name ≡ None
     → IsIndex index pages → count ≡ length pages
     → ((name : PageName) → now name ≡ cond (equal_names new.name name) (Some count) (index name))
     → IsIndex now (pages ++ new ∷ [])
-index_pushed index now pages new count none old long put = λ name.
-    put name ∙ rw (equal_same new.name name, long, old name) (sym (place_pushed pages new name none))
+index_new index now pages new count none old long put = λ name.
+    put name ∙ rw (equal_same new.name name, long, old name) (sym (place_new pages new name none))
+
+-- the index serves as it is where the name of the new page is in it
+pub index_behind : (index : PageName → Option ℕ) (pages : List Page) (new : Page) → place_of pages new.name ≢ None
+    → IsIndex index pages → IsIndex index (pages ++ new ∷ [])
+index_behind index pages new there old = λ name. old name ∙ sym (place_behind pages new name there)

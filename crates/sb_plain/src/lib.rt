@@ -2,5 +2,6 @@
 #![tactic(auto)]
 
 mod pages;
+mod start;
 
 pub use pages::Pages;

@@ -1,6 +1,6 @@
 //! The pages of the plain machine, found by name.
 
-ghost use Rattle.std.specs.Prelude.{◌≡◌, ◌++◌, ◌∷◌, ◌<◌, [], None, IfSome, OnOk, OnErr, length, slice_index, slice_set};
+ghost use Rattle.std.specs.Prelude.{◌≡◌, ◌≢◌, ◌++◌, ◌∷◌, ◌<◌, [], None, IfSome, OnOk, OnErr, length, slice_index, slice_set};
 ghost use Rattle.std.specs.Option.{option_copied};
 ghost use Rattle.sb_trace.specs.State.{find_page, replaced, bytes_of};
 ghost use Rattle.sb_plain.specs.Places.{place_of};
@@ -43,11 +43,32 @@ impl Pages {
         }
     }
 
-    /// Adds a page behind the others. No page may have its name yet.
+    /// Adds a page behind the others. Of pages with one name the first is found.
     ///
     /// An error means that there is no memory, and leaves the pages as they were.
     pub fn push(&mut self, page: Page) -> Result<(), AllocError>
-        requires { find_page self.old page.name ≡ None }
+        ensures ok { OnOk result (self.new ≡ self.old ++ page ∷ []) }
+        ensures err { OnErr result (self.new ≡ self.old) }
+    {
+        match self.place(page.name) {
+            Some(_) => self.push_behind(page),
+            None => self.push_new(page),
+        }
+    }
+
+    // Adds a page whose name another one has.
+    fn push_behind(&mut self, page: Page) -> Result<(), AllocError>
+        requires { place_of self.old page.name ≢ None }
+        ensures ok { OnOk result (self.new ≡ self.old ++ page ∷ []) }
+        ensures err { OnErr result (self.new ≡ self.old) }
+    {
+        self.pages.push(page)?;
+        Ok(())
+    }
+
+    // Adds a page of a name that no other one has.
+    fn push_new(&mut self, page: Page) -> Result<(), AllocError>
+        requires { place_of self.old page.name ≡ None }
         ensures ok { OnOk result (self.new ≡ self.old ++ page ∷ []) }
         ensures err { OnErr result (self.new ≡ self.old) }
     {

@@ -10,13 +10,13 @@ use Rattle.sb_trace.specs.declared.state.Thread.{Thread}
 use Rattle.sb_trace.specs.State.{State}
 
 -- what a process is made of: its text, its initial data, and its number of heap pages
-pub record Image : Type 0 where
+pub record ProcessImage : Type 0 where
   pub text : List ℕ
   pub initial : List ℕ
   pub heap_pages : ℕ
 
 -- a thread at its start: its home, and the address of its first instruction
-pub record Entry : Type 0 where
+pub record ThreadEntry : Type 0 where
   pub home : ℕ
   pub address : ℕ
 
@@ -45,21 +45,28 @@ abbrev pub pages_from : (ℕ → Page) → ℕ → ℕ → List Page
 pages_from page first zero = []
 pages_from page first (suc count) = page first ∷ pages_from page (first + 1) count
 
--- text, whose last page is filled with CC
-abbrev pub text_page : ℕ → List ℕ → ℕ → Page
-text_page process text page = named (Text process page) (page_of 0xCC text page)
+-- a page of bytes that go over several pages of this name
+abbrev pub filled_page : (ℕ → PageName) → ℕ → List ℕ → ℕ → Page
+filled_page name filler bytes page = named (name page) (page_of filler bytes page)
 
--- initial data, whose last page is filled with 0
-abbrev pub data_page : ℕ → List ℕ → ℕ → Page
-data_page process initial page = named (Data process page) (page_of 0 initial page)
+-- text, whose last page is filled up with CC
+abbrev pub text_pages : ℕ → List ℕ → List Page
+text_pages process text = pages_from (filled_page (Text process) 0xCC text) 0 (page_count (length text))
 
+-- initial data, whose last page is filled up with 0
+abbrev pub data_pages : ℕ → List ℕ → List Page
+data_pages process initial = pages_from (filled_page (Data process) 0 initial) 0 (page_count (length initial))
+
+-- a page of the heap, in write mode
 abbrev pub heap_page : ℕ → ℕ → Page
 heap_page process page = named (Heap process page) zeros
 
-unfoldable pub process_pages : ℕ → Image → List Page
+abbrev pub heap_pages : ℕ → ℕ → List Page
+heap_pages process count = pages_from (heap_page process) 0 count
+
+unfoldable pub process_pages : ℕ → ProcessImage → List Page
 process_pages process image =
-    pages_from (text_page process image.text) 0 (page_count (length image.text))
-    ++ (pages_from (data_page process image.initial) 0 (page_count (length image.initial)) ++ pages_from (heap_page process) 0 image.heap_pages)
+    text_pages process image.text ++ (data_pages process image.initial ++ heap_pages process image.heap_pages)
 
 -- a save page and four stack pages
 unfoldable pub thread_pages : ℕ → List Page
@@ -67,11 +74,11 @@ thread_pages thread =
     named (Save thread) zeros ∷ named (Stack thread 0) zeros ∷ named (Stack thread 1) zeros ∷ named (Stack thread 2) zeros ∷ named (Stack thread 3) zeros ∷ []
 
 -- the pages of processes in order, of which the first has this number
-abbrev pub images_pages : ℕ → List Image → List Page
+abbrev pub images_pages : ℕ → List ProcessImage → List Page
 images_pages process [] = []
 images_pages process (image ∷ images) = process_pages process image ++ images_pages (process + 1) images
 
-abbrev pub threads_pages : ℕ → List Entry → List Page
+abbrev pub threads_pages : ℕ → List ThreadEntry → List Page
 threads_pages thread [] = []
 threads_pages thread (entry ∷ entries) = thread_pages thread ++ threads_pages (thread + 1) entries
 
@@ -88,7 +95,7 @@ start_registers thread address = record {
   flags = no_flags;
 }
 
-abbrev pub start_thread : ℕ → Entry → Thread
+abbrev pub start_thread : ℕ → ThreadEntry → Thread
 start_thread thread entry = record {
   home = entry.home;
   regs = start_registers thread entry.address;
@@ -97,13 +104,13 @@ start_thread thread entry = record {
   state = Running;
 }
 
-abbrev pub start_threads : ℕ → List Entry → List Thread
+abbrev pub start_threads : ℕ → List ThreadEntry → List Thread
 start_threads thread [] = []
 start_threads thread (entry ∷ entries) = start_thread thread entry ∷ start_threads (thread + 1) entries
 
 -- ---- the state
 
-abbrev pub start_state : List Image → List Entry → ℕ → List ℕ → State
+abbrev pub start_state : List ProcessImage → List ThreadEntry → ℕ → List ℕ → State
 start_state images entries free keys = record {
   pages = images_pages 0 images ++ threads_pages 0 entries;
   threads = start_threads 0 entries;

@@ -1,0 +1,20 @@
+-- The plain machine that a bundle starts.
+use Rattle.std.specs.Prelude.{ℕ, ◌<◌, ◌^◌, List, length}
+use Rattle.std.specs.List.{AllByRecursion}
+use Rattle.sb_bundle.specs.declared.bundle.Image.{Image}
+use Rattle.sb_bundle.specs.declared.bundle.CoreStart.{CoreStart}
+use Rattle.sb_trace.specs.Start.{ProcessImage, ThreadEntry}
+
+abbrev pub image_of : Image → ProcessImage
+image_of image = record { text = image.text; initial = image.initial; heap_pages = image.heap_pages }
+
+-- a core runs the thread of its number
+abbrev pub entry_of : CoreStart → ThreadEntry
+entry_of core = record { home = core.process; address = core.entry }
+
+-- texts and data whose lengths are below 2 ^ 32
+abbrev pub FitsPages : Image → Type 0
+FitsPages image = (length image.text < 2 ^ 32) × (length image.initial < 2 ^ 32)
+
+abbrev pub AllFit : List Image → Type 0
+AllFit images = AllByRecursion FitsPages images
