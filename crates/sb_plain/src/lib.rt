@@ -2,5 +2,6 @@
 #![tactic(auto)]
 
 mod pages;
+mod windows;
 
 pub use pages::Pages;
