@@ -1,2 +1,4 @@
+pub mod Loads
 pub mod Names
 pub mod Places
+pub mod Reached

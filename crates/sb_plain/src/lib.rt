@@ -1,7 +1,11 @@
 //! The plain machine.
 #![tactic(auto)]
 
+mod load;
 mod pages;
+mod reach;
+mod state;
 mod windows;
 
 pub use pages::Pages;
+pub use state::PlainState;
