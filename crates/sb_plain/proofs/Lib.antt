@@ -2,3 +2,4 @@ pub mod Loads
 pub mod Names
 pub mod Places
 pub mod Reached
+pub mod Spots

@@ -13,7 +13,7 @@ use Rattle.sb_trace.specs.Windows.{page_seen}
 use Rattle.sb_trace.specs.PlainMemory.{plain_byte, byte_seen, byte_in, is_canonical, fault_at}
 use Rattle.sb_plain.specs.Reach.{reached, reached_as}
 
-abbrev byte_of : State → ℕ → PageName → Result ℕ BusStop
+abbrev pub byte_of : State → ℕ → PageName → Result ℕ BusStop
 byte_of state address name = Ok (byte_in state name (address % 4096))
 
 permitted_by : (test : Bool) (state : State) (name : PageName) (stop : BusStop) (address : ℕ)

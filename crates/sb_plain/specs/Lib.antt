@@ -1,2 +1,3 @@
 pub mod Places
 pub mod Reach
+pub mod Spots

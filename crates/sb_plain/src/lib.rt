@@ -5,6 +5,7 @@ mod load;
 mod pages;
 mod reach;
 mod state;
+mod store;
 mod windows;
 
 pub use pages::Pages;
