@@ -1,3 +1,6 @@
+pub mod Loads
 pub mod Names
 pub mod Places
 pub mod Starting
+pub mod Reached
+pub mod Spots

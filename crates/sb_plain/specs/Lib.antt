@@ -1,2 +1,4 @@
 pub mod Places
 pub mod Start
+pub mod Reach
+pub mod Spots

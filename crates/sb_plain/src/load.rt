@@ -1,0 +1,49 @@
+//! Bytes and numbers read from the memory of a thread in a view.
+
+ghost use Rattle.std.specs.Prelude.{◌≡◌, ◌≤◌, ◌<◌, ◌^◌, IfOk};
+ghost use Rattle.sb_exec.specs.Access.{byte_for, loaded_from};
+ghost use Rattle.sb_trace.specs.PlainMemory.{plain_byte};
+
+use crate::reach::reach;
+use crate::state::PlainState;
+use sb_exec::BusStop;
+use sb_memory::{Access, Linear};
+
+/// The byte at an address, for an access.
+#[tactic(auto, using(crate::proofs::Reached::byte_reached, crate::proofs::Reached::byte_refused))]
+pub fn byte(
+    state: &PlainState,
+    thread: u32,
+    view: u32,
+    at: Linear,
+    access: Access,
+) -> Result<u8, BusStop>
+    ensures { result ≡ plain_byte thread view state.now at.0 access }
+{
+    let (_, page) = reach(state, thread, view, at, access)?;
+    let offset = (at.0 % 4096) as usize;
+    Ok(page.bytes.items().get(offset).copied().unwrap_or(0))
+}
+
+/// The number of some bytes from an address upwards, its lowest byte first.
+#[tactic(auto, using(crate::proofs::Loads::loaded_none, crate::proofs::Loads::loaded_stop, crate::proofs::Loads::loaded_stop_later, crate::proofs::Loads::loaded_more, crate::proofs::Loads::number_fits, crate::proofs::Loads::number_below))]
+pub fn load(
+    state: &PlainState,
+    thread: u32,
+    view: u32,
+    at: Linear,
+    size: u8,
+    access: Access,
+) -> Result<u64, BusStop>
+    requires { size ≤ 8 }
+    ensures answer { result ≡ loaded_from (byte_for (plain_byte thread view state.now) access) at.0 size }
+    ensures range { IfOk result (λ number. number < 256 ^ size) }
+{
+    if size == 0 {
+        return Ok(0);
+    }
+    let lowest = byte(state, thread, view, at, access)?;
+    let next = Linear(at.0.wrapping_add(1));
+    let others = load(state, thread, view, next, size - 1, access)?;
+    Ok(u64::from(lowest) + 256 * others)
+}

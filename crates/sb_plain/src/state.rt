@@ -1,0 +1,40 @@
+//! The state of the plain machine.
+
+ghost use Rattle.std.specs.Prelude.{◌≡◌};
+
+use crate::pages::Pages;
+use sb_trace::Thread;
+use std::marker::Model;
+
+/// All that the plain machine is. To contracts it is the state of the definitions.
+#[derive(Drop)]
+pub struct PlainState {
+    pub(crate) pages: Pages,
+    pub(crate) threads: Vec<Thread>,
+    /// The number of free frames.
+    pub(crate) free: u32,
+    /// The key words that are left.
+    pub(crate) keys: Vec<u64>,
+}
+
+impl Model for PlainState {
+    ghost use Rattle.sb_trace.specs.State.{State};
+
+    ghost Value = { State };
+
+    ghost view = { λ state. record { pages = state.pages; threads = state.threads.items; free = state.free; keys = state.keys.items } };
+}
+
+impl PlainState {
+    /// The state of these parts.
+    pub fn new(pages: Pages, threads: Vec<Thread>, free: u32, keys: Vec<u64>) -> PlainState
+        ensures { result ≡ record { pages = pages; threads = threads.items; free = free; keys = keys.items } }
+    {
+        PlainState {
+            pages,
+            threads,
+            free,
+            keys,
+        }
+    }
+}
