@@ -7,3 +7,4 @@ pub mod Laws
 pub mod Fetched
 pub mod OneFetch
 pub mod Stops
+pub mod Keeps

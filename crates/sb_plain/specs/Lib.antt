@@ -2,3 +2,4 @@ pub mod Places
 pub mod Start
 pub mod Reach
 pub mod Spots
+pub mod Faults

@@ -1,9 +1,11 @@
 //! The plain machine.
 #![tactic(auto)]
 
+mod instruction;
 mod load;
 mod pages;
 mod start;
+mod step;
 mod reach;
 mod state;
 mod store;

@@ -1,5 +1,8 @@
 -- The state of the plain machine: pages by name, processes, threads, and what is left to be given out.
-use Rattle.std.specs.Prelude.{ℕ, List, [], ◌∷◌, Option, Some, None, slice_set, if◌then◌else◌}
+use Rattle.std.specs.Prelude.{ℕ, false, List, [], ◌∷◌, Option, Some, None, slice_get, slice_set, unwrap_or, if◌then◌else◌}
+use Rattle.sb_insn.specs.declared.registers.Regs.{Regs}
+use Rattle.sb_trace.specs.declared.end.EndKind.{EndKind}
+use Rattle.sb_trace.specs.declared.end.EndKind.TheVariants.{Ended}
 use Rattle.sb_trace.specs.declared.page.PageName.{PageName}
 use Rattle.sb_trace.specs.declared.page.Page.{Page}
 use Rattle.sb_trace.specs.declared.state.Thread.{Thread}
@@ -40,5 +43,26 @@ with_contents state name bytes = record state { pages = replaced state.pages nam
 
 -- ---- threads by number
 
+-- in place of a thread that is not there: one that has ended
+unfoldable pub no_thread : Thread
+no_thread = record {
+  home = 0;
+  regs = record { general = []; rip = 0; flags = record { cf = false; pf = false; zf = false; sf = false; of = false } };
+  view = 0;
+  bindings = [];
+  state = Ended 0;
+}
+
+unfoldable pub thread_at : State → ℕ → Thread
+thread_at state number = unwrap_or (slice_get state.threads number) no_thread
+
 abbrev pub with_thread : State → ℕ → Thread → State
 with_thread state number thread = record state { threads = slice_set state.threads number thread }
+
+-- the thread of this number has these registers
+unfoldable pub with_regs : State → ℕ → Regs → State
+with_regs state number regs = with_thread state number (record (thread_at state number) { regs = regs })
+
+-- the thread of this number goes on, or has ended so
+unfoldable pub with_end : State → ℕ → EndKind → State
+with_end state number end = with_thread state number (record (thread_at state number) { state = end })

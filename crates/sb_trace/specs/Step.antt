@@ -1,5 +1,5 @@
 -- A step of the plain machine: an instruction is fetched and executed, and then the kernel does its part.
-use Rattle.std.specs.Prelude.{◌≡◌, ℕ, ◌+◌, ◌==◌, Some, if◌then◌else◌, Result, Ok, Err, slice_get, slice_index, slice_set}
+use Rattle.std.specs.Prelude.{◌≡◌, ℕ, ◌+◌, ◌==◌, Some, if◌then◌else◌, Result, Ok, Err, slice_index, slice_set}
 use Rattle.sb_insn.specs.declared.insn.Insn.{Insn}
 use Rattle.sb_insn.specs.declared.registers.Regs.{Regs}
 use Rattle.sb_insn.specs.Registers.{flags_image}
@@ -18,7 +18,7 @@ use Rattle.sb_trace.specs.declared.event.Event.TheVariants.{Step as StepLine, Pr
 use Rattle.sb_trace.specs.declared.end.EndKind.{EndKind}
 use Rattle.sb_trace.specs.declared.end.EndKind.TheVariants.{Running, Ended, Faulted}
 use Rattle.sb_trace.specs.declared.state.Thread.{Thread}
-use Rattle.sb_trace.specs.State.{State, with_thread}
+use Rattle.sb_trace.specs.State.{State, thread_at, with_regs, with_end}
 use Rattle.sb_trace.specs.PlainMemory.{plain}
 
 -- what a step does: its line, and the state after it
@@ -46,70 +46,69 @@ abbrev pub rdi : Regs → ℕ
 rdi regs = slice_index regs.general 7
 
 -- exit, with the status in RDI: the thread ends, and RAX and RDX stay
-abbrev pub exited : Insn → Thread → Thread
-exited insn thread = record thread { regs = entered insn thread.regs; state = Ended (rdi thread.regs) }
+abbrev pub exited : State → ℕ → Insn → Regs → State
+exited state number insn regs = with_end (with_regs state number (entered insn regs)) number (Ended (rdi regs))
 
 -- another call, with its answer
-abbrev pub returned : Insn → ℕ → Thread → Thread
-returned insn answer thread = record thread { regs = answered (entered insn thread.regs) answer }
+abbrev pub returned : State → ℕ → Insn → Regs → ℕ → State
+returned state number insn regs answer = with_regs state number (answered (entered insn regs) answer)
 
 -- 0 is exit, 1 prints RDI; every other number is answered 21
-abbrev pub called : State → ℕ → Thread → Insn → ℕ → Outcome
-called state number thread insn call =
-    if call == 0 then (Exit (rdi thread.regs), with_thread state number (exited insn thread))
-    else if call == 1 then (Printed (rdi thread.regs), with_thread state number (returned insn 0 thread))
-    else (Sys call 21, with_thread state number (returned insn 21 thread))
+abbrev pub called : State → ℕ → Insn → Regs → ℕ → Outcome
+called state number insn regs call =
+    if call == 0 then (Exit (rdi regs), exited state number insn regs)
+    else if call == 1 then (Printed (rdi regs), returned state number insn regs 0)
+    else (Sys call 21, returned state number insn regs 21)
 
 -- ---- faults
 
 -- a fault ends the thread with its registers as before the step
-abbrev pub faulted : State → ℕ → Thread → FaultKind → ℕ → Outcome
-faulted state number thread kind address =
-    (Fault kind address, with_thread state number (record thread { state = Faulted kind address }))
+abbrev pub faulted : State → ℕ → FaultKind → ℕ → Outcome
+faulted state number kind address = (Fault kind address, with_end state number (Faulted kind address))
 
--- what stops a step is a fault: the plain machine has each page that it names
-abbrev pub StopsWith : State → ℕ → Thread → BusStop → Outcome → Type 0
-StopsWith state number thread (FaultStop kind address) outcome = outcome ≡ faulted state number thread kind address.0
-StopsWith state number thread (Missing frame) outcome = ⊥
+-- What stops a step is a fault: this memory never lacks a frame.
+abbrev pub StopsWith : State → ℕ → BusStop → Outcome → Type 0
+StopsWith state number (FaultStop kind address) outcome = outcome ≡ faulted state number kind address.0
+StopsWith state number (Missing frame) outcome = ⊥
 
 -- ---- the step
 
--- by the effect of the instruction, where it left these registers, and this state
-abbrev pub done : State → ℕ → Thread → Insn → Effect → Regs → State → Outcome
-done state number thread insn Next regs new = (StepLine thread.regs.rip, with_thread new number (record thread { regs = regs }))
-done state number thread insn Syscall regs new = called state number thread insn (rax thread.regs)
-done state number thread insn Undefined regs new = faulted state number thread kind.Undefined thread.regs.rip
-done state number thread insn Switch regs new = faulted state number thread kind.Switch thread.regs.rip
+-- By the effect of the instruction, which began with these registers and left others, and another state. No text that is
+-- loaded holds VMFUNC; until there are calls, it is refused.
+abbrev pub done : State → ℕ → Insn → Regs → Effect → Regs → State → Outcome
+done state number insn regs Next regs' state' = (StepLine regs.rip, with_regs state' number regs')
+done state number insn regs Syscall regs' state' = called state number insn regs (rax regs)
+done state number insn regs Undefined regs' state' = faulted state number kind.Undefined regs.rip
+done state number insn regs Switch regs' state' = faulted state number kind.Switch regs.rip
 
-abbrev pub PerformsBy : State → ℕ → Thread → Insn → Result Effect BusStop → Regs → State → Outcome → Type 0
-PerformsBy state number thread insn (Ok effect) regs new outcome = outcome ≡ done state number thread insn effect regs new
-PerformsBy state number thread insn (Err stop) regs new outcome = StopsWith state number thread stop outcome
+abbrev pub PerformsBy : State → ℕ → Insn → Regs → Result Effect BusStop → Regs → State → Outcome → Type 0
+PerformsBy state number insn regs (Ok effect) regs' state' outcome = outcome ≡ done state number insn regs effect regs' state'
+PerformsBy state number insn regs (Err stop) regs' state' outcome = StopsWith state number stop outcome
 
--- what the instruction leaves in the memory of the thread's view
-abbrev pub executed : State → ℕ → Thread → Insn → Execution State (Unit {0})
-executed state number thread insn = execution_of (plain number thread.view) (row_of insn thread.regs) thread.regs state tt
+-- what the instruction leaves in the memory of a thread's view
+abbrev pub executed : State → ℕ → ℕ → Insn → Regs → Execution State (Unit {0})
+executed state number view insn regs = execution_of (plain number view) (row_of insn regs) regs state tt
 
-abbrev pub Performs : State → ℕ → Thread → Insn → Outcome → Type 0
-Performs state number thread insn outcome =
-    PerformsBy state number thread insn (executed state number thread insn).answer (executed state number thread insn).registers
-    (executed state number thread insn).meaning outcome
+abbrev pub Performs : State → ℕ → ℕ → Insn → Regs → Outcome → Type 0
+Performs state number view insn regs outcome =
+    PerformsBy state number insn regs (executed state number view insn regs).answer (executed state number view insn regs).registers
+    (executed state number view insn regs).meaning outcome
 
-abbrev pub FollowsFetch : State → ℕ → Thread → Result Insn BusStop → Outcome → Type 0
-FollowsFetch state number thread (Ok insn) outcome = Performs state number thread insn outcome
-FollowsFetch state number thread (Err stop) outcome = StopsWith state number thread stop outcome
+abbrev pub FollowsFetch : State → ℕ → ℕ → Regs → Result Insn BusStop → Outcome → Type 0
+FollowsFetch state number view regs (Ok insn) outcome = Performs state number view insn regs outcome
+FollowsFetch state number view regs (Err stop) outcome = StopsWith state number stop outcome
 
--- a running thread fetches its next instruction
-abbrev pub RunsOn : State → ℕ → Thread → Outcome → Type 0
-RunsOn state number thread outcome =
-    (fetched : Result Insn BusStop) × FetchesOn (plain number thread.view) state thread.regs.rip tt tt fetched
-    × FollowsFetch state number thread fetched outcome
+-- a running thread with these registers in this view
+abbrev pub RunsOn : State → ℕ → ℕ → Regs → Outcome → Type 0
+RunsOn state number view regs outcome =
+    (fetched : Result Insn BusStop) × FetchesOn (plain number view) state regs.rip tt tt fetched × FollowsFetch state number view regs fetched outcome
 
 -- a thread that has ended is idle
 abbrev pub StepsBy : State → ℕ → Thread → EndKind → Outcome → Type 0
-StepsBy state number thread Running outcome = RunsOn state number thread outcome
+StepsBy state number thread Running outcome = RunsOn state number thread.view thread.regs outcome
 StepsBy state number thread (Ended status) outcome = outcome ≡ (Idle, state)
 StepsBy state number thread (Faulted kind address) outcome = outcome ≡ (Idle, state)
 
 -- a step of a core, which runs the thread of its number
 abbrev pub Steps : State → ℕ → Event → State → Type 0
-Steps state core event new = (thread : Thread) × (slice_get state.threads core ≡ Some thread) × StepsBy state core thread thread.state (event, new)
+Steps state core event state' = StepsBy state core (thread_at state core) (thread_at state core).state (event, state')
