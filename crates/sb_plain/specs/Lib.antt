@@ -1,3 +1,5 @@
 pub mod Places
 pub mod Reach
 pub mod Spots
+pub mod ThreadMemory
+pub mod Faults
