@@ -1,6 +1,10 @@
+pub mod ByThread
+pub mod Faults
 pub mod Loads
 pub mod Names
 pub mod Places
 pub mod Starting
 pub mod Reached
 pub mod Spots
+pub mod Writing
+pub mod Threads

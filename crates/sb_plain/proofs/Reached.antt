@@ -1,5 +1,5 @@
 -- The byte at an address by the page that the access reaches.
-use Rattle.std.proofs.Common.{◌≡◌, ap, ℕ, ◌/◌, ◌%◌, Bool, true, false, refl, Result, Ok, Err}
+use Rattle.std.proofs.Common.{◌≡◌, ℕ, ◌/◌, ◌%◌, Bool, true, false, refl, Result, Ok, Err}
 use Rattle.std.specs.Prelude.{Option, Some, None, if◌then◌else◌, slice_index}
 use Rattle.sb_memory.specs.declared.address.Access.{Access}
 use Rattle.sb_memory.specs.Outcome.{and_then}
@@ -8,9 +8,9 @@ use Rattle.sb_trace.specs.declared.page.PageName.{PageName}
 use Rattle.sb_trace.specs.declared.page.Page.{Page}
 use Rattle.sb_trace.specs.declared.page.Seen.{Seen}
 use Rattle.sb_trace.specs.PageName.{permits}
-use Rattle.sb_trace.specs.State.{State, find_page, bytes_of, contents}
+use Rattle.sb_trace.specs.State.{State, find_page, contents}
 use Rattle.sb_trace.specs.Windows.{page_seen}
-use Rattle.sb_trace.specs.PlainMemory.{plain_byte, byte_seen, byte_in, is_canonical, fault_at}
+use Rattle.sb_trace.specs.PlainMemory.{plain_byte, byte_seen, byte_in, is_canonical}
 use Rattle.sb_plain.specs.Reach.{reached, reached_as}
 
 abbrev pub byte_of : State → ℕ → PageName → Result ℕ BusStop

@@ -1,8 +1,7 @@
 -- Where the bytes of a store go, by the lowest and the others.
-use Rattle.std.proofs.Common.{◌≡◌, ap, ◌∙◌, sym, ℕ, zero, suc, ◌+◌, ◌*◌, ◌%◌, ◌/◌, ◌^◌, ◌<◌, ◌≤◌, Bool, true, false, List, [], ◌∷◌, length, Result, Ok, Err, refl, arith}
+use Rattle.std.proofs.Common.{◌≡◌, ap, ◌∙◌, sym, ℕ, zero, suc, ◌+◌, ◌%◌, ◌/◌, ◌^◌, ◌<◌, Bool, true, false, List, [], ◌∷◌, length, Result, Ok, Err, refl, arith}
 use Rattle.std.specs.Prelude.{Option, Some, None, if◌then◌else◌}
-use Rattle.sb_memory.specs.declared.address.Access.{Access}
-use Rattle.sb_memory.specs.declared.address.Access.TheVariants.{Read, Write}
+use Rattle.sb_memory.specs.declared.address.Access.TheVariants.{Write}
 use Rattle.sb_memory.specs.Outcome.{and_then, done}
 use Rattle.sb_exec.specs.declared.stop.BusStop.{BusStop}
 use Rattle.sb_exec.specs.Access.{bytes_from, byte_for, store_answer}
@@ -11,7 +10,7 @@ use Rattle.sb_trace.specs.declared.page.Seen.{Seen}
 use Rattle.sb_trace.specs.PageName.{permits}
 use Rattle.sb_trace.specs.State.{State}
 use Rattle.sb_trace.specs.Windows.{page_seen}
-use Rattle.sb_trace.specs.PlainMemory.{Placed, plain_byte, byte_in, placed, placed_at, put_all, plain_stored, is_canonical, fault_at}
+use Rattle.sb_trace.specs.PlainMemory.{Placed, plain_byte, byte_in, placed, placed_at, put_all, plain_stored, is_canonical}
 use Rattle.sb_plain.specs.declared.store.Spot.{Spot}
 use Rattle.sb_plain.specs.Reach.{reached, reached_as}
 use Rattle.sb_plain.specs.Spots.{spot, spot_at, placed_in}

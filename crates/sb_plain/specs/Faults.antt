@@ -2,7 +2,7 @@
 use Rattle.sb_exec.specs.declared.stop.BusStop.{BusStop}
 use Rattle.sb_exec.specs.declared.stop.BusStop.TheVariants.{Fault, Missing}
 
--- a fault; no frame is missing
+-- a fault; no page is missing
 abbrev pub IsFault : BusStop → Type 0
 IsFault (Fault kind address) = Unit {0}
 IsFault (Missing frame) = ⊥

@@ -2,4 +2,5 @@ pub mod Places
 pub mod Start
 pub mod Reach
 pub mod Spots
+pub mod ThreadMemory
 pub mod Faults

@@ -8,27 +8,21 @@ ghost use Rattle.sb_exec.specs.Rows.{row_of};
 ghost use Rattle.sb_trace.specs.PlainMemory.{plain};
 ghost use Rattle.sb_plain.specs.Faults.{IsFault};
 
+use crate::bus::PlainBus;
 use crate::state::PlainState;
-use sb_exec::{BusStop, Effect, FaultKind};
-use sb_memory::Linear;
+use sb_exec::{BusStop, Effect, execute, fetch_insn};
 use sb_insn::{Insn, Regs};
 
 /// The instruction at an address, in a view of a thread.
 ///
 /// Each error is a fault: a byte that cannot be fetched, or bytes with which no instruction begins.
-pub fn fetch_next(
-    state: &mut PlainState,
-    thread: u32,
-    view: u16,
-    rip: u64,
-) -> Result<Insn, BusStop>
+pub fn fetch_next(state: &mut PlainState, thread: u32, view: u16, rip: u64) -> Result<Insn, BusStop>
     ensures fetched { FetchesOn (plain thread view) state.old rip tt tt result }
     ensures valid { IfOk result IsValid }
     ensures fault { IfErr result IsFault }
     ensures same { state.new ≡ state.old }
 {
-    let _rip = rip;
-    Err(BusStop::Fault(FaultKind::Memory, Linear(0)))
+    fetch_insn(&mut PlainBus::new(state, thread, u32::from(view)), rip)
 }
 
 /// Executes an instruction in a view of a thread.
@@ -51,6 +45,9 @@ pub fn perform(
     ensures regs_left { result ≢ Ok Effect.Next → regs.new ≡ regs.old }
     ensures memory_left { result ≢ Ok Effect.Next → state.new ≡ state.old }
 {
-    regs.rip = 0;
-    Ok(Effect::Next)
+    execute(
+        insn,
+        regs,
+        &mut PlainBus::new(state, thread, u32::from(view)),
+    )
 }

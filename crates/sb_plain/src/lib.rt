@@ -1,13 +1,14 @@
 //! The plain machine.
 #![tactic(auto)]
 
+mod bus;
 mod instruction;
 mod load;
 mod pages;
-mod start;
-mod step;
 mod reach;
+mod start;
 mod state;
+mod step;
 mod store;
 mod windows;
 

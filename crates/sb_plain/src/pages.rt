@@ -79,7 +79,6 @@ impl Pages {
     }
 
     /// Where the page of this name stands.
-    #[tactic(auto, using(crate::proofs::Places::place_below))]
     fn place(&self, name: PageName) -> Option<usize>
         ensures place { result ≡ place_of self.now name }
         ensures within { IfSome result (λ place. place < length self.now) }
@@ -88,7 +87,7 @@ impl Pages {
     }
 
     /// The page of this name, if it is there.
-    #[tactic(auto, using(crate::proofs::Places::found_at, crate::proofs::Places::found_none))]
+    #[tactic(auto, using(crate::proofs::Places::found_none))]
     pub fn find(&self, name: PageName) -> Option<&Page>
         ensures { option_copied result ≡ find_page self.now name }
     {

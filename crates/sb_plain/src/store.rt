@@ -100,5 +100,12 @@ pub fn store(
     ensures written { state.new ≡ where_stored result (plain_stored thread view state.old at.0 size value) state.old }
 {
     let mut spots = [NOWHERE; 8];
-    store_by(state, thread, view, at, value, &mut spots[..usize::from(size)])
+    store_by(
+        state,
+        thread,
+        view,
+        at,
+        value,
+        &mut spots[..usize::from(size)],
+    )
 }
