@@ -1,11 +1,14 @@
 -- Pages that are made one after another.
-use Rattle.std.proofs.Common.{◌≡◌, ℕ, zero, suc, ◌+◌, ◌-◌, ◌<◌, ◌≤◌, ◌++◌, List, [], ◌∷◌, length, take, drop, map, replicate, ap, sym, ◌∙◌, refl, arith, append_assoc, subst}
+use Rattle.std.proofs.Common.{◌≡◌, ℕ, zero, suc, ◌+◌, ◌-◌, ◌^◌, ◌<◌, ◌≤◌, ◌++◌, List, [], ◌∷◌, length, take, drop, map, replicate, ap, sym, ◌∙◌, refl, arith, append_assoc, subst}
 use Rattle.std.proofs.lemmas.List.{take_all, replicate_more}
 use Rattle.std.proofs.Math.Seq.{append_snoc}
 use Rattle.sb_trace.specs.declared.page.Page.{Page}
 use Rattle.sb_trace.specs.Start.{pages_from, thread_pages, threads_pages}
 use Rattle.sb_bundle.specs.declared.bundle.CoreStart.{CoreStart}
-use Rattle.sb_plain.specs.Start.{entry_of}
+use Rattle.std.specs.List.{AllByRecursion}
+use Rattle.sb_bundle.specs.declared.bundle.Image.{Image}
+use Rattle.sb_bundle.specs.Limits.{IsImage}
+use Rattle.sb_plain.specs.Start.{entry_of, AllFit}
 
 -- bytes that are no whole page are their first page
 pub short_page : (bytes : List ℕ) → length bytes < 4096 → bytes ≡ take 4096 bytes
@@ -51,3 +54,11 @@ threads_more cores thread so_far grown whole below more all =
     let rest = threads_pages (thread + 1) (map entry_of (drop (thread + 1) cores)) in
     ap (λ (pages : List Page). pages ++ rest) more ∙ append_assoc so_far (thread_pages thread) rest
     ∙ ap (λ (pages : List Page). so_far ++ pages) (sym (threads_from cores thread thread below)) ∙ all
+
+-- the images of a bundle fit
+pub all_fit : (images : List Image) → AllByRecursion IsImage images → AllFit images
+all_fit [] are = tt
+all_fit (image ∷ images) (one, others) =
+    let text : length image.text < 2 ^ 32 = omega (arith, one.text) in
+    let initial : length image.initial < 2 ^ 32 = omega (arith, one.initial) in
+    ((text, initial), all_fit images others)

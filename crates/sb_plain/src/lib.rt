@@ -2,6 +2,7 @@
 #![tactic(auto)]
 
 mod bus;
+mod end;
 mod instruction;
 mod load;
 mod pages;

@@ -1,6 +1,6 @@
 //! The state of the plain machine.
 
-ghost use Rattle.std.specs.Prelude.{◌≡◌};
+ghost use Rattle.std.specs.Prelude.{◌≡◌, ◌<◌, ◌^◌, length};
 
 use crate::pages::Pages;
 use sb_trace::Thread;
@@ -18,16 +18,20 @@ pub struct PlainState {
 }
 
 impl Model for PlainState {
+    ghost use Rattle.std.specs.Prelude.{◌<◌, ◌^◌, length};
     ghost use Rattle.sb_trace.specs.State.{State};
 
     ghost Value = { State };
 
     ghost view = { λ state. record { pages = state.pages; threads = state.threads.items; free = state.free; keys = state.keys.items } };
+
+    ghost invariant = { λ state. length state.keys.items < 2 ^ 32 };
 }
 
 impl PlainState {
     /// The state of these parts.
     pub fn new(pages: Pages, threads: Vec<Thread>, free: u32, keys: Vec<u64>) -> PlainState
+        requires { length keys.items < 2 ^ 32 }
         ensures { result ≡ record { pages = pages; threads = threads.items; free = free; keys = keys.items } }
     {
         PlainState {
