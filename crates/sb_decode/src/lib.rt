@@ -19,7 +19,7 @@ mod number;
 ghost use Rattle.std.specs.Prelude.{◌≡◌, ◌<◌, ◌≤◌, length, IfOk, IsErrOf};
 ghost use Rattle.sb_decode.specs.Reading.{Gives};
 ghost use Rattle.sb_decode.specs.InsnReader.{parts_at, from_parts};
-ghost use Rattle.sb_decode.specs.Decode.{Decodes, NoneBeginsAnother, OneBegins, SpelledApart};
+ghost use Rattle.sb_decode.specs.Decode.{Decodes, NoneBeginsAnother, OneBegins, SpelledApart, OneAnswer};
 
 pub use fault::DecodeFault;
 use sb_insn::{Insn, cell_of, disp_kind, imm_kind};
@@ -43,11 +43,13 @@ pub fn decode(bytes: &[u8]) -> Result<(Insn, usize), DecodeFault>
     Ok((insn, bytes.len() - rest.len()))
 }
 
-/// A law of the grammar: no spelling begins another, so bytes begin with one instruction at most.
+/// A law of the grammar: no spelling begins another, so bytes begin with one instruction at most, and decoding them has
+/// one answer.
 pub fn one_spelling()
     ensures prefix { NoneBeginsAnother }
     ensures begins { OneBegins }
     ensures spelled { SpelledApart }
+    ensures answer { OneAnswer }
 {}
 
 /// The instruction, and the bytes behind it.
