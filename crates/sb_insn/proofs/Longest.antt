@@ -1,5 +1,5 @@
 -- The longest instruction has 13 bytes.
-use Rattle.std.proofs.Common.{◌≡◌, ℕ, ◌+◌, ◌≤◌, Bool, true, false, cond, ◌&&◌, List, [], ◌∷◌, ◌++◌, length, Option, Some, None, refl, arith, length-append}
+use Rattle.std.proofs.Common.{◌≡◌, ℕ, ◌+◌, ◌≤◌, Bool, true, false, ◌&&◌, ◌++◌, length, Option, Some, None, refl, arith, length-append}
 use Rattle.std.specs.Option.{option_to_list}
 use Rattle.sb_insn.specs.declared.insn.Insn.{Insn}
 use Rattle.sb_insn.specs.declared.insn.Op.{Op}
@@ -17,46 +17,14 @@ use Rattle.sb_insn.specs.declared.opcode_map.Group.{Group}
 use Rattle.sb_insn.specs.declared.opcode_map.Group.TheVariants.{Group1, Group2, Group3, Group5, Group11, Group16}
 use Rattle.sb_insn.specs.declared.opcode_map.OperandForm.{OperandForm}
 use Rattle.sb_insn.specs.declared.opcode_map.Operand.{Operand}
-use Rattle.std.specs.Prelude.{◌==◌}
-use Rattle.sb_insn.specs.OpcodeMap.{Row, is_of, look_up, one_byte, one_byte_rows, two_byte, two_byte_rows, cell_of}
-use Rattle.sb_insn.specs.Groups.{Extension, extended_by, extensions, group_operand, operand_of}
+use Rattle.sb_insn.specs.OpcodeMap.{one_byte, one_byte_rows, two_byte, two_byte_rows, cell_of}
+use Rattle.sb_insn.specs.Groups.{extended_by, extensions, group_operand, operand_of}
+use Rattle.sb_insn.proofs.Rows.{and_parts, looked_up, every_extension, some_holds, extended}
 use Rattle.sb_insn.specs.Spelling.{lock_bytes, op_bytes, disp_bytes, imm_bytes, front_bytes, spelling}
 use Rattle.sb_insn.specs.Fields.{kind_of_imm, kind_of_disp, imm_kind_of, rule_of, disp_kind_of, is_sib_field, is_modrm_field, operand_rule, reg_field}
 use Rattle.sb_insn.specs.Grammar.{IsValid}
 
--- ---- what holds of each row of a map holds of what is looked up
-
-abbrev pub every : (Cell → Bool) → List Row → Bool
-every holds [] = true
-every holds (row ∷ rows) = holds row.cell && every holds rows
-
-pub and_parts : (a b : Bool) → (a && b) ≡ true → (a ≡ true) × (b ≡ true)
-and_parts true b e = (refl, e)
-and_parts false b e = absurd cc
-
-pub looked_up : (holds : Cell → Bool) (opcode : ℕ) (rows : List Row) → holds Absent ≡ true → every holds rows ≡ true → holds (look_up opcode rows) ≡ true
-looked_up holds opcode [] absent e = absent
-looked_up holds opcode (row ∷ rows) absent e =
-    let parts = and_parts (holds row.cell) (every holds rows) e in
-    let rest = looked_up holds opcode rows absent parts.1 in
-    elim (is_of opcode row.opcodes) as (λ t. holds (cond t row.cell (look_up opcode rows)) ≡ true) [ true ↦ parts.0 | false ↦ rest ]
-
--- ---- what holds of each row of a group holds of its operand
-
-abbrev every_extension : (Operand → Bool) → List Extension → Bool
-every_extension holds [] = true
-every_extension holds (row ∷ rows) = holds row.operand && every_extension holds rows
-
-abbrev some_holds : (Operand → Bool) → Option Operand → Bool
-some_holds holds None = true
-some_holds holds (Some operand) = holds operand
-
-pub extended : (holds : Operand → Bool) (reg : ℕ) (rows : List Extension) → every_extension holds rows ≡ true → some_holds holds (extended_by reg rows) ≡ true
-extended holds reg [] e = refl
-extended holds reg (row ∷ rows) e =
-    let parts = and_parts (holds row.operand) (every_extension holds rows) e in
-    let rest = extended holds reg rows parts.1 in
-    elim (reg == row.digit) as (λ t. some_holds holds (cond t (Some row.operand) (extended_by reg rows)) ≡ true) [ true ↦ parts.0 | false ↦ rest ]
+-- ---- which immediates stand behind ModRM
 
 -- no eight bytes
 abbrev is_narrow : ImmRule → Bool
