@@ -1,5 +1,5 @@
 -- The fields behind the front are read exactly, each as the fields before it decide.
-use Rattle.std.proofs.Common.{◌≡◌, ℕ, pos, true, List, ◌++◌, Option, refl, arith}
+use Rattle.std.proofs.Common.{ℕ, pos, List, ◌++◌, Option, refl, arith}
 use Rattle.std.specs.Option.{option_to_list}
 use Rattle.sb_insn.specs.declared.insn.Disp.{Disp}
 use Rattle.sb_insn.specs.declared.insn.Disp.TheVariants as disp
@@ -9,20 +9,17 @@ use Rattle.sb_insn.specs.declared.insn.DispKind.{DispKind}
 use Rattle.sb_insn.specs.declared.insn.DispKind.TheVariants as disp_kinds
 use Rattle.sb_insn.specs.declared.insn.ImmKind.{ImmKind}
 use Rattle.sb_insn.specs.declared.insn.ImmKind.TheVariants as imm_kinds
-use Rattle.sb_insn.specs.declared.insn.Op.{Op}
-use Rattle.sb_insn.specs.declared.insn.Op.TheVariants.{One, Two, Endbr, Vmfunc}
-use Rattle.sb_insn.specs.OpcodeMap.{cell_of, one_byte, one_byte_rows, two_byte, two_byte_rows}
+use Rattle.sb_insn.specs.OpcodeMap.{cell_of}
 use Rattle.sb_insn.specs.Spelling.{disp_bytes, imm_bytes}
 use Rattle.sb_insn.specs.Fields.{disp_kind_of, rule_of, imm_kind_of}
-use Rattle.sb_insn.proofs.Longest.{looked_up}
 use Rattle.sb_decode.specs.declared.front.Front.{Front}
 use Rattle.sb_decode.specs.Reading.{Read, and_then}
 use Rattle.sb_decode.specs.FieldReaders.{modrm_at, sib_at, disp_at, imm_at}
 use Rattle.sb_decode.proofs.Reader.{Reads, both}
 use Rattle.sb_decode.proofs.Tail.{GoodDisp, GoodImm, disp_reads, imm_reads}
 use Rattle.sb_decode.proofs.Sib.{GoodSib, sib_reads, some_sib}
-use Rattle.sb_decode.proofs.Modrm.{GoodModrm, modrm_reads, some_modrm, is_open}
-use Rattle.sb_decode.proofs.Opcodes.{GoodFront}
+use Rattle.sb_decode.proofs.Modrm.{GoodModrm, modrm_reads, some_modrm}
+use Rattle.sb_decode.proofs.Prefixes.{GoodFront}
 
 -- ---- the displacement and the immediate
 
@@ -88,23 +85,16 @@ rest_at front =
     and_then (modrm_at (cell_of front.op) front.lock front.rex)
     (λ modrm. and_then (sib_at modrm) (λ sib. and_then (disp_at (disp_kind_of modrm sib)) (λ d. imm_at (imm_kind_at front modrm))))
 
-open_cell : (op : Op) → is_open (cell_of op) ≡ true
-unfolding one_byte two_byte
-open_cell (One opcode) = looked_up is_open opcode one_byte_rows refl refl
-open_cell (Two opcode) = looked_up is_open opcode two_byte_rows refl refl
-open_cell Endbr = refl
-open_cell Vmfunc = refl
-
 pub rest_reads : (front : Front) → GoodFront front → Reads Rest (GoodRest front) spell_rest (rest_at front)
 rest_reads front good =
     both (Option ℕ) (Option ℕ × (Disp × Imm)) (GoodModrm (cell_of front.op) front.lock front.rex) (λ modrm. GoodBehind modrm (imm_kind_at front modrm)) (λ modrm. option_to_list modrm) spell_behind
     (modrm_at (cell_of front.op) front.lock front.rex)
     (λ modrm. and_then (sib_at modrm) (λ sib. and_then (disp_at (disp_kind_of modrm sib)) (λ d. imm_at (imm_kind_at front modrm))))
-    (modrm_reads (cell_of front.op) front.lock front.rex (open_cell front.op) good.takes)
+    (modrm_reads (cell_of front.op) front.lock front.rex good.takes)
     (λ modrm fits. behind_reads modrm (imm_kind_at front modrm)) (λ modrm fits. some_behind modrm (imm_kind_at front modrm))
 
 pub some_rest : (front : Front) → GoodFront front → (rest : Rest) × GoodRest front rest
 some_rest front good =
-    let modrm = some_modrm (cell_of front.op) front.lock front.rex (open_cell front.op) good.takes in
+    let modrm = some_modrm (cell_of front.op) front.lock front.rex good.takes in
     let behind = some_behind modrm.0 (imm_kind_at front modrm.0) in
     ((modrm.0, behind.0), (modrm.1, behind.1))

@@ -18,7 +18,7 @@ use Rattle.sb_decode.specs.InsnReader.{Parts, parts_at, insn_of, from_parts}
 use Rattle.sb_decode.specs.Decode.{Decodes, NoneBeginsAnother, OneBegins, SpelledApart}
 use Rattle.sb_decode.proofs.Reader.{IsBytes, Reads, both, one}
 use Rattle.sb_decode.proofs.Modrm.{modrm_takes_prefixes}
-use Rattle.sb_decode.proofs.Opcodes.{GoodFront, spell_front, front_reads}
+use Rattle.sb_decode.proofs.Prefixes.{GoodFront, spell_front, front_reads}
 use Rattle.sb_decode.proofs.Behind.{Rest, GoodRest, spell_rest, rest_at, rest_reads, some_rest}
 
 -- ---- the whole

@@ -1,125 +1,126 @@
--- The front of an instruction, prefixes and opcode, is read exactly.
-use Rattle.std.proofs.Common.{◌≡◌, ℕ, Bool, true, false, not, eqb, List, [], ◌∷◌, ◌++◌, Option, Some, None, Ok, Err, refl, sym, ap, subst, ◌∙◌, append_assoc}
+-- The opcode, behind prefixes that are read already, is read exactly.
+use Rattle.std.proofs.Common.{◌≡◌, ℕ, Bool, true, false, cond, eqb, List, [], ◌∷◌, ◌++◌, Option, Ok, Err, refl, sym, ap, subst, ◌∙◌, append_assoc}
 use Rattle.std.proofs.lemmas.Bool.{eqb-true}
 use Rattle.sb_insn.specs.declared.insn.Op.{Op}
 use Rattle.sb_insn.specs.declared.insn.Op.TheVariants.{One, Two, Endbr, Vmfunc}
-use Rattle.sb_insn.specs.OpcodeMap.{cell_of, one_byte, one_byte_rows, two_byte, two_byte_rows}
-use Rattle.sb_insn.specs.Spelling.{op_bytes, front_bytes}
-use Rattle.sb_insn.specs.Fields.{is_rex_field}
-use Rattle.sb_insn.proofs.Longest.{looked_up}
+use Rattle.sb_insn.specs.OpcodeMap.{cell_of, one_byte, two_byte}
+use Rattle.sb_insn.specs.Spelling.{op_bytes}
 use Rattle.sb_decode.specs.declared.fault.DecodeFault.TheVariants.{Short, Undecoded}
 use Rattle.sb_decode.specs.declared.front.Front.{Front}
 use Rattle.sb_decode.specs.Reading.{Read}
-use Rattle.sb_decode.specs.FrontReader.{bare, takes_prefixes, checked, second_at, front_at}
-use Rattle.sb_decode.proofs.Reader.{Reads, by_test}
-
--- a front with which some valid instruction begins
-pub record GoodFront (front : Front) : Type 0 where
-  pub rex : is_rex_field front.rex ≡ true
-  pub takes : takes_prefixes (cell_of front.op) front.lock front.rex ≡ true
-
-abbrev pub spell_front : Front → List ℕ
-spell_front front = front_bytes front.lock front.rex front.op
-
-abbrev front_of : Bool → Option ℕ → Op → Front
-front_of lock rex op = record { lock = lock; rex = rex; op = op }
-
-bare_good : (op : Op) → takes_prefixes (cell_of op) false None ≡ true → GoodFront (bare op)
-bare_good op takes = record { rex = refl; takes = takes }
+use Rattle.sb_decode.specs.FrontReader.{front_of, takes_prefixes, checked, expected, ending, second_at, opcode_at}
+use Rattle.sb_decode.proofs.LeftOut.{no_0F, no_F3, no_0F_01, differs}
+use Rattle.sb_decode.proofs.Reader.{by_test}
 
 -- ---- what is spelled so is read
 
--- 0F leads to the second map, and is no opcode of the first
-no_0F : takes_prefixes (one_byte 0x0F) false None ≡ false
-unfolding one_byte
-no_0F = refl
-
-not_0F : (opcode : ℕ) → takes_prefixes (one_byte opcode) false None ≡ true → eqb opcode 0x0F ≡ false
-not_0F opcode takes =
-    elim (eqb opcode 0x0F) as (λ t. eqb opcode 0x0F ≡ t → t ≡ false) [
-      | true ↦ λ e. let bad : takes_prefixes (one_byte opcode) false None ≡ false = ap (λ (k : ℕ). takes_prefixes (one_byte k) false None) (eqb-true _ _ e) ∙ no_0F in absurd cc
-      | false ↦ λ e. refl
-    ] refl
-
--- no row has LOCK
-no_lock : (op : Op) → takes_prefixes (cell_of op) true None ≡ true → ⊥
-unfolding one_byte two_byte
-no_lock (One opcode) e =
-    let none = looked_up (λ cell. not (takes_prefixes cell true None)) opcode one_byte_rows refl refl in
-    let turned : not (takes_prefixes (one_byte opcode) true None) ≡ false = ap (λ (t : Bool). not t) e in cc
-no_lock (Two opcode) e =
-    let none = looked_up (λ cell. not (takes_prefixes cell true None)) opcode two_byte_rows refl refl in
-    let turned : not (takes_prefixes (two_byte opcode) true None) ≡ false = ap (λ (t : Bool). not t) e in cc
-no_lock Endbr e = cc
-no_lock Vmfunc e = cc
-
-again_bare : (op : Op) (rest : List ℕ) → takes_prefixes (cell_of op) false None ≡ true → front_at (op_bytes op ++ rest) ≡ Ok (bare op, rest)
-unfolding front_at second_at
-again_bare (One opcode) rest takes = let other = not_0F opcode takes in rw (other, takes) refl
-again_bare (Two opcode) rest takes = rw takes refl
-again_bare Endbr rest takes = absurd cc
-again_bare Vmfunc rest takes = absurd cc
-
-again_front : (lock : Bool) (rex : Option ℕ) (op : Op) (rest : List ℕ) → GoodFront (front_of lock rex op) → front_at (front_bytes lock rex op ++ rest) ≡ Ok (front_of lock rex op, rest)
-again_front lock (Some byte) op rest good = let bad : is_rex_field (Some byte) ≡ true = good.rex in absurd cc
-again_front true None op rest good = absurd (no_lock op good.takes)
-again_front false None op rest good = again_bare op rest good.takes
+pub again_opcode : (lock : Bool) (rex : Option ℕ) (op : Op) (rest : List ℕ) → takes_prefixes (cell_of op) lock rex ≡ true → opcode_at lock rex (op_bytes op ++ rest) ≡ Ok (front_of lock rex op, rest)
+unfolding opcode_at second_at
+again_opcode lock rex (One opcode) rest takes =
+    let not_0F = differs one_byte opcode 0x0F lock rex takes no_0F in
+    let not_F3 = differs one_byte opcode 0xF3 lock rex takes no_F3 in
+    rw (not_0F, not_F3, takes) refl
+again_opcode lock rex (Two opcode) rest takes = let not_01 = differs two_byte opcode 0x01 lock rex takes no_0F_01 in rw (not_01, takes) refl
+again_opcode lock rex Endbr rest takes = rw takes refl
+again_opcode lock rex Vmfunc rest takes = rw takes refl
 
 -- ---- what is read is spelled so, what is refused stays so, and what is too short can be completed
 
--- what the reader says of the bytes behind the ones that are read already
-abbrev Told : (List ℕ → Read Front) → List ℕ → List ℕ → Read Front → Type 0
-Told read before bytes (Ok got) = GoodFront got.0 × (before ++ bytes ≡ spell_front got.0 ++ got.1)
-Told read before bytes (Err Short) = (more : List ℕ) × (front : Front) × GoodFront front × ((before ++ bytes) ++ more ≡ spell_front front)
-Told read before bytes (Err Undecoded) = (more : List ℕ) → read (bytes ++ more) ≡ Err Undecoded
+-- what is said of the bytes behind the first ones of an opcode
+abbrev ToldExpected : List ℕ → Front → List ℕ → Read Front → Type 0
+ToldExpected wanted front bytes (Ok got) = (got.0 ≡ front) × (bytes ≡ wanted ++ got.1)
+ToldExpected wanted front bytes (Err Short) = (more : List ℕ) × (bytes ++ more ≡ wanted)
+ToldExpected wanted front bytes (Err Undecoded) = (more : List ℕ) → expected wanted front (bytes ++ more) ≡ Err Undecoded
 
-told_checked : (before : List ℕ) (op : Op) (bytes : List ℕ) → op_bytes op ≡ before → Told (checked (bare op)) before bytes (checked (bare op) bytes)
-told_checked before op bytes is =
-    by_test (λ (q : Read Front). Told (checked (bare op)) before bytes q) (takes_prefixes (cell_of op) false None) (Ok (bare op, bytes)) (Err Undecoded)
-    (λ t. (bare_good op t, ap (λ (s : List ℕ). s ++ bytes) (sym is)))
+one_more : (want byte : ℕ) (wanted : List ℕ) (front : Front) (rest : List ℕ) (q : Read Front) → eqb byte want ≡ true → byte ≡ want
+    → ToldExpected wanted front rest q → ToldExpected (want ∷ wanted) front (byte ∷ rest) q
+one_more want byte wanted front rest (Ok got) t e told = (told.0, cc (told.1, e))
+one_more want byte wanted front rest (Err Short) t e told = (told.0, cc (told.1, e))
+one_more want byte wanted front rest (Err Undecoded) t e told = λ more. rw t (told more)
+
+told_expected : (wanted : List ℕ) (front : Front) (bytes : List ℕ) → ToldExpected wanted front bytes (expected wanted front bytes)
+told_expected [] front bytes = (refl, refl)
+told_expected (want ∷ wanted) front [] = (want ∷ wanted, refl)
+told_expected (want ∷ wanted) front (byte ∷ rest) =
+    by_test (λ (q : Read Front). ToldExpected (want ∷ wanted) front (byte ∷ rest) q) (eqb byte want) (expected wanted front rest) (Err Undecoded)
+    (λ t. one_more want byte wanted front rest (expected wanted front rest) t (eqb-true _ _ t) (told_expected wanted front rest))
+    (λ t more. rw t refl)
+
+-- what the reader says of the bytes behind these prefixes and the bytes of the opcode that are read already
+abbrev pub Told : (List ℕ → Read Front) → List ℕ → Bool → Option ℕ → List ℕ → Read Front → Type 0
+Told read before lock rex bytes (Ok got) = (op : Op) × (front_of lock rex op ≡ got.0) × (takes_prefixes (cell_of op) lock rex ≡ true) × (before ++ bytes ≡ op_bytes op ++ got.1)
+Told read before lock rex bytes (Err Short) = (more : List ℕ) × (op : Op) × (takes_prefixes (cell_of op) lock rex ≡ true) × ((before ++ bytes) ++ more ≡ op_bytes op)
+Told read before lock rex bytes (Err Undecoded) = (more : List ℕ) → read (bytes ++ more) ≡ Err Undecoded
+
+ending_by : (wanted before : List ℕ) (lock : Bool) (rex : Option ℕ) (op : Op) (bytes : List ℕ) → op_bytes op ≡ before ++ wanted → takes_prefixes (cell_of op) lock rex ≡ true
+    → (q : Read Front) → ToldExpected wanted (front_of lock rex op) bytes q → Told (ending wanted (front_of lock rex op)) before lock rex bytes q
+ending_by wanted before lock rex op bytes is takes (Ok got) told = (
+  op,
+  sym told.0,
+  takes,
+  ap (λ (s : List ℕ). before ++ s) told.1 ∙ sym (append_assoc before wanted got.1) ∙ ap (λ (s : List ℕ). s ++ got.1) (sym is),
+)
+ending_by wanted before lock rex op bytes is takes (Err Short) told = (told.0, op, takes, append_assoc before bytes told.0 ∙ ap (λ (s : List ℕ). before ++ s) told.1 ∙ sym is)
+ending_by wanted before lock rex op bytes is takes (Err Undecoded) told = λ more. rw takes (told more)
+
+told_ending : (wanted before : List ℕ) (lock : Bool) (rex : Option ℕ) (op : Op) (bytes : List ℕ) → op_bytes op ≡ before ++ wanted
+    → Told (ending wanted (front_of lock rex op)) before lock rex bytes (ending wanted (front_of lock rex op) bytes)
+told_ending wanted before lock rex op bytes is =
+    by_test (λ (q : Read Front). Told (ending wanted (front_of lock rex op)) before lock rex bytes q) (takes_prefixes (cell_of op) lock rex) (expected wanted (front_of lock rex op) bytes) (Err Undecoded)
+    (λ t. ending_by wanted before lock rex op bytes is t (expected wanted (front_of lock rex op) bytes) (told_expected wanted (front_of lock rex op) bytes))
+    (λ t more. rw t refl)
+
+told_checked : (before : List ℕ) (lock : Bool) (rex : Option ℕ) (op : Op) (bytes : List ℕ) → op_bytes op ≡ before → Told (checked (front_of lock rex op)) before lock rex bytes (checked (front_of lock rex op) bytes)
+told_checked before lock rex op bytes is =
+    by_test (λ (q : Read Front). Told (checked (front_of lock rex op)) before lock rex bytes q) (takes_prefixes (cell_of op) lock rex) (Ok (front_of lock rex op, bytes)) (Err Undecoded)
+    (λ t. (op, refl, t, ap (λ (s : List ℕ). s ++ bytes) (sym is)))
     (λ t more. rw t refl)
 
 -- the same with one byte more before, which the reader reads first
-told_behind : (read next : List ℕ → Read Front) (before : List ℕ) (byte : ℕ) (rest : List ℕ) → ((more : List ℕ) → read (byte ∷ more) ≡ next more)
-    → (q : Read Front) → Told next (before ++ byte ∷ []) rest q → Told read before (byte ∷ rest) q
-told_behind read next before byte rest reads (Ok got) told = (told.0, sym (append_assoc before (byte ∷ []) rest) ∙ told.1)
-told_behind read next before byte rest reads (Err Short) told = (told.0, told.1, told.2, ap (λ (t : List ℕ). t ++ told.0) (sym (append_assoc before (byte ∷ []) rest)) ∙ told.3)
-told_behind read next before byte rest reads (Err Undecoded) told = λ more. reads (rest ++ more) ∙ told more
+told_behind : (read next : List ℕ → Read Front) (before : List ℕ) (byte : ℕ) (lock : Bool) (rex : Option ℕ) (rest : List ℕ) → ((more : List ℕ) → read (byte ∷ more) ≡ next more)
+    → (q : Read Front) → Told next (before ++ byte ∷ []) lock rex rest q → Told read before lock rex (byte ∷ rest) q
+told_behind read next before byte lock rex rest reads (Ok got) told = (told.0, told.1, told.2, sym (append_assoc before (byte ∷ []) rest) ∙ told.3)
+told_behind read next before byte lock rex rest reads (Err Short) told = (told.0, told.1, told.2, ap (λ (t : List ℕ). t ++ told.0) (sym (append_assoc before (byte ∷ []) rest)) ∙ told.3)
+told_behind read next before byte lock rex rest reads (Err Undecoded) told = λ more. reads (rest ++ more) ∙ told more
 
-takes_31 : takes_prefixes (one_byte 0x31) false None ≡ true
+-- ADD and CMPXCHG take all prefixes
+pub takes_01 : (lock : Bool) (rex : Option ℕ) → takes_prefixes (one_byte 0x01) lock rex ≡ true
 unfolding one_byte
-takes_31 = refl
+takes_01 true rex = refl
+takes_01 false rex = refl
 
-takes_0F_05 : takes_prefixes (two_byte 0x05) false None ≡ true
+takes_0F_B1 : (lock : Bool) (rex : Option ℕ) → takes_prefixes (two_byte 0xB1) lock rex ≡ true
 unfolding two_byte
-takes_0F_05 = refl
+takes_0F_B1 true rex = refl
+takes_0F_B1 false rex = refl
 
-told_second : (bytes : List ℕ) → Told second_at (0x0F ∷ []) bytes (second_at bytes)
+told_second : (lock : Bool) (rex : Option ℕ) (bytes : List ℕ) → Told (second_at lock rex) (0x0F ∷ []) lock rex bytes (second_at lock rex bytes)
 unfolding second_at
-told_second [] = (0x05 ∷ [], bare (Two 0x05), bare_good (Two 0x05) takes_0F_05, refl)
-told_second (opcode ∷ rest) =
-    told_behind second_at (checked (bare (Two opcode))) (0x0F ∷ []) opcode rest (λ more. refl) (checked (bare (Two opcode)) rest)
-    (told_checked (0x0F ∷ opcode ∷ []) (Two opcode) rest refl)
+told_second lock rex [] = (0xB1 ∷ [], Two 0xB1, takes_0F_B1 lock rex, refl)
+told_second lock rex (opcode ∷ rest) =
+    let last = ending (0xD4 ∷ []) (front_of lock rex Vmfunc) in
+    let whole = checked (front_of lock rex (Two opcode)) in
+    by_test (λ (q : Read Front). Told (second_at lock rex) (0x0F ∷ []) lock rex (opcode ∷ rest) q) (eqb opcode 0x01) (last rest) (whole rest)
+    (λ t. let is = eqb-true _ _ t in
+    told_behind (second_at lock rex) last (0x0F ∷ []) opcode lock rex rest (λ more. rw t refl) (last rest)
+    (told_ending (0xD4 ∷ []) (0x0F ∷ opcode ∷ []) lock rex Vmfunc rest (cc (is))))
+    (λ t. told_behind (second_at lock rex) whole (0x0F ∷ []) opcode lock rex rest (λ more. rw t refl) (whole rest)
+    (told_checked (0x0F ∷ opcode ∷ []) lock rex (Two opcode) rest refl))
 
-told_front : (bytes : List ℕ) → Told front_at [] bytes (front_at bytes)
-unfolding front_at
-told_front [] = (0x31 ∷ [], bare (One 0x31), bare_good (One 0x31) takes_31, refl)
-told_front (opcode ∷ rest) =
-    by_test (λ (q : Read Front). Told front_at [] (opcode ∷ rest) q) (eqb opcode 0x0F) (second_at rest) (checked (bare (One opcode)) rest)
+pub told_opcode : (lock : Bool) (rex : Option ℕ) (bytes : List ℕ) → Told (opcode_at lock rex) [] lock rex bytes (opcode_at lock rex bytes)
+unfolding opcode_at
+told_opcode lock rex [] = (0x01 ∷ [], One 0x01, takes_01 lock rex, refl)
+told_opcode lock rex (opcode ∷ rest) =
+    let P : Read Front → Type 0 = λ q. Told (opcode_at lock rex) [] lock rex (opcode ∷ rest) q in
+    let last = ending (0x0F ∷ 0x1E ∷ 0xFA ∷ []) (front_of lock rex Endbr) in
+    let whole = checked (front_of lock rex (One opcode)) in
+    by_test P (eqb opcode 0x0F) (second_at lock rex rest) (cond (eqb opcode 0xF3) (last rest) (whole rest))
     (λ t. let is : 0x0F ≡ opcode = sym (eqb-true _ _ t) in
-    told_behind front_at second_at [] opcode rest (λ more. rw t refl) (second_at rest)
-    (subst (λ (k : ℕ). Told second_at (k ∷ []) rest (second_at rest)) is (told_second rest)))
-    (λ t. told_behind front_at (checked (bare (One opcode))) [] opcode rest (λ more. rw t refl) (checked (bare (One opcode)) rest)
-    (told_checked (opcode ∷ []) (One opcode) rest refl))
-
--- what the reader told, at the answer that it gave
-told_at : (bytes : List ℕ) (q : Read Front) → front_at bytes ≡ q → Told front_at [] bytes q
-told_at bytes q e = subst (λ (q : Read Front). Told front_at [] bytes q) e (told_front bytes)
-
-pub front_reads : Reads Front GoodFront spell_front front_at
-front_reads = record {
-  takes = λ bytes front rest fits e. told_at bytes (Ok (front, rest)) e;
-  again = λ front rest good. again_front front.lock front.rex front.op rest good;
-  final = λ bytes more fits e. told_at bytes (Err Undecoded) e more;
-  opens = λ bytes fits e. told_at bytes (Err Short) e;
-}
+    told_behind (opcode_at lock rex) (second_at lock rex) [] opcode lock rex rest (λ more. rw t refl) (second_at lock rex rest)
+    (subst (λ (k : ℕ). Told (second_at lock rex) (k ∷ []) lock rex rest (second_at lock rex rest)) is (told_second lock rex rest)))
+    (λ f. by_test P (eqb opcode 0xF3) (last rest) (whole rest)
+    (λ t. let is = eqb-true _ _ t in
+    told_behind (opcode_at lock rex) last [] opcode lock rex rest (λ more. rw (f, t) refl) (last rest)
+    (told_ending (0x0F ∷ 0x1E ∷ 0xFA ∷ []) (opcode ∷ []) lock rex Endbr rest (cc (is))))
+    (λ t. told_behind (opcode_at lock rex) whole [] opcode lock rex rest (λ more. rw (f, t) refl) (whole rest)
+    (told_checked (opcode ∷ []) lock rex (One opcode) rest refl)))

@@ -25,3 +25,7 @@ OneBegins = (bytes : List ℕ) (first second : Insn) → BeginsWith bytes first 
 -- different instructions have different spellings
 abbrev pub SpelledApart : Type 0
 SpelledApart = (bytes : List ℕ) (first second : Insn) → Spells bytes first → Spells bytes second → first ≡ second
+
+-- the grammar gives one answer
+abbrev pub OneAnswer : Type 0
+OneAnswer = (bytes : List ℕ) (first second : Result (Insn × ℕ) DecodeFault) → Decodes bytes first → Decodes bytes second → first ≡ second

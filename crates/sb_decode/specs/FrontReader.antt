@@ -1,35 +1,80 @@
 -- Reading the front of an instruction: its prefixes and its opcode.
-use Rattle.std.specs.Prelude.{ℕ, Bool, false, not, ◌&&◌, ◌||◌, ◌==◌, if◌then◌else◌, List, [], ◌∷◌, Option, None, Ok, Err}
+use Rattle.std.specs.Prelude.{ℕ, Bool, true, false, not, ◌&&◌, ◌||◌, ◌==◌, if◌then◌else◌, List, [], ◌∷◌, Option, Some, None, Ok, Err}
 use Rattle.sb_insn.specs.declared.insn.Op.{Op}
-use Rattle.sb_insn.specs.declared.insn.Op.TheVariants.{One, Two}
+use Rattle.sb_insn.specs.declared.insn.Op.TheVariants.{One, Two, Endbr, Vmfunc}
+use Rattle.sb_insn.specs.declared.opcode_map.Group.{Group}
+use Rattle.sb_insn.specs.declared.opcode_map.Group.TheVariants.{Group1, Group2, Group3, Group5, Group11, Group16}
 use Rattle.sb_insn.specs.declared.opcode_map.Cell.{Cell}
-use Rattle.sb_insn.specs.declared.opcode_map.Cell.TheVariants.{Absent, Plain, ModRm}
+use Rattle.sb_insn.specs.declared.opcode_map.Cell.TheVariants.{Absent, Plain, ModRm, Extended}
 use Rattle.sb_insn.specs.OpcodeMap.{cell_of}
-use Rattle.sb_insn.specs.Fields.{permits_rex}
+use Rattle.sb_insn.specs.Fields.{is_rex, permits_rex}
 use Rattle.sb_decode.specs.declared.fault.DecodeFault.TheVariants.{Short, Undecoded}
 use Rattle.sb_decode.specs.declared.front.Front.{Front}
 use Rattle.sb_decode.specs.Reading.{Read}
 
--- an opcode without prefixes
-abbrev pub bare : Op → Front
-bare op = record { lock = false; rex = None; op = op }
+abbrev pub front_of : Bool → Option ℕ → Op → Front
+front_of lock rex op = record { lock = lock; rex = rex; op = op }
+
+-- ---- does the opcode go with the prefixes?
+
+-- some row of the group has LOCK
+abbrev pub group_locks : Group → Bool
+group_locks Group1 = true
+group_locks Group2 = false
+group_locks Group3 = true
+group_locks Group5 = true
+group_locks Group11 = false
+group_locks Group16 = false
 
 -- some instruction with an opcode of this cell has these prefixes
 abbrev pub takes_prefixes : Cell → Bool → Option ℕ → Bool
 takes_prefixes Absent lock rex = false
-takes_prefixes (Plain rule imm) lock rex = not lock && permits_rex rule rex
+takes_prefixes (Plain plain) lock rex = not lock && permits_rex plain.rex rex
 takes_prefixes (ModRm operand) lock rex = not lock || operand.lock
+takes_prefixes (Extended group form imm) lock rex = not lock || group_locks group
+
+abbrev pub is_front : Front → Bool
+is_front front = takes_prefixes (cell_of front.op) front.lock front.rex
 
 -- the whole front is read: does its opcode go with its prefixes?
 abbrev pub checked : Front → List ℕ → Read Front
-checked front rest = if takes_prefixes (cell_of front.op) front.lock front.rex then Ok (front, rest) else Err Undecoded
+checked front rest = if is_front front then Ok (front, rest) else Err Undecoded
 
--- behind 0F
-unfoldable pub second_at : List ℕ → Read Front
-second_at [] = Err Short
-second_at (opcode ∷ rest) = checked (bare (Two opcode)) rest
+-- ---- opcodes of more bytes
 
--- No instruction has a prefix yet, so the first byte is the opcode or 0F.
+-- these bytes, and no others, may stand here
+abbrev pub expected : List ℕ → Front → List ℕ → Read Front
+expected [] front bytes = Ok (front, bytes)
+expected (want ∷ wanted) front [] = Err Short
+expected (want ∷ wanted) front (byte ∷ rest) = if byte == want then expected wanted front rest else Err Undecoded
+
+-- an opcode whose last bytes are these
+abbrev pub ending : List ℕ → Front → List ℕ → Read Front
+ending wanted front bytes = if is_front front then expected wanted front bytes else Err Undecoded
+
+-- ---- the front
+
+-- behind 0F: the two-byte map, and VMFUNC
+unfoldable pub second_at : Bool → Option ℕ → List ℕ → Read Front
+second_at lock rex [] = Err Short
+second_at lock rex (opcode ∷ rest) =
+    if opcode == 0x01 then ending (0xD4 ∷ []) (front_of lock rex Vmfunc) rest
+    else checked (front_of lock rex (Two opcode)) rest
+
+-- behind the prefixes: the one-byte map, the way to the two-byte map, and ENDBR64
+unfoldable pub opcode_at : Bool → Option ℕ → List ℕ → Read Front
+opcode_at lock rex [] = Err Short
+opcode_at lock rex (opcode ∷ rest) =
+    if opcode == 0x0F then second_at lock rex rest
+    else if opcode == 0xF3 then ending (0x0F ∷ 0x1E ∷ 0xFA ∷ []) (front_of lock rex Endbr) rest
+    else checked (front_of lock rex (One opcode)) rest
+
+-- behind LOCK: REX, if it stands
+unfoldable pub rex_at : Bool → List ℕ → Read Front
+rex_at lock [] = Err Short
+rex_at lock (byte ∷ rest) = if is_rex byte then opcode_at lock (Some byte) rest else opcode_at lock None (byte ∷ rest)
+
+-- LOCK, if it stands
 unfoldable pub front_at : List ℕ → Read Front
 front_at [] = Err Short
-front_at (opcode ∷ rest) = if opcode == 0x0F then second_at rest else checked (bare (One opcode)) rest
+front_at (byte ∷ rest) = if byte == 0xF0 then rex_at true rest else rex_at false (byte ∷ rest)

@@ -13,7 +13,7 @@ use sb_insn::{Cell, Disp, DispKind, Imm, ImmKind, permits_modrm, wants_sib};
 fn is_alone(cell: Cell) -> bool
     ensures { result ≡ is_alone cell }
 {
-    matches!(cell, Cell::Plain(_, _))
+    matches!(cell, Cell::Plain(_))
 }
 
 /// ModRM, where the opcode has it.

@@ -1,11 +1,11 @@
 //! The front of an instruction: its prefixes and its opcode.
 
-ghost use Rattle.std.specs.Prelude.{◌≡◌};
-ghost use Rattle.sb_decode.specs.FrontReader.{bare, takes_prefixes, checked, second_at, front_at};
+ghost use Rattle.std.specs.Prelude.{◌≡◌, [], ◌∷◌};
+ghost use Rattle.sb_decode.specs.FrontReader.{front_of, group_locks, takes_prefixes, is_front, checked, ending, second_at, opcode_at, rex_at, front_at};
 ghost use Rattle.sb_decode.specs.Reading.{Gives};
 
 use crate::fault::DecodeFault;
-use sb_insn::{Cell, Op, RexRule, cell_of};
+use sb_insn::{Cell, Group, Op, RexRule, cell_of, is_rex};
 
 /// The fields before ModRM.
 #[derive(Clone, Copy, Debug, PartialEq, Eq)]
@@ -18,14 +18,13 @@ pub struct Front {
     pub op: Op,
 }
 
-/// An opcode without prefixes.
-fn bare(op: Op) -> Front
-    ensures { result ≡ bare op }
+/// Whether some instruction of the group has LOCK.
+fn group_locks(group: Group) -> bool
+    ensures { result ≡ group_locks group }
 {
-    Front {
-        lock: false,
-        rex: None,
-        op,
+    match group {
+        Group::Group1 | Group::Group3 | Group::Group5 => true,
+        Group::Group2 | Group::Group11 | Group::Group16 => false,
     }
 }
 
@@ -35,9 +34,21 @@ fn takes_prefixes(cell: Cell, lock: bool, rex: Option<u8>) -> bool
 {
     match cell {
         Cell::Absent => false,
-        Cell::Plain(RexRule::Permitted, _) => !lock,
-        Cell::Plain(RexRule::Refused, _) => !lock && rex.is_none(),
+        Cell::Plain(plain) => match plain.rex {
+            RexRule::Permitted => !lock,
+            RexRule::Refused => !lock && rex.is_none(),
+        },
         Cell::ModRm(operand) => !lock || operand.lock,
+        Cell::Extended(group, _, _) => !lock || group_locks(group),
+    }
+}
+
+impl Front {
+    /// Whether some instruction begins with it.
+    fn is_begun(&self) -> bool
+        ensures { result ≡ is_front self.now }
+    {
+        takes_prefixes(cell_of(self.op), self.lock, self.rex)
     }
 }
 
@@ -45,21 +56,96 @@ fn takes_prefixes(cell: Cell, lock: bool, rex: Option<u8>) -> bool
 fn checked(front: Front, rest: &[u8]) -> Result<(Front, &[u8]), DecodeFault>
     ensures { Gives result (checked front rest.now) }
 {
-    if takes_prefixes(cell_of(front.op), front.lock, front.rex) {
+    if front.is_begun() {
         Ok((front, rest))
     } else {
         Err(DecodeFault::Undecoded)
     }
 }
 
+/// The bytes behind 0F 01: D4 makes VMFUNC.
+fn vmfunc(lock: bool, rex: Option<u8>, bytes: &[u8]) -> Result<(Front, &[u8]), DecodeFault>
+    ensures { Gives result (ending (0xD4 ∷ []) (front_of lock rex Op.Vmfunc) bytes.now) }
+{
+    let front = Front {
+        lock,
+        rex,
+        op: Op::Vmfunc,
+    };
+    if !front.is_begun() {
+        return Err(DecodeFault::Undecoded);
+    }
+    match bytes {
+        [] => Err(DecodeFault::Short),
+        [0xD4, rest @ ..] => Ok((front, rest)),
+        [_, ..] => Err(DecodeFault::Undecoded),
+    }
+}
+
+/// The bytes behind F3: 0F 1E FA make ENDBR64.
+fn endbr64(lock: bool, rex: Option<u8>, bytes: &[u8]) -> Result<(Front, &[u8]), DecodeFault>
+    ensures { Gives result (ending (0x0F ∷ 0x1E ∷ 0xFA ∷ []) (front_of lock rex Op.Endbr) bytes.now) }
+{
+    let front = Front {
+        lock,
+        rex,
+        op: Op::Endbr,
+    };
+    if !front.is_begun() {
+        return Err(DecodeFault::Undecoded);
+    }
+    match bytes {
+        [] | [0x0F] | [0x0F, 0x1E] => Err(DecodeFault::Short),
+        [0x0F, 0x1E, 0xFA, rest @ ..] => Ok((front, rest)),
+        _ => Err(DecodeFault::Undecoded),
+    }
+}
+
 /// The bytes behind 0F, which leads to the two-byte opcode map.
 #[tactic(auto, unfolding(crate::specs::FrontReader::second_at))]
-fn second(bytes: &[u8]) -> Result<(Front, &[u8]), DecodeFault>
-    ensures { Gives result (second_at bytes.now) }
+fn second(lock: bool, rex: Option<u8>, bytes: &[u8]) -> Result<(Front, &[u8]), DecodeFault>
+    ensures { Gives result (second_at lock rex bytes.now) }
 {
     match bytes {
         [] => Err(DecodeFault::Short),
-        [opcode, rest @ ..] => checked(bare(Op::Two(*opcode)), rest),
+        [0x01, rest @ ..] => vmfunc(lock, rex, rest),
+        [opcode, rest @ ..] => {
+            let op = Op::Two(*opcode);
+            checked(Front { lock, rex, op }, rest)
+        }
+    }
+}
+
+/// The bytes behind the prefixes.
+#[tactic(auto, unfolding(crate::specs::FrontReader::opcode_at))]
+fn opcode(lock: bool, rex: Option<u8>, bytes: &[u8]) -> Result<(Front, &[u8]), DecodeFault>
+    ensures { Gives result (opcode_at lock rex bytes.now) }
+{
+    match bytes {
+        [] => Err(DecodeFault::Short),
+        [0x0F, rest @ ..] => second(lock, rex, rest),
+        [0xF3, rest @ ..] => endbr64(lock, rex, rest),
+        [opcode, rest @ ..] => {
+            let op = Op::One(*opcode);
+            checked(Front { lock, rex, op }, rest)
+        }
+    }
+}
+
+/// The bytes behind LOCK, or the first ones where it does not stand.
+#[tactic(auto, unfolding(crate::specs::FrontReader::rex_at))]
+fn rex(lock: bool, bytes: &[u8]) -> Result<(Front, &[u8]), DecodeFault>
+    ensures { Gives result (rex_at lock bytes.now) }
+{
+    match bytes {
+        [] => Err(DecodeFault::Short),
+        [byte, rest @ ..] => {
+            if is_rex(*byte) {
+                opcode(lock, Some(*byte), rest)
+            } else {
+                opcode(lock, None, bytes)
+            }
+        }
     }
 }
 
@@ -70,7 +156,7 @@ pub fn read(bytes: &[u8]) -> Result<(Front, &[u8]), DecodeFault>
 {
     match bytes {
         [] => Err(DecodeFault::Short),
-        [0x0F, rest @ ..] => second(rest),
-        [opcode, rest @ ..] => checked(bare(Op::One(*opcode)), rest),
+        [0xF0, rest @ ..] => rex(true, rest),
+        [_, ..] => rex(false, bytes),
     }
 }

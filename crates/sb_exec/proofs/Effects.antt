@@ -1,110 +1,65 @@
--- Which instructions end in SYSCALL's or VMFUNC's effect.
-use Rattle.std.proofs.Common.{◌≡◌, ◌≢◌, sym, ap, subst, ℕ, Bool, true, false, nat_eq, refl, arith}
-use Rattle.std.specs.Prelude.{Result, Ok, Err}
-use Rattle.std.proofs.lemmas.Grind.{common_steps}
+-- The effect of a valid instruction is that of its opcode.
+use Rattle.std.proofs.Common.{◌≡◌, ◌∙◌, sym, subst, ℕ, Bool, true, false, Option, Some, None, refl}
 use Rattle.sb_insn.specs.declared.insn.Insn.{Insn}
 use Rattle.sb_insn.specs.declared.insn.Op.{Op}
 use Rattle.sb_insn.specs.declared.insn.Op.TheVariants.{One, Two, Endbr, Vmfunc}
-use Rattle.sb_insn.specs.declared.registers.Regs.{Regs}
-use Rattle.sb_exec.specs.declared.stop.BusStop.{BusStop}
-use Rattle.sb_exec.specs.declared.size.Size.{Size}
+use Rattle.sb_insn.specs.declared.opcode_map.Mnemonic.{Mnemonic}
+use Rattle.sb_insn.specs.declared.opcode_map.Mnemonic.TheVariants as mnemonic
+use Rattle.sb_insn.specs.declared.opcode_map.OperandForm.{OperandForm}
+use Rattle.sb_insn.specs.declared.opcode_map.Instruction.{Instruction}
+use Rattle.sb_insn.specs.Grammar.{IsValid}
+use Rattle.sb_insn.specs.Listing.{instruction_of}
+use Rattle.sb_insn.proofs.Listed.{valid_listed}
 use Rattle.sb_exec.specs.declared.action.Effect.{Effect}
 use Rattle.sb_exec.specs.declared.action.Effect.TheVariants as effect
-use Rattle.sb_exec.specs.declared.action.Action.{Action}
-use Rattle.sb_exec.specs.declared.action.Action.TheVariants.{Compute, Stop}
-use Rattle.sb_exec.specs.Operand.{operand_size}
-use Rattle.sb_exec.specs.Interface.{Interface}
-use Rattle.sb_exec.specs.Row.{accesses}
-use Rattle.sb_exec.specs.Execution.{execution_of, effect_after, run}
-use Rattle.sb_exec.specs.Actions.{action_of, action_by, one_byte_action, two_byte_action}
-use Rattle.sb_exec.specs.Rows.{effect_of, row_of, row_by, load_of, store_of}
+use Rattle.sb_exec.specs.Actions.{action_by, action_for, action_of}
+use Rattle.sb_exec.specs.Rows.{effect_of}
+use Rattle.sb_exec.proofs.Named.{mnemonic_effect, op_effect, Ends, op_ends}
 
--- neither SYSCALL nor VMFUNC
-abbrev pub is_quiet_effect : Effect → Bool
-is_quiet_effect effect.Next = true
-is_quiet_effect effect.Undefined = true
-is_quiet_effect _ = false
+named_effect : (name : Mnemonic) (form : OperandForm) (insn : Insn) → effect_of (action_by name form insn) ≡ mnemonic_effect name
+unfolding action_by effect_of
+named_effect mnemonic.Add form insn = refl
+named_effect mnemonic.Or form insn = refl
+named_effect mnemonic.And form insn = refl
+named_effect mnemonic.Sub form insn = refl
+named_effect mnemonic.Xor form insn = refl
+named_effect mnemonic.Cmp form insn = refl
+named_effect mnemonic.Test form insn = refl
+named_effect mnemonic.Mov form insn = refl
+named_effect mnemonic.Movzx form insn = refl
+named_effect mnemonic.Lea form insn = refl
+named_effect mnemonic.Not form insn = refl
+named_effect mnemonic.Neg form insn = refl
+named_effect mnemonic.Imul form insn = refl
+named_effect mnemonic.Shl form insn = refl
+named_effect mnemonic.Shr form insn = refl
+named_effect mnemonic.Sar form insn = refl
+named_effect mnemonic.Inc form insn = refl
+named_effect mnemonic.Dec form insn = refl
+named_effect mnemonic.Bsf form insn = refl
+named_effect mnemonic.Xchg form insn = refl
+named_effect mnemonic.Xadd form insn = refl
+named_effect mnemonic.Cmpxchg form insn = refl
+named_effect mnemonic.Push form insn = refl
+named_effect mnemonic.Pop form insn = refl
+named_effect mnemonic.Jmp form insn = refl
+named_effect mnemonic.Jcc form insn = refl
+named_effect mnemonic.Call form insn = refl
+named_effect mnemonic.Ret form insn = refl
+named_effect mnemonic.Nop form insn = refl
+named_effect mnemonic.Endbr64 form insn = refl
+named_effect mnemonic.Syscall form insn = refl
+named_effect mnemonic.Ud2 form insn = refl
+named_effect mnemonic.Vmfunc form insn = refl
 
-abbrev pub is_quiet : Action → Bool
-is_quiet (Stop effect) = is_quiet_effect effect
-is_quiet _ = true
+-- an instruction that the maps list has the effect of its opcode
+found_effect : (found : Option Instruction) (instruction : Instruction) (insn : Insn) (end : Effect)
+    → found ≡ Some instruction → Ends found end → effect_of (action_for found insn) ≡ end
+found_effect None instruction insn end listed ends = absurd cc
+found_effect (Some other) instruction insn end listed ends = named_effect other.mnemonic other.form insn ∙ ends
 
-one_byte_quiet : (opcode : ℕ) (size : Size) → is_quiet (one_byte_action opcode size) ≡ true
-unfolding one_byte_action
-one_byte_quiet opcode size = grind (arith, common_steps)
-
-two_byte_quiet : (opcode : ℕ) → nat_eq opcode 5 ≡ false → is_quiet (two_byte_action opcode) ≡ true
-unfolding two_byte_action
-two_byte_quiet opcode other = grind (arith, common_steps, other)
-
-quiet_effect : (action : Action) → is_quiet action ≡ true → is_quiet_effect (effect_of action) ≡ true
-unfolding effect_of
-quiet_effect (Stop effect) quiet = quiet
-quiet_effect (Compute operation form size usage) quiet = refl
-
-not_syscall : (end : Effect) → is_quiet_effect end ≡ true → end ≢ effect.Syscall
-not_syscall effect.Next quiet same = cc
-not_syscall effect.Undefined quiet same = cc
-not_syscall effect.Syscall quiet same = cc
-not_syscall effect.Switch quiet same = cc
-
-not_switch : (end : Effect) → is_quiet_effect end ≡ true → end ≢ effect.Switch
-not_switch effect.Next quiet same = cc
-not_switch effect.Undefined quiet same = cc
-not_switch effect.Syscall quiet same = cc
-not_switch effect.Switch quiet same = cc
-
--- ---- SYSCALL
-
-two_byte_syscall : (opcode : ℕ) (five : Bool) → nat_eq opcode 5 ≡ five → effect_of (two_byte_action opcode) ≡ effect.Syscall → Two opcode ≡ Two 5
-two_byte_syscall opcode true test ends = let is : opcode ≡ 5 = grind (arith, common_steps, test) in ap (λ number. Two number) is
-two_byte_syscall opcode false test ends = absurd (not_syscall _ (quiet_effect _ (two_byte_quiet opcode test)) ends)
-
-op_syscall : (op : Op) (size : Size) → effect_of (action_by op size) ≡ effect.Syscall → op ≡ Two 5
-unfolding effect_of
-op_syscall (One opcode) size ends = absurd (not_syscall _ (quiet_effect _ (one_byte_quiet opcode size)) ends)
-op_syscall (Two opcode) size ends = two_byte_syscall opcode (nat_eq opcode 5) refl ends
-op_syscall Endbr size ends = cc
-op_syscall Vmfunc size ends = cc
-
--- the answer tells the effect
-pub answer_effect : (effect end : Effect) (answer : Result ℕ BusStop) → effect_after effect answer ≡ Ok end → effect ≡ end
-answer_effect effect end (Ok loaded) same = cc
-answer_effect effect end (Err stop) same = cc
-
-pub syscall_ends : {M A : Type 0} (bus : Interface M A) (insn : Insn) (regs : Regs) (meaning : M) (account : A)
-    → (execution_of bus (row_of insn regs) regs meaning account).answer ≡ Ok effect.Syscall → insn.op ≡ Two 5
-unfolding execution_of row_of action_of
-syscall_ends bus insn regs meaning account ends =
-    op_syscall insn.op (operand_size insn) (answer_effect _ _ (run bus (accesses (row_of insn regs)) meaning account 0).answer ends)
-
-pub syscall_begins : {M A : Type 0} (bus : Interface M A) (insn : Insn) (regs : Regs) (meaning : M) (account : A)
-    → insn.op ≡ Two 5 → (execution_of bus (row_of insn regs) regs meaning account).answer ≡ Ok effect.Syscall
-unfolding execution_of row_of action_of two_byte_action load_of store_of effect_of
-syscall_begins bus insn regs meaning account is =
-    let P : Op → Type 0 = λ op. effect_after (row_by (action_by op (operand_size insn)) insn regs).effect
-    (run bus (accesses (row_by (action_by op (operand_size insn)) insn regs)) meaning account 0).answer ≡ Ok effect.Syscall in
-    subst P (sym is) refl
-
--- ---- VMFUNC
-
-op_switch : (op : Op) (size : Size) → effect_of (action_by op size) ≡ effect.Switch → op ≡ Vmfunc
-unfolding effect_of two_byte_action
-op_switch (One opcode) size ends = absurd (not_switch _ (quiet_effect _ (one_byte_quiet opcode size)) ends)
-op_switch (Two opcode) size ends = grind (arith, common_steps, ends)
-op_switch Endbr size ends = cc
-op_switch Vmfunc size ends = refl
-
-pub switch_ends : {M A : Type 0} (bus : Interface M A) (insn : Insn) (regs : Regs) (meaning : M) (account : A)
-    → (execution_of bus (row_of insn regs) regs meaning account).answer ≡ Ok effect.Switch → insn.op ≡ Vmfunc
-unfolding execution_of row_of action_of
-switch_ends bus insn regs meaning account ends =
-    op_switch insn.op (operand_size insn) (answer_effect _ _ (run bus (accesses (row_of insn regs)) meaning account 0).answer ends)
-
-pub switch_begins : {M A : Type 0} (bus : Interface M A) (insn : Insn) (regs : Regs) (meaning : M) (account : A)
-    → insn.op ≡ Vmfunc → (execution_of bus (row_of insn regs) regs meaning account).answer ≡ Ok effect.Switch
-unfolding execution_of row_of action_of load_of store_of effect_of
-switch_begins bus insn regs meaning account is =
-    let P : Op → Type 0 = λ op. effect_after (row_by (action_by op (operand_size insn)) insn regs).effect
-    (run bus (accesses (row_by (action_by op (operand_size insn)) insn regs)) meaning account 0).answer ≡ Ok effect.Switch in
-    subst P (sym is) refl
+pub valid_effect : (insn : Insn) → IsValid insn → effect_of (action_of insn) ≡ op_effect insn.op
+unfolding action_of instruction_of
+valid_effect insn valid =
+    let listed = valid_listed insn valid in
+    found_effect (instruction_of insn) listed.0 insn (op_effect insn.op) listed.1 (op_ends insn.op insn.modrm)

@@ -10,7 +10,7 @@ use Rattle.sb_exec.specs.declared.action.Store.{Store}
 use Rattle.sb_exec.specs.declared.action.Store.TheVariants as store
 use Rattle.sb_exec.specs.declared.action.After.{After}
 use Rattle.sb_exec.specs.declared.action.Action.{Action}
-use Rattle.sb_exec.specs.declared.action.Action.TheVariants.{Compute, Stop}
+use Rattle.sb_exec.specs.declared.action.Action.TheVariants.{Compute, ZeroExtend, LoadAddress, Exchange, Push, Pop, Return, Jump, JumpIf, Call, Pass, Stop}
 use Rattle.sb_exec.specs.Interface.{Interface}
 use Rattle.sb_exec.specs.Access.{where_stored}
 use Rattle.sb_exec.specs.Row.{Row}
@@ -54,14 +54,28 @@ left_next : {M A : Type 0} (bus : Interface M A) (first : Load) (last : Store) (
 unfolding load_then_store
 left_next bus first last after regs meaning account other = left_loaded bus first last after regs meaning _ _ other
 
+next_by : {M A : Type 0} (bus : Interface M A) (action : Action) (insn : Insn) (regs : Regs) (meaning : M) (account : A)
+    → (load_then_store bus (next_row (load_of action insn regs) (store_of action insn regs) (after_action action insn regs)) regs meaning account).answer ≢ Ok Next
+    → IsLeft (load_then_store bus (next_row (load_of action insn regs) (store_of action insn regs) (after_action action insn regs)) regs meaning account) regs meaning
+next_by bus action insn regs meaning account other =
+    left_next bus (load_of action insn regs) (store_of action insn regs) (after_action action insn regs) regs meaning account other
+
 left_by_action : {M A : Type 0} (bus : Interface M A) (action : Action) (insn : Insn) (regs : Regs) (meaning : M) (account : A)
     → (load_then_store bus (row_by action insn regs) regs meaning account).answer ≢ Ok Next
     → IsLeft (load_then_store bus (row_by action insn regs) regs meaning account) regs meaning
 unfolding load_then_store load_of store_of after_action effect_of
-left_by_action bus (Compute operation form size usage) insn regs meaning account other =
-    left_next bus (load_of (Compute operation form size usage) insn) (store_of (Compute operation form size usage) insn)
-    (after_action (Compute operation form size usage) insn regs) regs meaning account other
 left_by_action bus (Stop effect) insn regs meaning account other = (refl, refl)
+left_by_action bus (Compute operation form size) insn regs meaning account other = next_by bus (Compute operation form size) insn regs meaning account other
+left_by_action bus (ZeroExtend size) insn regs meaning account other = next_by bus (ZeroExtend size) insn regs meaning account other
+left_by_action bus (LoadAddress size) insn regs meaning account other = next_by bus (LoadAddress size) insn regs meaning account other
+left_by_action bus (Exchange exchange size) insn regs meaning account other = next_by bus (Exchange exchange size) insn regs meaning account other
+left_by_action bus (Push form) insn regs meaning account other = next_by bus (Push form) insn regs meaning account other
+left_by_action bus Pop insn regs meaning account other = next_by bus Pop insn regs meaning account other
+left_by_action bus Return insn regs meaning account other = next_by bus Return insn regs meaning account other
+left_by_action bus (Jump form) insn regs meaning account other = next_by bus (Jump form) insn regs meaning account other
+left_by_action bus (JumpIf number) insn regs meaning account other = next_by bus (JumpIf number) insn regs meaning account other
+left_by_action bus (Call form) insn regs meaning account other = next_by bus (Call form) insn regs meaning account other
+left_by_action bus Pass insn regs meaning account other = next_by bus Pass insn regs meaning account other
 
 steps_left : {M A : Type 0} (bus : Interface M A) (insn : Insn) (regs : Regs) (meaning : M) (account : A)
     → (load_then_store bus (row_of insn regs) regs meaning account).answer ≢ Ok Next

@@ -1,8 +1,9 @@
 pub mod Accesses
 pub mod Refused
 pub mod Left
+pub mod Named
 pub mod Effects
-pub mod Known
+pub mod Stopping
 pub mod Laws
 pub mod Fetched
 pub mod OneFetch

@@ -3,7 +3,13 @@ pub mod Interface
 pub mod Access
 pub mod Size
 pub mod Operand
+pub mod Address
 pub mod Arithmetic
+pub mod Shift
+pub mod Operated
+pub mod WriteBack
+pub mod Exchanged
+pub mod Branch
 pub mod Row
 pub mod Execution
 pub mod Actions

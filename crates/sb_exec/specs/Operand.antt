@@ -1,4 +1,4 @@
--- The operands of an instruction (SDM volume 2, sections 2.1 and 2.2.1).
+-- The fields of an instruction as numbers, and registers at a size (SDM volume 2, sections 2.1 and 2.2.1).
 use Rattle.std.specs.Prelude.{ℕ, ◌+◌, ◌*◌, ◌/◌, ◌%◌, ◌^◌, ◌==◌, ◌<◌, if◌then◌else◌, length, Option, Some, None, slice_index, slice_set, unwrap_or}
 use Rattle.std.specs.Int.{w64, cast_unsigned}
 use Rattle.sb_insn.specs.declared.insn.Insn.{Insn}
@@ -13,7 +13,7 @@ use Rattle.sb_exec.specs.declared.size.Size.{Size}
 use Rattle.sb_exec.specs.declared.size.Size.TheVariants.{Byte, Double, Quad}
 use Rattle.sb_exec.specs.declared.action.Place.{Place}
 use Rattle.sb_exec.specs.declared.action.Place.TheVariants.{Register, Memory}
-use Rattle.sb_exec.specs.Size.{modulus}
+use Rattle.sb_exec.specs.Size.{low}
 
 -- ---- fields
 
@@ -34,7 +34,7 @@ modrm_of insn = unwrap_or insn.modrm 0
 abbrev pub reg_number : Insn → ℕ
 reg_number insn = reg_field (modrm_of insn) + 8 * rex_bit insn 2
 
--- the register that rm names, where mod is 3
+-- the register that rm names
 abbrev pub rm_number : Insn → ℕ
 rm_number insn = rm_field (modrm_of insn) + 8 * rex_bit insn 0
 
@@ -66,22 +66,7 @@ imm_value (imm.I64 value) = cast_unsigned w64 value
 abbrev pub next_rip : Insn → Regs → ℕ
 next_rip insn regs = (regs.rip + length (spelling insn)) % 2 ^ 64
 
--- ---- places
-
--- The operand that ModRM names. It is a register: in each instruction of the subset mod is 3.
-unfoldable pub rm_place : Insn → Place
-rm_place insn = Register (rm_number insn)
-
--- there are sixteen registers
-abbrev pub IsPlace : Place → Type 0
-IsPlace (Register number) = number < 16
-IsPlace (Memory address) = Unit {0}
-
 -- ---- registers at a size
-
--- the lowest bits of a number
-unfoldable pub low : Size → ℕ → ℕ
-low size value = value % modulus size
 
 -- what a register holds
 abbrev pub general : Regs → ℕ → ℕ
@@ -101,6 +86,13 @@ merged Quad old value = value
 abbrev pub with_register : Size → ℕ → ℕ → Regs → Regs
 with_register size number value regs =
     record regs { general = slice_set regs.general number (merged size (general regs number) value) }
+
+-- ---- places
+
+-- there are sixteen registers
+abbrev pub IsPlace : Place → Type 0
+IsPlace (Register number) = number < 16
+IsPlace (Memory address) = Unit {0}
 
 -- the value of an operand, whose bytes were loaded if it is in memory
 abbrev pub operand_value : Size → Place → Regs → ℕ → ℕ

@@ -1,127 +1,130 @@
--- The rows of the actions, from operands, operations and write back.
-use Rattle.std.specs.Prelude.{ℕ, Option, Some, None}
+-- The row of each action: what it loads and stores, the registers after it, and its effect.
+use Rattle.std.specs.Prelude.{ℕ}
 use Rattle.sb_insn.specs.declared.insn.Insn.{Insn}
 use Rattle.sb_insn.specs.declared.registers.Regs.{Regs}
-use Rattle.sb_insn.specs.declared.registers.Flags.{Flags}
+use Rattle.sb_insn.specs.declared.opcode_map.OperandForm.{OperandForm}
+use Rattle.sb_insn.specs.declared.opcode_map.OperandForm.TheVariants as form
 use Rattle.sb_exec.specs.declared.size.Size.{Size}
+use Rattle.sb_exec.specs.declared.size.Size.TheVariants.{Byte, Quad}
 use Rattle.sb_exec.specs.declared.action.Effect.{Effect}
 use Rattle.sb_exec.specs.declared.action.Effect.TheVariants.{Next}
 use Rattle.sb_exec.specs.declared.action.Operation.{Operation}
-use Rattle.sb_exec.specs.declared.action.OperandForm.{OperandForm}
-use Rattle.sb_exec.specs.declared.action.OperandForm.TheVariants.{RmReg, OpcodeImm}
+use Rattle.sb_exec.specs.declared.action.Operation.TheVariants as operation
 use Rattle.sb_exec.specs.declared.action.MemoryUse.{MemoryUse}
 use Rattle.sb_exec.specs.declared.action.MemoryUse.TheVariants as memory_use
 use Rattle.sb_exec.specs.declared.action.Action.{Action}
-use Rattle.sb_exec.specs.declared.action.Action.TheVariants.{Compute, Stop}
+use Rattle.sb_exec.specs.declared.action.Action.TheVariants.{Compute, ZeroExtend, LoadAddress, Exchange, Push, Pop, Return, Jump, JumpIf, Call, Pass, Stop}
 use Rattle.sb_exec.specs.declared.action.Place.{Place}
 use Rattle.sb_exec.specs.declared.action.Place.TheVariants.{Register, Memory}
 use Rattle.sb_exec.specs.declared.action.Load.{Load}
 use Rattle.sb_exec.specs.declared.action.Load.TheVariants as load
 use Rattle.sb_exec.specs.declared.action.Store.{Store}
 use Rattle.sb_exec.specs.declared.action.Store.TheVariants as store
-use Rattle.sb_exec.specs.declared.action.Outcome.{Outcome}
 use Rattle.sb_exec.specs.declared.action.After.{After}
-use Rattle.sb_exec.specs.Operand.{reg_number, opcode_number, rm_place, operand_value, register, with_register, low, imm_value, next_rip}
-use Rattle.sb_exec.specs.Arithmetic.{operated}
+use Rattle.sb_exec.specs.Operand.{reg_number, opcode_number, general, with_register, next_rip}
+use Rattle.sb_exec.specs.Address.{linear, operand_address, rm_place}
+use Rattle.sb_exec.specs.WriteBack.{stepped, keeping, storing, rm_value, last_operand, computed}
+use Rattle.sb_exec.specs.Exchanged.{exchange_after}
+use Rattle.sb_exec.specs.Branch.{top_pushed, pushed, popped, popped_into, at_rip, target_of, jumped_if}
 use Rattle.sb_exec.specs.Row.{Row}
 use Rattle.sb_exec.specs.Actions.{action_of}
 
--- ---- parts
+-- ---- registers, and the number that is stored
 
--- the registers at the next instruction
-abbrev pub stepped : Insn → Regs → Regs
-stepped insn regs = record regs { rip = next_rip insn regs }
+-- a value that is written to the register that reg names
+abbrev pub into_reg : Size → ℕ → Insn → Regs → After
+into_reg size value insn regs = keeping (with_register size (reg_number insn) value (stepped insn regs))
 
--- the registers with other flags
-abbrev pub with_flags : Flags → Regs → Regs
-with_flags flags regs = record regs { flags = flags }
-
--- nothing is stored
-abbrev pub keeping : Regs → After
-keeping regs = record { regs = regs; stored = 0 }
-
--- this number is stored
-abbrev pub storing : Regs → ℕ → After
-storing regs value = record { regs = regs; stored = value }
-
--- a value that is written to a place: into its register, or as what is stored
-unfoldable pub written : Size → Place → ℕ → Regs → After
-written size (Register number) value regs = keeping (with_register size number value regs)
-written size (Memory address) value regs = storing regs value
-
--- ---- operands, operation, write back
-
--- where the result goes
-unfoldable pub destination : OperandForm → Insn → Place
-destination RmReg insn = rm_place insn
-destination OpcodeImm insn = Register (opcode_number insn)
-
--- the operand that the result replaces
-unfoldable pub first_operand : OperandForm → Size → Insn → Regs → ℕ → ℕ
-first_operand form size insn regs loaded = operand_value size (destination form insn) regs loaded
-
--- the operand that follows it
-unfoldable pub second_operand : OperandForm → Size → Insn → Regs → ℕ
-second_operand RmReg size insn regs = register size (reg_number insn) regs
-second_operand OpcodeImm size insn regs = low size (imm_value insn.imm)
-
--- a result that is written back, if there is one
-unfoldable pub written_back : Size → Place → Option ℕ → Regs → After
-written_back size place None regs = keeping regs
-written_back size place (Some value) regs = written size place value regs
-
--- an outcome that is written back, with its flags
-abbrev pub back : Size → Place → Outcome → Regs → After
-back size place outcome regs = written_back size place outcome.value (with_flags outcome.flags regs)
-
--- the result of an operation on the operands of a form, written back
-unfoldable pub computed : Operation → OperandForm → Size → Insn → Regs → ℕ → After
-computed operation form size insn regs loaded =
-    back size (destination form insn)
-    (operated operation size (first_operand form size insn regs loaded) (second_operand form size insn regs) regs.flags)
-    (stepped insn regs)
-
--- the registers after an action, and the number that it stores
+-- what is left after an action that loaded this number
 unfoldable pub after_action : Action → Insn → Regs → ℕ → After
-after_action (Compute operation form size usage) insn regs loaded = computed operation form size insn regs loaded
+after_action (Compute operation form size) insn regs loaded = computed operation form size insn regs loaded
+after_action (ZeroExtend size) insn regs loaded = into_reg size (rm_value Byte insn regs loaded) insn regs
+after_action (LoadAddress size) insn regs loaded = into_reg size (operand_address insn regs) insn regs
+after_action (Exchange exchange size) insn regs loaded = exchange_after exchange size insn regs loaded
+after_action (Push form) insn regs loaded = storing (pushed (stepped insn regs)) (last_operand form Quad insn regs loaded)
+after_action Pop insn regs loaded = keeping (popped_into (opcode_number insn) loaded (stepped insn regs))
+after_action Return insn regs loaded = keeping (at_rip loaded (popped regs))
+after_action (Jump form) insn regs loaded = keeping (at_rip (target_of form insn regs loaded) regs)
+after_action (JumpIf number) insn regs loaded = keeping (jumped_if number insn regs)
+after_action (Call form) insn regs loaded =
+    storing (at_rip (target_of form insn regs loaded) (pushed regs)) (next_rip insn regs)
+after_action Pass insn regs loaded = keeping (stepped insn regs)
 after_action (Stop effect) insn regs loaded = keeping regs
 
 -- ---- accesses
 
+-- what is done to the destination: comparisons only read it, MOV only writes it
+abbrev pub destination_use : Operation → MemoryUse
+destination_use operation.Compare = memory_use.Read
+destination_use operation.Test = memory_use.Read
+destination_use operation.Move = memory_use.Write
+destination_use _ = memory_use.Update
+
+-- what is done to the operand that mod and rm name: it is the destination, a source, or none
+unfoldable pub rm_use : OperandForm → MemoryUse → MemoryUse
+rm_use form.RmReg usage = usage
+rm_use form.RmImm usage = usage
+rm_use form.RmCount usage = usage
+rm_use form.RmCl usage = usage
+rm_use form.Rm usage = usage
+rm_use form.RegRm usage = memory_use.Read
+rm_use form.RegRmImm usage = memory_use.Read
+rm_use _ usage = memory_use.Nothing
+
 -- what is loaded of an operand that is in memory
 abbrev pub load_by : MemoryUse → Size → Place → Load
 load_by usage size (Register number) = load.Nothing
-load_by memory_use.Nothing size (Memory address) = load.Nothing
+load_by memory_use.Read size (Memory address) = load.Read address size
 load_by memory_use.Update size (Memory address) = load.ReadToWrite address size
+load_by _ size (Memory address) = load.Nothing
 
 -- what is stored to it
 abbrev pub store_by : MemoryUse → Size → Place → Store
 store_by usage size (Register number) = store.Nothing
-store_by memory_use.Nothing size (Memory address) = store.Nothing
 store_by memory_use.Update size (Memory address) = store.At address size
+store_by memory_use.Write size (Memory address) = store.At address size
+store_by _ size (Memory address) = store.Nothing
+
+-- what is pushed or jumped to is loaded, if it is in memory
+abbrev pub load_source : OperandForm → Insn → Regs → Load
+load_source form insn regs = load_by (rm_use form memory_use.Read) Quad (rm_place insn regs)
 
 -- what an action loads
-unfoldable pub load_of : Action → Insn → Load
-load_of (Compute operation form size usage) insn = load_by usage size (rm_place insn)
-load_of (Stop effect) insn = load.Nothing
+unfoldable pub load_of : Action → Insn → Regs → Load
+load_of (Compute operation form size) insn regs = load_by (rm_use form (destination_use operation)) size (rm_place insn regs)
+load_of (ZeroExtend size) insn regs = load_by memory_use.Read Byte (rm_place insn regs)
+load_of (Exchange exchange size) insn regs = load_by memory_use.Update size (rm_place insn regs)
+load_of (Push form) insn regs = load_source form insn regs
+load_of (Jump form) insn regs = load_source form insn regs
+load_of (Call form) insn regs = load_source form insn regs
+load_of Pop insn regs = load.Read (linear (general regs 4)) Quad
+load_of Return insn regs = load.Read (linear (general regs 4)) Quad
+load_of _ insn regs = load.Nothing
+
+-- 8 bytes are stored below the top of the stack
+abbrev pub store_below : Regs → Store
+store_below regs = store.At (linear (top_pushed regs)) Quad
 
 -- what an action stores
-unfoldable pub store_of : Action → Insn → Store
-store_of (Compute operation form size usage) insn = store_by usage size (rm_place insn)
-store_of (Stop effect) insn = store.Nothing
+unfoldable pub store_of : Action → Insn → Regs → Store
+store_of (Compute operation form size) insn regs = store_by (rm_use form (destination_use operation)) size (rm_place insn regs)
+store_of (Exchange exchange size) insn regs = store_by memory_use.Update size (rm_place insn regs)
+store_of (Push form) insn regs = store_below regs
+store_of (Call form) insn regs = store_below regs
+store_of _ insn regs = store.Nothing
 
 -- ---- rows
 
 -- what follows an action
 unfoldable pub effect_of : Action → Effect
-effect_of (Compute operation form size usage) = Next
 effect_of (Stop effect) = effect
+effect_of _ = Next
 
 -- the row of an action
 abbrev pub row_by : Action → Insn → Regs → Row
 row_by action insn regs = record {
-  load = load_of action insn;
-  store = store_of action insn;
+  load = load_of action insn regs;
+  store = store_of action insn regs;
   after = λ loaded. after_action action insn regs loaded;
   effect = effect_of action;
 }

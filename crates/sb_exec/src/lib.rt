@@ -13,18 +13,24 @@
 #![tactic(auto)]
 
 mod action;
+mod address;
 mod arithmetic;
+mod branch;
 mod bus;
+mod exchanged;
 mod fetch;
 mod operand;
+mod operated;
 mod rows;
+mod shift;
 mod size;
 mod step;
 mod stop;
 mod table;
+mod write_back;
 
 pub use action::{
-    Action, After, Effect, Load, MemoryUse, OperandForm, Operation, Outcome, Place, Store,
+    Action, After, Effect, Exchange, Load, MemoryUse, Operation, Outcome, Place, Store,
 };
 pub use bus::Bus;
 pub use fetch::{fetch_insn, one_fetch, one_fetch_on};

@@ -1,4 +1,4 @@
-//! The operands of an instruction.
+//! The fields of an instruction as numbers, and registers at a size.
 
 ghost use Rattle.std.specs.Prelude.{◌≡◌, ◌<◌};
 ghost use Rattle.sb_exec.specs.Size.{modulus};
@@ -12,8 +12,6 @@ ghost use Rattle.sb_exec.specs.Operand.{
   operand_size as operand_size_of,
   imm_value as imm_value_of,
   next_rip as next_rip_of,
-  rm_place as rm_place_of,
-  low as low_of,
   register as register_of,
   with_register,
   operand_value as operand_value_of,
@@ -25,8 +23,10 @@ use crate::action::Place;
 use crate::size::Size;
 use sb_insn::{Imm, Insn, Op, Regs};
 
+// ---- fields
+
 /// A bit of the REX byte: 3 W, 2 R, 1 X, 0 B.
-fn rex_bit(insn: &Insn, place: u32) -> u8
+pub fn rex_bit(insn: &Insn, place: u32) -> u8
     requires { place < 8 }
     ensures value { result ≡ rex_bit_of insn.now place }
     ensures range { result < 2 }
@@ -37,7 +37,7 @@ fn rex_bit(insn: &Insn, place: u32) -> u8
     }
 }
 
-fn modrm(insn: &Insn) -> u8
+pub fn modrm(insn: &Insn) -> u8
     ensures { result ≡ modrm_of insn.now }
 {
     insn.modrm.unwrap_or(0)
@@ -52,7 +52,7 @@ pub fn reg_number(insn: &Insn) -> usize
 }
 
 /// The register that rm names.
-fn rm_number(insn: &Insn) -> usize
+pub fn rm_number(insn: &Insn) -> usize
     ensures value { result ≡ rm_number_of insn.now }
     ensures range { result < 16 }
 {
@@ -60,7 +60,7 @@ fn rm_number(insn: &Insn) -> usize
 }
 
 /// The last byte of the opcode.
-fn opcode(op: Op) -> u8
+pub fn opcode(op: Op) -> u8
     ensures { result ≡ opcode_of op }
 {
     match op {
@@ -89,6 +89,8 @@ pub fn operand_size(insn: &Insn) -> Size
     }
 }
 
+// ---- numbers beside the opcode
+
 /// The immediate, sign-extended to 64 bits.
 pub fn imm_value(imm: Imm) -> u64
     ensures { result ≡ imm_value_of imm }
@@ -108,23 +110,7 @@ pub fn next_rip(insn: &Insn, regs: &Regs) -> u64
     regs.rip.wrapping_add(insn.length() as u64)
 }
 
-/// The operand that ModRM names, which is a register: in each instruction of the subset mod is 3.
-#[tactic(auto, unfolding(crate::specs::Operand::rm_place))]
-pub fn rm_place(insn: &Insn) -> Place
-    ensures value { result ≡ rm_place_of insn.now }
-    ensures range { IsPlace result }
-{
-    Place::Register(rm_number(insn))
-}
-
-/// The lowest bits of a number.
-#[tactic(auto, unfolding(crate::specs::Operand::low))]
-pub fn low(size: Size, value: u64) -> u64
-    ensures value { result ≡ low_of size value }
-    ensures range { result < modulus size }
-{
-    size.low(value)
-}
+// ---- registers at a size
 
 /// The lowest bits of a register.
 pub fn register(size: Size, number: usize, regs: &Regs) -> u64
@@ -132,7 +118,7 @@ pub fn register(size: Size, number: usize, regs: &Regs) -> u64
     ensures value { result ≡ register_of size number regs.now }
     ensures range { result < modulus size }
 {
-    low(size, regs.general[number])
+    size.low(regs.general[number])
 }
 
 /// What a register holds after a value is written to it: 32 bits clear its upper half (SDM volume 1, section 3.4.1.1).
@@ -163,6 +149,6 @@ pub fn operand_value(size: Size, place: Place, regs: &Regs, loaded: u64) -> u64
 {
     match place {
         Place::Register(number) => register(size, number, regs),
-        Place::Memory(_) => low(size, loaded),
+        Place::Memory(_) => size.low(loaded),
     }
 }

@@ -1,149 +1,126 @@
-//! What follows an action: what it loads and stores, the registers, the number that it stores, and its effect.
+//! The row of each action: what it loads and stores, the registers after it, and its effect.
 
-ghost use Rattle.std.specs.Prelude.{◌≡◌, ◌<◌};
-ghost use Rattle.sb_exec.specs.Size.{modulus};
-ghost use Rattle.sb_exec.specs.Operand.{IsPlace};
+ghost use Rattle.std.specs.Prelude.{◌≡◌};
+ghost use Rattle.sb_exec.specs.WriteBack.{keeping as keeping_of};
 ghost use Rattle.sb_exec.specs.Rows.{
-  destination as destination_of,
-  first_operand as first_operand_of,
-  second_operand as second_operand_of,
-  written as written_of,
-  written_back as written_back_of,
-  computed as computed_of,
+  into_reg as into_reg_of,
   after_action,
+  destination_use as destination_use_of,
+  rm_use as rm_use_of,
   load_by as load_by_of,
   store_by as store_by_of,
+  load_source as load_source_of,
   load_of,
+  store_below as store_below_of,
   store_of,
   effect_of,
-  stepped as stepped_of,
 };
 
-use crate::action::{Action, After, Effect, Load, MemoryUse, OperandForm, Operation, Place, Store};
-use crate::arithmetic::operate;
-use crate::operand::{
-    imm_value, low, next_rip, opcode_number, operand_value, reg_number, register, rm_place,
-    set_register,
-};
+use crate::action::{Action, After, Effect, Load, MemoryUse, Operation, Place, Store};
+use crate::address::{operand_address, rm_place};
+use crate::branch::{jumped_if, popped, popped_into, pushed, stack_top, target, top_pushed};
+use crate::exchanged::exchange_after;
+use crate::operand::{next_rip, opcode_number, reg_number, set_register};
 use crate::size::Size;
-use sb_insn::{Insn, Regs};
+use crate::write_back::{computed, last_operand, rm_value, stepped};
+use sb_insn::{Insn, OperandForm, Regs};
+use sb_memory::Linear;
 
-// ---- operands, operation, write back
+// ---- registers, and the number that is stored
 
-/// Where the result goes.
-#[tactic(auto, unfolding(crate::specs::Rows::destination))]
-fn destination(form: OperandForm, insn: &Insn) -> Place
-    ensures value { result ≡ destination_of form insn.now }
-    ensures range { IsPlace result }
+/// Nothing is stored.
+fn keeping(regs: Regs) -> After
+    ensures { result ≡ keeping_of regs }
 {
-    match form {
-        OperandForm::RmReg => rm_place(insn),
-        OperandForm::OpcodeImm => Place::Register(opcode_number(insn)),
-    }
+    After { regs, stored: 0 }
 }
 
-#[tactic(auto, unfolding(crate::specs::Rows::first_operand))]
-fn first_operand(form: OperandForm, size: Size, insn: &Insn, regs: &Regs, loaded: u64) -> u64
-    ensures value { result ≡ first_operand_of form size insn.now regs.now loaded }
-    ensures range { result < modulus size }
+/// A value that is written to the register that reg names.
+fn into_reg(size: Size, value: u64, insn: &Insn, regs: &Regs) -> After
+    ensures { result ≡ into_reg_of size value insn.now regs.now }
 {
-    operand_value(size, destination(form, insn), regs, loaded)
+    let mut next = stepped(insn, regs);
+    set_register(size, reg_number(insn), value, &mut next);
+    keeping(next)
 }
 
-#[tactic(auto, unfolding(crate::specs::Rows::second_operand))]
-fn second_operand(form: OperandForm, size: Size, insn: &Insn, regs: &Regs) -> u64
-    ensures value { result ≡ second_operand_of form size insn.now regs.now }
-    ensures range { result < modulus size }
-{
-    match form {
-        OperandForm::RmReg => register(size, reg_number(insn), regs),
-        OperandForm::OpcodeImm => low(size, imm_value(insn.imm)),
-    }
-}
-
-/// The registers at the next instruction.
-fn stepped(insn: &Insn, regs: &Regs) -> Regs
-    ensures { result ≡ stepped_of insn.now regs.now }
-{
-    Regs {
-        rip: next_rip(insn, regs),
-        ..*regs
-    }
-}
-
-/// A value that is written to a place: into its register, or as what is stored.
-#[tactic(auto, unfolding(crate::specs::Rows::written))]
-fn written(size: Size, place: Place, value: u64, mut regs: Regs) -> After
-    requires { IsPlace place }
-    ensures { result ≡ written_of size place value regs }
-{
-    match place {
-        Place::Register(number) => {
-            set_register(size, number, value, &mut regs);
-            After { regs, stored: 0 }
-        }
-        Place::Memory(_) => After {
-            regs,
-            stored: value,
-        },
-    }
-}
-
-/// A result that is written back, if there is one.
-#[tactic(auto, unfolding(crate::specs::Rows::written_back))]
-fn written_back(size: Size, place: Place, value: Option<u64>, regs: Regs) -> After
-    requires { IsPlace place }
-    ensures { result ≡ written_back_of size place value regs }
-{
-    match value {
-        Some(value) => written(size, place, value, regs),
-        None => After { regs, stored: 0 },
-    }
-}
-
-#[tactic(auto, unfolding(crate::specs::Rows::computed))]
-fn computed(
-    operation: Operation,
-    form: OperandForm,
-    size: Size,
-    insn: &Insn,
-    regs: &Regs,
-    loaded: u64,
-) -> After
-    ensures { result ≡ computed_of operation form size insn.now regs.now loaded }
-{
-    let first = first_operand(form, size, insn, regs, loaded);
-    let second = second_operand(form, size, insn, regs);
-    let outcome = operate(operation, size, first, second, regs.flags);
-    let next = Regs {
-        flags: outcome.flags,
-        ..stepped(insn, regs)
-    };
-    written_back(size, destination(form, insn), outcome.value, next)
-}
-
-/// The registers after an action, and the number that it stores.
+/// What is left after an action that loaded this number.
 #[tactic(auto, unfolding(crate::specs::Rows::after_action))]
 pub fn after(action: Action, insn: &Insn, regs: &Regs, loaded: u64) -> After
     ensures { result ≡ after_action action insn.now regs.now loaded }
 {
     match action {
-        Action::Compute(operation, form, size, _) => computed(
+        Action::Compute(operation, form, size) => computed(
             operation, form, size, insn, regs, loaded,
         ),
-        Action::Stop(_) => After {
-            regs: *regs,
-            stored: 0,
+        Action::ZeroExtend(size) => into_reg(
+            size,
+            rm_value(Size::Byte, insn, regs, loaded),
+            insn,
+            regs,
+        ),
+        Action::LoadAddress(size) => into_reg(size, operand_address(insn, regs), insn, regs),
+        Action::Exchange(kind, size) => exchange_after(kind, size, insn, regs, loaded),
+        Action::Push(form) => After {
+            regs: pushed(stepped(insn, regs)),
+            stored: last_operand(form, Size::Quad, insn, regs, loaded),
         },
+        Action::Pop => keeping(popped_into(opcode_number(insn), loaded, stepped(insn, regs))),
+        Action::Return => keeping(Regs {
+            rip: loaded,
+            ..popped(*regs)
+        }),
+        Action::Jump(form) => keeping(Regs {
+            rip: target(form, insn, regs, loaded),
+            ..*regs
+        }),
+        Action::JumpIf(number) => keeping(jumped_if(number, insn, regs)),
+        Action::Call(form) => After {
+            regs: Regs {
+                rip: target(form, insn, regs, loaded),
+                ..pushed(*regs)
+            },
+            stored: next_rip(insn, regs),
+        },
+        Action::Pass => keeping(stepped(insn, regs)),
+        Action::Stop(_) => keeping(*regs),
     }
 }
 
 // ---- accesses
 
+/// What is done to the destination: comparisons only read it, MOV only writes it.
+fn destination_use(operation: Operation) -> MemoryUse
+    ensures { result ≡ destination_use_of operation }
+{
+    match operation {
+        Operation::Compare | Operation::Test => MemoryUse::Read,
+        Operation::Move => MemoryUse::Write,
+        _ => MemoryUse::Update,
+    }
+}
+
+/// What is done to the operand that mod and rm name: it is the destination, a source, or none.
+#[tactic(auto, unfolding(crate::specs::Rows::rm_use))]
+fn rm_use(form: OperandForm, usage: MemoryUse) -> MemoryUse
+    ensures { result ≡ rm_use_of form usage }
+{
+    match form {
+        OperandForm::RmReg
+        | OperandForm::RmImm
+        | OperandForm::RmCount
+        | OperandForm::RmCl
+        | OperandForm::Rm => usage,
+        OperandForm::RegRm | OperandForm::RegRmImm => MemoryUse::Read,
+        _ => MemoryUse::Nothing,
+    }
+}
+
 fn load_by(usage: MemoryUse, size: Size, place: Place) -> Load
     ensures { result ≡ load_by_of usage size place }
 {
     match (place, usage) {
+        (Place::Memory(at), MemoryUse::Read) => Load::Read(at, size),
         (Place::Memory(at), MemoryUse::Update) => Load::ReadToWrite(at, size),
         _ => Load::Nothing,
     }
@@ -154,29 +131,60 @@ fn store_by(usage: MemoryUse, size: Size, place: Place) -> Store
 {
     match (place, usage) {
         (Place::Memory(at), MemoryUse::Update) => Store::At(at, size),
+        (Place::Memory(at), MemoryUse::Write) => Store::At(at, size),
         _ => Store::Nothing,
     }
 }
 
+/// What is pushed or jumped to is loaded, if it is in memory.
+fn load_source(form: OperandForm, insn: &Insn, regs: &Regs) -> Load
+    ensures { result ≡ load_source_of form insn.now regs.now }
+{
+    load_by(rm_use(form, MemoryUse::Read), Size::Quad, rm_place(insn, regs))
+}
+
 /// What an action loads.
 #[tactic(auto, unfolding(crate::specs::Rows::load_of))]
-pub fn load(action: Action, insn: &Insn) -> Load
-    ensures { result ≡ load_of action insn.now }
+pub fn load(action: Action, insn: &Insn, regs: &Regs) -> Load
+    ensures { result ≡ load_of action insn.now regs.now }
 {
     match action {
-        Action::Compute(_, _, size, usage) => load_by(usage, size, rm_place(insn)),
-        Action::Stop(_) => Load::Nothing,
+        Action::Compute(operation, form, size) => load_by(
+            rm_use(form, destination_use(operation)),
+            size,
+            rm_place(insn, regs),
+        ),
+        Action::ZeroExtend(_) => load_by(MemoryUse::Read, Size::Byte, rm_place(insn, regs)),
+        Action::Exchange(_, size) => load_by(MemoryUse::Update, size, rm_place(insn, regs)),
+        Action::Push(form) | Action::Jump(form) | Action::Call(form) => load_source(
+            form, insn, regs,
+        ),
+        Action::Pop | Action::Return => Load::Read(Linear(stack_top(regs)), Size::Quad),
+        Action::LoadAddress(_) | Action::JumpIf(_) | Action::Pass | Action::Stop(_) => Load::Nothing,
     }
+}
+
+/// 8 bytes are stored below the top of the stack.
+fn store_below(regs: &Regs) -> Store
+    ensures { result ≡ store_below_of regs.now }
+{
+    Store::At(Linear(top_pushed(regs)), Size::Quad)
 }
 
 /// What an action stores.
 #[tactic(auto, unfolding(crate::specs::Rows::store_of))]
-pub fn store(action: Action, insn: &Insn) -> Store
-    ensures { result ≡ store_of action insn.now }
+pub fn store(action: Action, insn: &Insn, regs: &Regs) -> Store
+    ensures { result ≡ store_of action insn.now regs.now }
 {
     match action {
-        Action::Compute(_, _, size, usage) => store_by(usage, size, rm_place(insn)),
-        Action::Stop(_) => Store::Nothing,
+        Action::Compute(operation, form, size) => store_by(
+            rm_use(form, destination_use(operation)),
+            size,
+            rm_place(insn, regs),
+        ),
+        Action::Exchange(_, size) => store_by(MemoryUse::Update, size, rm_place(insn, regs)),
+        Action::Push(_) | Action::Call(_) => store_below(regs),
+        _ => Store::Nothing,
     }
 }
 
@@ -186,7 +194,7 @@ pub fn effect(action: Action) -> Effect
     ensures { result ≡ effect_of action }
 {
     match action {
-        Action::Compute(..) => Effect::Next,
         Action::Stop(effect) => effect,
+        _ => Effect::Next,
     }
 }

@@ -1,7 +1,7 @@
 //! The sizes of operands.
 
-ghost use Rattle.std.specs.Prelude.{◌≡◌, ◌%◌, ◌<◌};
-ghost use Rattle.sb_exec.specs.Size.{size_bytes, modulus, half};
+ghost use Rattle.std.specs.Prelude.{◌≡◌, ◌-◌, ◌<◌};
+ghost use Rattle.sb_exec.specs.Size.{size_bytes, size_bits, modulus, half, low};
 
 /// One, four or eight bytes.
 #[derive(Clone, Copy, Debug, PartialEq, Eq)]
@@ -23,6 +23,28 @@ impl Size {
         }
     }
 
+    /// The number of bits.
+    pub fn bits(self) -> u32
+        ensures { result ≡ size_bits self }
+    {
+        match self {
+            Size::Byte => 8,
+            Size::Double => 32,
+            Size::Quad => 64,
+        }
+    }
+
+    /// The largest number.
+    pub fn mask(self) -> u64
+        ensures { result ≡ modulus self - 1 }
+    {
+        match self {
+            Size::Byte => 0xFF,
+            Size::Double => 0xFFFF_FFFF,
+            Size::Quad => u64::MAX,
+        }
+    }
+
     /// The number of which only the top bit is set.
     pub fn top(self) -> u64
         ensures { result ≡ half self }
@@ -35,8 +57,9 @@ impl Size {
     }
 
     /// The lowest bits of a number.
+    #[tactic(auto, unfolding(crate::specs::Size::low))]
     pub fn low(self, value: u64) -> u64
-        ensures value { result ≡ value % modulus self }
+        ensures value { result ≡ low self value }
         ensures range { result < modulus self }
     {
         match self {

@@ -48,9 +48,9 @@ fn perform<B: Bus>(insn: &Insn, regs: &mut Regs, bus: &mut B) -> Result<Effect, 
     ensures kept { B.kept bus.new ≡ B.kept bus.old }
 {
     let action = action(insn);
-    let value = loaded(load(action, insn), bus)?;
+    let value = loaded(load(action, insn, regs), bus)?;
     let after = after(action, insn, regs, value);
-    stored(store(action, insn), after.stored, bus)?;
+    stored(store(action, insn, regs), after.stored, bus)?;
     *regs = after.regs;
     Ok(effect(action))
 }

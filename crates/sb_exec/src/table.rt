@@ -1,49 +1,85 @@
-//! The table of opcodes.
+//! The table of instructions: which action each has (SDM volume 2, chapters 3 to 5).
 
 ghost use Rattle.std.specs.Prelude.{◌≡◌};
-ghost use Rattle.sb_exec.specs.Actions.{action_of, one_byte_action as one_byte_action_of, two_byte_action as two_byte_action_of};
+ghost use Rattle.sb_exec.specs.Actions.{moved_size as moved_size_of, condition_number as condition_number_of, action_by, action_of};
 
-use crate::action::{Action, Effect, MemoryUse, OperandForm, Operation};
-use crate::operand::operand_size;
+use crate::action::{Action, Effect, Exchange, Operation};
+use crate::operand::{opcode, operand_size};
 use crate::size::Size;
-use sb_insn::{Insn, Op};
+use sb_insn::{Insn, Mnemonic, OperandForm, instruction_of, operand_for};
 
-#[tactic(auto, unfolding(crate::specs::Actions::one_byte_action))]
-fn one_byte_action(opcode: u8, size: Size) -> Action
-    ensures { result ≡ one_byte_action_of opcode size }
+/// The size of what MOV moves: a byte where the opcode says so.
+fn moved_size(insn: &Insn) -> Size
+    ensures { result ≡ moved_size_of insn.now }
 {
-    match opcode {
-        0x31 => Action::Compute(Operation::Xor, OperandForm::RmReg, size, MemoryUse::Update),
-        0xB8..=0xBF => Action::Compute(
-            Operation::Move,
-            OperandForm::OpcodeImm,
-            size,
-            MemoryUse::Nothing,
-        ),
-        _ => Action::Stop(Effect::Undefined),
+    match operand_for(insn) {
+        Some(operand) => {
+            if operand.byte_rm {
+                Size::Byte
+            } else {
+                operand_size(insn)
+            }
+        }
+        None => operand_size(insn),
     }
 }
 
-#[tactic(auto, unfolding(crate::specs::Actions::two_byte_action))]
-fn two_byte_action(opcode: u8) -> Action
-    ensures { result ≡ two_byte_action_of opcode }
+/// The condition of a jump: the lowest four bits of the opcode.
+fn condition_number(insn: &Insn) -> u8
+    ensures { result ≡ condition_number_of insn.now }
 {
-    match opcode {
-        0x05 => Action::Stop(Effect::Syscall),
-        0x0B => Action::Stop(Effect::Undefined),
-        _ => Action::Stop(Effect::Undefined),
+    opcode(insn.op) % 16
+}
+
+/// What an instruction of this name does to operands of this form.
+#[tactic(auto, unfolding(crate::specs::Actions::action_by))]
+fn named_action(mnemonic: Mnemonic, form: OperandForm, insn: &Insn) -> Action
+    ensures { result ≡ action_by mnemonic form insn.now }
+{
+    let size = operand_size(insn);
+    match mnemonic {
+        Mnemonic::Add => Action::Compute(Operation::Add, form, size),
+        Mnemonic::Or => Action::Compute(Operation::Or, form, size),
+        Mnemonic::And => Action::Compute(Operation::And, form, size),
+        Mnemonic::Sub => Action::Compute(Operation::Sub, form, size),
+        Mnemonic::Xor => Action::Compute(Operation::Xor, form, size),
+        Mnemonic::Cmp => Action::Compute(Operation::Compare, form, size),
+        Mnemonic::Test => Action::Compute(Operation::Test, form, size),
+        Mnemonic::Mov => Action::Compute(Operation::Move, form, moved_size(insn)),
+        Mnemonic::Movzx => Action::ZeroExtend(size),
+        Mnemonic::Lea => Action::LoadAddress(size),
+        Mnemonic::Not => Action::Compute(Operation::Not, form, size),
+        Mnemonic::Neg => Action::Compute(Operation::Negate, form, size),
+        Mnemonic::Imul => Action::Compute(Operation::Multiply, form, size),
+        Mnemonic::Shl => Action::Compute(Operation::ShiftLeft, form, size),
+        Mnemonic::Shr => Action::Compute(Operation::ShiftRight, form, size),
+        Mnemonic::Sar => Action::Compute(Operation::ShiftSigned, form, size),
+        Mnemonic::Inc => Action::Compute(Operation::Increment, form, size),
+        Mnemonic::Dec => Action::Compute(Operation::Decrement, form, size),
+        Mnemonic::Bsf => Action::Compute(Operation::ScanForward, form, size),
+        Mnemonic::Xchg => Action::Exchange(Exchange::Swap, size),
+        Mnemonic::Xadd => Action::Exchange(Exchange::Add, size),
+        Mnemonic::Cmpxchg => Action::Exchange(Exchange::Compare, size),
+        Mnemonic::Push => Action::Push(form),
+        Mnemonic::Pop => Action::Pop,
+        Mnemonic::Jmp => Action::Jump(form),
+        Mnemonic::Jcc => Action::JumpIf(condition_number(insn)),
+        Mnemonic::Call => Action::Call(form),
+        Mnemonic::Ret => Action::Return,
+        Mnemonic::Nop | Mnemonic::Endbr64 => Action::Pass,
+        Mnemonic::Syscall => Action::Stop(Effect::Syscall),
+        Mnemonic::Ud2 => Action::Stop(Effect::Undefined),
+        Mnemonic::Vmfunc => Action::Stop(Effect::Switch),
     }
 }
 
-/// What an instruction does.
+/// What an instruction does; what is not in the opcode maps is undefined.
 #[tactic(auto, unfolding(crate::specs::Actions::action_of))]
 pub fn action(insn: &Insn) -> Action
     ensures { result ≡ action_of insn.now }
 {
-    match insn.op {
-        Op::One(opcode) => one_byte_action(opcode, operand_size(insn)),
-        Op::Two(opcode) => two_byte_action(opcode),
-        Op::Endbr => Action::Stop(Effect::Undefined),
-        Op::Vmfunc => Action::Stop(Effect::Switch),
+    match instruction_of(insn) {
+        Some(instruction) => named_action(instruction.mnemonic, instruction.form, insn),
+        None => Action::Stop(Effect::Undefined),
     }
 }

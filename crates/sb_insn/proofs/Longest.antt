@@ -1,5 +1,5 @@
 -- The longest instruction has 13 bytes.
-use Rattle.std.proofs.Common.{◌≡◌, ℕ, ◌+◌, ◌≤◌, Bool, true, false, cond, ◌&&◌, List, [], ◌∷◌, ◌++◌, length, Option, Some, None, refl, arith, length-append}
+use Rattle.std.proofs.Common.{◌≡◌, ℕ, ◌+◌, ◌≤◌, Bool, true, false, ◌&&◌, ◌++◌, length, Option, Some, None, refl, arith, length-append}
 use Rattle.std.specs.Option.{option_to_list}
 use Rattle.sb_insn.specs.declared.insn.Insn.{Insn}
 use Rattle.sb_insn.specs.declared.insn.Op.{Op}
@@ -12,28 +12,19 @@ use Rattle.sb_insn.specs.declared.insn.Imm.TheVariants as imm
 use Rattle.sb_insn.specs.declared.opcode_map.ImmRule.{ImmRule}
 use Rattle.sb_insn.specs.declared.opcode_map.ImmRule.TheVariants as rules
 use Rattle.sb_insn.specs.declared.opcode_map.Cell.{Cell}
-use Rattle.sb_insn.specs.declared.opcode_map.Cell.TheVariants.{Absent, Plain, ModRm}
-use Rattle.sb_insn.specs.OpcodeMap.{Row, is_of, look_up, one_byte, one_byte_rows, two_byte, two_byte_rows, cell_of, operand_of}
+use Rattle.sb_insn.specs.declared.opcode_map.Cell.TheVariants.{Absent, Plain, ModRm, Extended}
+use Rattle.sb_insn.specs.declared.opcode_map.Group.{Group}
+use Rattle.sb_insn.specs.declared.opcode_map.Group.TheVariants.{Group1, Group2, Group3, Group5, Group11, Group16}
+use Rattle.sb_insn.specs.declared.opcode_map.OperandForm.{OperandForm}
+use Rattle.sb_insn.specs.declared.opcode_map.Operand.{Operand}
+use Rattle.sb_insn.specs.OpcodeMap.{one_byte, one_byte_rows, two_byte, two_byte_rows, cell_of}
+use Rattle.sb_insn.specs.Groups.{extended_by, extensions, group_operand, operand_of}
+use Rattle.sb_insn.proofs.Rows.{and_parts, looked_up, every_extension, some_holds, extended}
 use Rattle.sb_insn.specs.Spelling.{lock_bytes, op_bytes, disp_bytes, imm_bytes, front_bytes, spelling}
 use Rattle.sb_insn.specs.Fields.{kind_of_imm, kind_of_disp, imm_kind_of, rule_of, disp_kind_of, is_sib_field, is_modrm_field, operand_rule, reg_field}
 use Rattle.sb_insn.specs.Grammar.{IsValid}
 
--- ---- what holds of each row of a map holds of what is looked up
-
-abbrev pub every : (Cell → Bool) → List Row → Bool
-every holds [] = true
-every holds (row ∷ rows) = holds row.cell && every holds rows
-
-pub and_parts : (a b : Bool) → (a && b) ≡ true → (a ≡ true) × (b ≡ true)
-and_parts true b e = (refl, e)
-and_parts false b e = absurd cc
-
-pub looked_up : (holds : Cell → Bool) (opcode : ℕ) (rows : List Row) → holds Absent ≡ true → every holds rows ≡ true → holds (look_up opcode rows) ≡ true
-looked_up holds opcode [] absent e = absent
-looked_up holds opcode (row ∷ rows) absent e =
-    let parts = and_parts (holds row.cell) (every holds rows) e in
-    let rest = looked_up holds opcode rows absent parts.1 in
-    elim (is_of opcode row.opcodes) as (λ t. holds (cond t row.cell (look_up opcode rows)) ≡ true) [ true ↦ parts.0 | false ↦ rest ]
+-- ---- which immediates stand behind ModRM
 
 -- no eight bytes
 abbrev is_narrow : ImmRule → Bool
@@ -50,14 +41,21 @@ is_no_rule rules.Wide = false
 
 abbrev narrow_cell : Cell → Bool
 narrow_cell Absent = true
-narrow_cell (Plain rex rule) = true
+narrow_cell (Plain plain) = true
 narrow_cell (ModRm operand) = is_narrow operand.imm
+narrow_cell (Extended group form imm) = is_narrow imm
+
+-- no row has an immediate of its own
+abbrev bare_group : Group → Bool
+bare_group Group3 = false
+bare_group _ = true
 
 -- no immediate behind ModRM
 abbrev bare_cell : Cell → Bool
 bare_cell Absent = true
-bare_cell (Plain rex rule) = true
+bare_cell (Plain plain) = true
 bare_cell (ModRm operand) = is_no_rule operand.imm
+bare_cell (Extended group form imm) = bare_group group && is_no_rule imm
 
 one_narrow : (opcode : ℕ) → narrow_cell (one_byte opcode) ≡ true
 unfolding one_byte
@@ -67,15 +65,45 @@ two_bare : (opcode : ℕ) → bare_cell (two_byte opcode) ≡ true
 unfolding two_byte
 two_bare opcode = looked_up bare_cell opcode two_byte_rows refl refl
 
+narrow_option : (operand : Option Operand) → some_holds (λ row. is_narrow row.imm) operand ≡ true → is_narrow (operand_rule operand) ≡ true
+narrow_option None e = refl
+narrow_option (Some operand) e = e
+
+bare_option : (operand : Option Operand) → some_holds (λ row. is_no_rule row.imm) operand ≡ true → is_no_rule (operand_rule operand) ≡ true
+bare_option None e = refl
+bare_option (Some operand) e = e
+
+narrow_rows : (group : Group) (form : OperandForm) (imm : ImmRule) → is_narrow imm ≡ true → every_extension (λ row. is_narrow row.imm) (extensions group form imm) ≡ true
+narrow_rows Group1 form imm e = rw e refl
+narrow_rows Group2 form imm e = rw e refl
+narrow_rows Group3 form imm e = rw e refl
+narrow_rows Group5 form imm e = rw e refl
+narrow_rows Group11 form imm e = rw e refl
+narrow_rows Group16 form imm e = rw e refl
+
+bare_rows : (group : Group) (form : OperandForm) (imm : ImmRule) → bare_group group ≡ true → is_no_rule imm ≡ true → every_extension (λ row. is_no_rule row.imm) (extensions group form imm) ≡ true
+bare_rows Group1 form imm bare e = rw e refl
+bare_rows Group2 form imm bare e = rw e refl
+bare_rows Group3 form imm bare e = absurd cc
+bare_rows Group5 form imm bare e = rw e refl
+bare_rows Group11 form imm bare e = rw e refl
+bare_rows Group16 form imm bare e = rw e refl
+
 narrow_operand : (cell : Cell) (reg : ℕ) → narrow_cell cell ≡ true → is_narrow (operand_rule (operand_of cell reg)) ≡ true
+unfolding group_operand
 narrow_operand Absent reg e = refl
-narrow_operand (Plain rex rule) reg e = refl
+narrow_operand (Plain plain) reg e = refl
 narrow_operand (ModRm operand) reg e = e
+narrow_operand (Extended group form imm) reg e = narrow_option (extended_by reg (extensions group form imm)) (extended (λ row. is_narrow row.imm) reg (extensions group form imm) (narrow_rows group form imm e))
 
 bare_operand : (cell : Cell) (reg : ℕ) → bare_cell cell ≡ true → is_no_rule (operand_rule (operand_of cell reg)) ≡ true
+unfolding group_operand
 bare_operand Absent reg e = refl
-bare_operand (Plain rex rule) reg e = refl
+bare_operand (Plain plain) reg e = refl
 bare_operand (ModRm operand) reg e = e
+bare_operand (Extended group form imm) reg e =
+    let parts = and_parts (bare_group group) (is_no_rule imm) e in
+    bare_option (extended_by reg (extensions group form imm)) (extended (λ row. is_no_rule row.imm) reg (extensions group form imm) (bare_rows group form imm parts.0 parts.1))
 
 -- ---- how long the fields are
 
@@ -143,6 +171,13 @@ tail_11 Endbr None sib displacement immediate lock rex is_modrm is_sib disp_is i
 tail_11 Endbr (Some modrm) sib displacement immediate lock rex is_modrm is_sib disp_is imm_is = absurd cc
 tail_11 Vmfunc None sib displacement immediate lock rex is_modrm is_sib disp_is imm_is = let short = no_imm immediate rules.None rex refl imm_is in omega (arith, no_sib sib is_sib, no_disp displacement disp_is, short)
 tail_11 Vmfunc (Some modrm) sib displacement immediate lock rex is_modrm is_sib disp_is imm_is = absurd cc
+
+-- the lengths of the fields of a valid instruction
+pub fields_13 : (insn : Insn) → IsValid insn
+    → length (lock_bytes insn.lock) + length (option_to_list insn.rex) + length (op_bytes insn.op) + length (option_to_list insn.modrm) + length (option_to_list insn.sib) + length (disp_bytes insn.disp) + length (imm_bytes insn.imm) ≤ 13
+fields_13 insn valid =
+    let tail = tail_11 insn.op insn.modrm insn.sib insn.disp insn.imm insn.lock insn.rex valid.modrm valid.sib valid.disp valid.imm in
+    omega (arith, one_lock insn.lock, one_field insn.rex, tail)
 
 pub spelling_13 : (insn : Insn) → IsValid insn → length (spelling insn) ≤ 13
 spelling_13 insn valid =

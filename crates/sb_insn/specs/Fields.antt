@@ -16,8 +16,8 @@ use Rattle.sb_insn.specs.declared.opcode_map.ImmRule.{ImmRule}
 use Rattle.sb_insn.specs.declared.opcode_map.ImmRule.TheVariants as imm_rule
 use Rattle.sb_insn.specs.declared.opcode_map.Operand.{Operand}
 use Rattle.sb_insn.specs.declared.opcode_map.Cell.{Cell}
-use Rattle.sb_insn.specs.declared.opcode_map.Cell.TheVariants.{Absent, Plain, ModRm}
-use Rattle.sb_insn.specs.OpcodeMap.{operand_of}
+use Rattle.sb_insn.specs.declared.opcode_map.Cell.TheVariants.{Absent, Plain, ModRm, Extended}
+use Rattle.sb_insn.specs.Groups.{operand_of}
 
 -- ---- REX
 
@@ -25,9 +25,13 @@ abbrev pub is_none : Option ℕ → Bool
 is_none None = true
 is_none (Some byte) = false
 
--- No instruction of the subset has a REX byte yet.
+-- 40 to 4F
+abbrev pub is_rex : ℕ → Bool
+is_rex byte = nat_le 0x40 byte && nat_le byte 0x4F
+
 abbrev pub is_rex_field : Option ℕ → Bool
-is_rex_field rex = is_none rex
+is_rex_field None = true
+is_rex_field (Some byte) = is_rex byte
 
 abbrev pub permits_rex : RexRule → Option ℕ → Bool
 permits_rex rex_rule.Permitted rex = true
@@ -55,7 +59,6 @@ is_register modrm = mod_field modrm == 3
 
 abbrev pub permits_rm : RmRule → ℕ → Bool
 permits_rm rm_rule.Any modrm = true
-permits_rm rm_rule.Register modrm = is_register modrm
 permits_rm rm_rule.Memory modrm = not (is_register modrm)
 
 -- without a REX byte the byte registers 4 to 7 are AH, CH, DH and BH
@@ -77,8 +80,9 @@ some_permits (Some operand) lock rex modrm = permits operand lock rex modrm
 -- the opcode has no ModRM byte, and permits these prefixes
 abbrev pub stands_alone : Cell → Bool → Option ℕ → Bool
 stands_alone Absent lock rex = false
-stands_alone (Plain rule imm) lock rex = not lock && permits_rex rule rex
+stands_alone (Plain plain) lock rex = not lock && permits_rex plain.rex rex
 stands_alone (ModRm operand) lock rex = false
+stands_alone (Extended group form imm) lock rex = false
 
 abbrev pub is_modrm_field : Cell → Bool → Option ℕ → Option ℕ → Bool
 is_modrm_field cell lock rex None = stands_alone cell lock rex
@@ -122,8 +126,9 @@ kind_of_disp (disp.D32 value) = disp_kind.D32
 
 abbrev pub alone_rule : Cell → ImmRule
 alone_rule Absent = imm_rule.None
-alone_rule (Plain rex imm) = imm
+alone_rule (Plain plain) = plain.imm
 alone_rule (ModRm operand) = imm_rule.None
+alone_rule (Extended group form imm) = imm_rule.None
 
 abbrev pub operand_rule : Option Operand → ImmRule
 operand_rule None = imm_rule.None

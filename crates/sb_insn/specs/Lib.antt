@@ -1,5 +1,7 @@
 pub mod OpcodeMap
+pub mod Groups
 pub mod Spelling
 pub mod Fields
+pub mod Listing
 pub mod Grammar
 pub mod Registers

@@ -1,10 +1,18 @@
 //! What each field says of the fields behind it.
 
 ghost use Rattle.std.specs.Prelude.{◌≡◌};
-ghost use Rattle.sb_insn.specs.Fields.{is_none, permits_rex, permits_rm, permits, is_register, needs_rex, stands_alone, is_modrm_field, has_sib, wants_sib, has_no_base, modrm_disp, disp_kind_of, rule_of, is_wide, imm_kind_of};
+ghost use Rattle.sb_insn.specs.Fields.{is_none, is_rex, permits_rex, permits_rm, permits, is_register, needs_rex, stands_alone, is_modrm_field, has_sib, wants_sib, has_no_base, modrm_disp, disp_kind_of, rule_of, is_wide, imm_kind_of};
 
 use crate::insn::{Disp, DispKind, Imm, ImmKind};
-use crate::opcode_map::{Cell, ImmRule, Operand, RexRule, RmRule, operand_of};
+use crate::opcode_map::{Cell, ImmRule, Operand, RexRule, RmRule};
+use crate::opcodes::operand_of;
+
+/// Whether the byte is a REX prefix: 40 to 4F.
+pub fn is_rex(byte: u8) -> bool
+    ensures { result ≡ is_rex byte }
+{
+    0x40 <= byte && byte <= 0x4F
+}
 
 /// Whether the operand that rm names is a register: mod is 3.
 fn is_register(modrm: u8) -> bool
@@ -37,7 +45,6 @@ fn permits_rm(rule: RmRule, modrm: u8) -> bool
 {
     match rule {
         RmRule::Any => true,
-        RmRule::Register => is_register(modrm),
         RmRule::Memory => !is_register(modrm),
     }
 }
@@ -66,8 +73,8 @@ pub fn stands_alone(cell: Cell, lock: bool, rex: Option<u8>) -> bool
     ensures { result ≡ stands_alone cell lock rex }
 {
     match cell {
-        Cell::Plain(rule, _) => !lock && permits_rex(rule, rex),
-        Cell::Absent | Cell::ModRm(_) => false,
+        Cell::Plain(plain) => !lock && permits_rex(plain.rex, rex),
+        Cell::Absent | Cell::ModRm(_) | Cell::Extended(..) => false,
     }
 }
 
@@ -134,7 +141,7 @@ fn rule_of(cell: Cell, modrm: Option<u8>) -> ImmRule
 {
     match modrm {
         None => match cell {
-            Cell::Plain(_, rule) => rule,
+            Cell::Plain(plain) => plain.imm,
             _ => ImmRule::None,
         },
         Some(modrm) => match operand_of(cell, modrm / 8 % 8) {

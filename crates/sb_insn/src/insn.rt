@@ -6,8 +6,9 @@ ghost use Rattle.sb_insn.specs.Spelling.{disp_bytes, imm_bytes, op_bytes, spelli
 ghost use Rattle.sb_insn.specs.Fields.{kind_of_disp, kind_of_imm, is_rex_field, is_modrm_field, is_sib_field};
 ghost use Rattle.sb_insn.specs.Grammar.{IsByte, FitsDisp, FitsImm, IsValid};
 
-use crate::fields::{disp_kind, imm_kind, permits_modrm, stands_alone, wants_sib};
-use crate::opcode_map::{Cell, cell_of};
+use crate::fields::{disp_kind, imm_kind, is_rex, permits_modrm, stands_alone, wants_sib};
+use crate::opcode_map::Cell;
+use crate::opcodes::cell_of;
 
 /// An opcode, by the map in which it stands (SDM volume 2, section 2.1.2 and appendix A).
 #[derive(Clone, Copy, Debug, PartialEq, Eq)]
@@ -175,13 +176,13 @@ fn byte_count(field: Option<u8>) -> usize
     }
 }
 
-/// Whether this REX field may stand: no instruction of the subset has one.
+/// Whether this REX field may stand at all.
 fn is_rex_field(rex: Option<u8>) -> bool
     ensures { result ≡ is_rex_field rex }
 {
     match rex {
         None => true,
-        Some(_) => false,
+        Some(byte) => is_rex(byte),
     }
 }
 

@@ -1,9 +1,116 @@
-//! The opcode maps: what stands behind each opcode (SDM volume 2, appendix A).
+//! What the cells of the opcode maps say (SDM volume 2, appendix A): which fields stand behind an opcode, and which
+//! instruction it is.
 
-ghost use Rattle.std.specs.Prelude.{◌≡◌};
-ghost use Rattle.sb_insn.specs.OpcodeMap.{one_byte, two_byte, cell_of as cell_at, operand_of as operand_at, registers_alone};
+/// The name of an instruction (SDM volume 2, chapters 3 to 5; VMFUNC: volume 3).
+#[derive(Clone, Copy, Debug, PartialEq, Eq)]
+pub enum Mnemonic {
+    /// Add.
+    Add,
+    /// Logical inclusive OR.
+    Or,
+    /// Logical AND.
+    And,
+    /// Subtract.
+    Sub,
+    /// Logical exclusive OR.
+    Xor,
+    /// Compare two operands.
+    Cmp,
+    /// Logical compare.
+    Test,
+    /// Move.
+    Mov,
+    /// Move with zero-extend.
+    Movzx,
+    /// Load effective address.
+    Lea,
+    /// One's complement negation.
+    Not,
+    /// Two's complement negation.
+    Neg,
+    /// Signed multiply.
+    Imul,
+    /// Shift left.
+    Shl,
+    /// Shift right, unsigned.
+    Shr,
+    /// Shift right, signed.
+    Sar,
+    /// Increment by 1.
+    Inc,
+    /// Decrement by 1.
+    Dec,
+    /// Push onto the stack.
+    Push,
+    /// Pop a value from the stack.
+    Pop,
+    /// Jump.
+    Jmp,
+    /// Jump if a condition is met: the condition is the lowest four bits of the opcode.
+    Jcc,
+    /// Call a procedure.
+    Call,
+    /// Return from a procedure.
+    Ret,
+    /// Exchange.
+    Xchg,
+    /// Compare and exchange.
+    Cmpxchg,
+    /// Exchange and add.
+    Xadd,
+    /// Bit scan forward.
+    Bsf,
+    /// No operation.
+    Nop,
+    /// Terminate an indirect branch.
+    Endbr64,
+    /// Fast system call.
+    Syscall,
+    /// Undefined instruction.
+    Ud2,
+    /// Invoke a VM function.
+    Vmfunc,
+}
 
-use crate::insn::Op;
+/// How the operands are encoded, the destination first: the column Op/En of the SDM.
+#[derive(Clone, Copy, Debug, PartialEq, Eq)]
+pub enum OperandForm {
+    /// rm, and reg.
+    RmReg,
+    /// reg, and rm.
+    RegRm,
+    /// rm, and the immediate.
+    RmImm,
+    /// The accumulator, and the immediate.
+    AccImm,
+    /// The register in the opcode, and the immediate.
+    OpcodeImm,
+    /// reg, rm, and the immediate.
+    RegRmImm,
+    /// rm, and one byte of immediate that is a count.
+    RmCount,
+    /// rm, and CL.
+    RmCl,
+    /// rm.
+    Rm,
+    /// The register in the opcode.
+    Opcode,
+    /// The immediate.
+    Imm,
+    /// The distance from the next instruction, in the immediate.
+    Relative,
+    /// No operand.
+    Nothing,
+}
+
+/// An instruction of the maps: what it does, and to which operands.
+#[derive(Clone, Copy, Debug, PartialEq, Eq)]
+pub struct Instruction {
+    /// What it does.
+    pub mnemonic: Mnemonic,
+    /// How its operands are encoded.
+    pub form: OperandForm,
+}
 
 /// Whether a REX prefix may stand before an opcode without ModRM byte.
 #[derive(Clone, Copy, Debug, PartialEq, Eq)]
@@ -19,8 +126,6 @@ pub enum RexRule {
 pub enum RmRule {
     /// A register or memory.
     Any,
-    /// A register: mod is 3.
-    Register,
     /// Memory: mod is not 3.
     Memory,
 }
@@ -38,7 +143,18 @@ pub enum ImmRule {
     Wide,
 }
 
-/// What an opcode with a ModRM byte permits.
+/// What stands with an opcode that has no ModRM byte. LOCK never does.
+#[derive(Clone, Copy, Debug, PartialEq, Eq)]
+pub struct Plain {
+    /// Whether REX may stand.
+    pub rex: RexRule,
+    /// Which immediate stands.
+    pub imm: ImmRule,
+    /// Which instruction it is.
+    pub instruction: Instruction,
+}
+
+/// What stands with an opcode that has a ModRM byte. REX may always.
 #[derive(Clone, Copy, Debug, PartialEq, Eq)]
 pub struct Operand {
     /// LOCK may stand, where rm names memory.
@@ -51,6 +167,25 @@ pub struct Operand {
     pub byte_rm: bool,
     /// Which immediate stands.
     pub imm: ImmRule,
+    /// Which instruction it is.
+    pub instruction: Instruction,
+}
+
+/// Opcodes that the reg field of ModRM extends, by the numbers that the SDM gives them (volume 2, table A-6).
+#[derive(Clone, Copy, Debug, PartialEq, Eq)]
+pub enum Group {
+    /// ADD, OR, AND, SUB, XOR and CMP with an immediate.
+    Group1,
+    /// Shifts.
+    Group2,
+    /// TEST with an immediate, NOT and NEG.
+    Group3,
+    /// INC, DEC, CALL, JMP and PUSH.
+    Group5,
+    /// MOV of an immediate.
+    Group11,
+    /// NOP with an operand.
+    Group16,
 }
 
 /// A cell of an opcode map.
@@ -58,65 +193,10 @@ pub struct Operand {
 pub enum Cell {
     /// No instruction of the subset.
     Absent,
-    /// No ModRM byte.
-    Plain(RexRule, ImmRule),
-    /// A ModRM byte.
+    /// An opcode without ModRM byte.
+    Plain(Plain),
+    /// An opcode with a ModRM byte.
     ModRm(Operand),
-}
-
-/// Both operands are registers.
-const fn registers_alone() -> Operand
-    ensures { result ≡ registers_alone }
-{
-    Operand {
-        lock: false,
-        rm: RmRule::Register,
-        byte_reg: false,
-        byte_rm: false,
-        imm: ImmRule::None,
-    }
-}
-
-/// The one-byte opcode map.
-#[tactic(auto, unfolding(crate::specs::OpcodeMap::one_byte))]
-fn one_byte(opcode: u8) -> Cell
-    ensures { result ≡ one_byte opcode }
-{
-    match opcode {
-        0x31 => Cell::ModRm(registers_alone()),
-        0xB8..=0xBF => Cell::Plain(RexRule::Refused, ImmRule::I32),
-        _ => Cell::Absent,
-    }
-}
-
-/// The two-byte opcode map, behind 0F.
-#[tactic(auto, unfolding(crate::specs::OpcodeMap::two_byte))]
-fn two_byte(opcode: u8) -> Cell
-    ensures { result ≡ two_byte opcode }
-{
-    match opcode {
-        0x05 => Cell::Plain(RexRule::Refused, ImmRule::None),
-        _ => Cell::Absent,
-    }
-}
-
-/// What stands behind an opcode.
-pub fn cell_of(op: Op) -> Cell
-    ensures { result ≡ cell_at op }
-{
-    match op {
-        Op::One(opcode) => one_byte(opcode),
-        Op::Two(opcode) => two_byte(opcode),
-        Op::Endbr | Op::Vmfunc => Cell::Absent,
-    }
-}
-
-/// What a ModRM byte with this reg field means behind an opcode.
-pub fn operand_of(cell: Cell, reg: u8) -> Option<Operand>
-    ensures { result ≡ operand_at cell reg }
-{
-    match cell {
-        Cell::Absent | Cell::Plain(_, _) => None,
-        Cell::ModRm(operand) => Some(operand),
-    }
+    /// An opcode that the reg field of its ModRM byte extends, with the operands and the immediate of its group.
+    Extended(Group, OperandForm, ImmRule),
 }

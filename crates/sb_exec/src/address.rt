@@ -1,0 +1,115 @@
+//! Where the operand is that ModRM names (SDM volume 2, tables 2-2 and 2-3).
+
+ghost use Rattle.std.specs.Prelude.{◌≡◌, ◌<◌};
+ghost use Rattle.sb_exec.specs.Operand.{IsPlace};
+ghost use Rattle.sb_exec.specs.Address.{
+  sib_of,
+  index_number as index_number_of,
+  base_number as base_number_of,
+  scaled_index as scaled_index_of,
+  sib_base as sib_base_of,
+  disp_value as disp_value_of,
+  base_value as base_value_of,
+  operand_address as operand_address_of,
+  rm_place as rm_place_of,
+};
+
+use crate::action::Place;
+use crate::operand::{modrm, next_rip, rex_bit, rm_number};
+use sb_insn::{Disp, Insn, Regs};
+use sb_memory::Linear;
+
+// ---- the SIB byte
+
+fn sib(insn: &Insn) -> u8
+    ensures { result ≡ sib_of insn.now }
+{
+    insn.sib.unwrap_or(0)
+}
+
+/// The register that index names; 4 is no index.
+fn index_number(insn: &Insn) -> usize
+    ensures value { result ≡ index_number_of insn.now }
+    ensures range { result < 16 }
+{
+    usize::from(sib(insn) / 8 % 8 + 8 * rex_bit(insn, 1))
+}
+
+/// The register that base names.
+fn base_number(insn: &Insn) -> usize
+    ensures value { result ≡ base_number_of insn.now }
+    ensures range { result < 16 }
+{
+    usize::from(sib(insn) % 8 + 8 * rex_bit(insn, 0))
+}
+
+/// The index times 1, 2, 4 or 8.
+fn scaled_index(insn: &Insn, regs: &Regs) -> u64
+    ensures { result ≡ scaled_index_of insn.now regs.now }
+{
+    let number = index_number(insn);
+    if number == 4 {
+        0
+    } else {
+        regs.general[number] << (sib(insn) / 64)
+    }
+}
+
+/// The base; with mod 0 a base field of 5 is no base.
+fn sib_base(insn: &Insn, regs: &Regs) -> u64
+    ensures { result ≡ sib_base_of insn.now regs.now }
+{
+    if modrm(insn) / 64 == 0 && sib(insn) % 8 == 5 {
+        0
+    } else {
+        regs.general[base_number(insn)]
+    }
+}
+
+// ---- the address
+
+/// The displacement, sign-extended to 64 bits.
+fn disp_value(disp: Disp) -> u64
+    ensures { result ≡ disp_value_of disp }
+{
+    match disp {
+        Disp::None => 0,
+        Disp::D8(value) => i64::from(value).cast_unsigned(),
+        Disp::D32(value) => i64::from(value).cast_unsigned(),
+    }
+}
+
+/// What the displacement is added to.
+fn base_value(insn: &Insn, regs: &Regs) -> u64
+    ensures { result ≡ base_value_of insn.now regs.now }
+{
+    let rm = modrm(insn) % 8;
+    if modrm(insn) / 64 == 0 && rm == 5 {
+        next_rip(insn, regs)
+    } else if rm == 4 {
+        sib_base(insn, regs).wrapping_add(scaled_index(insn, regs))
+    } else {
+        regs.general[rm_number(insn)]
+    }
+}
+
+/// The address of the memory operand.
+#[tactic(auto, unfolding(crate::specs::Address::operand_address))]
+pub fn operand_address(insn: &Insn, regs: &Regs) -> u64
+    ensures { result ≡ operand_address_of insn.now regs.now }
+{
+    base_value(insn, regs).wrapping_add(disp_value(insn.disp))
+}
+
+/// The operand that ModRM names: mod 3 names a register, any other memory.
+#[tactic(auto, unfolding(crate::specs::Address::rm_place))]
+pub fn rm_place(insn: &Insn, regs: &Regs) -> Place
+    ensures value { result ≡ rm_place_of insn.now regs.now }
+    ensures range { IsPlace result }
+{
+    if modrm(insn) / 64 == 3 {
+        Place::Register(rm_number(insn))
+    } else {
+        Place::Memory(Linear(operand_address(insn, regs)))
+    }
+}

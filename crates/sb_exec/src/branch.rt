@@ -1,0 +1,111 @@
+//! The stack, jumps, and the conditions of jumps.
+
+ghost use Rattle.std.specs.Prelude.{◌≡◌, ◌<◌};
+ghost use Rattle.sb_exec.specs.Operand.{general};
+ghost use Rattle.sb_exec.specs.Branch.{
+  top_pushed as top_pushed_of,
+  pushed as pushed_of,
+  popped as popped_of,
+  popped_into as popped_into_of,
+  target_of,
+  even_condition as even_condition_of,
+  condition as condition_of,
+  jumped_if as jumped_if_of,
+};
+
+use crate::operand::{next_rip, set_register};
+use crate::shift::differ;
+use crate::size::Size;
+use crate::write_back::last_operand;
+use sb_insn::{Flags, Insn, OperandForm, Regs};
+
+/// The number of RSP.
+const STACK_POINTER: usize = 4;
+
+// ---- the stack
+
+/// The top of the stack.
+pub fn stack_top(regs: &Regs) -> u64
+    ensures { result ≡ general regs.now 4 }
+{
+    regs.general[STACK_POINTER]
+}
+
+/// The top of the stack after 8 bytes are pushed.
+pub fn top_pushed(regs: &Regs) -> u64
+    ensures { result ≡ top_pushed_of regs.now }
+{
+    stack_top(regs).wrapping_sub(8)
+}
+
+/// The registers after 8 bytes are pushed.
+pub fn pushed(mut regs: Regs) -> Regs
+    ensures { result ≡ pushed_of regs }
+{
+    let top = top_pushed(&regs);
+    set_register(Size::Quad, STACK_POINTER, top, &mut regs);
+    regs
+}
+
+/// The registers after 8 bytes are popped.
+pub fn popped(mut regs: Regs) -> Regs
+    ensures { result ≡ popped_of regs }
+{
+    let top = stack_top(&regs).wrapping_add(8);
+    set_register(Size::Quad, STACK_POINTER, top, &mut regs);
+    regs
+}
+
+/// The registers after 8 bytes are popped into one of them, which is written last.
+pub fn popped_into(number: usize, value: u64, regs: Regs) -> Regs
+    requires { number < 16 }
+    ensures { result ≡ popped_into_of number value regs }
+{
+    let mut next = popped(regs);
+    set_register(Size::Quad, number, value, &mut next);
+    next
+}
+
+// ---- jumps
+
+/// Where a jump or call leads.
+pub fn target(form: OperandForm, insn: &Insn, regs: &Regs, loaded: u64) -> u64
+    ensures { result ≡ target_of form insn.now regs.now loaded }
+{
+    last_operand(form, Size::Quad, insn, regs, loaded)
+}
+
+/// The condition of an even number, by its half.
+fn even_condition(half: u8, flags: &Flags) -> bool
+    ensures { result ≡ even_condition_of half flags.now }
+{
+    match half {
+        0 => flags.of,
+        1 => flags.cf,
+        2 => flags.zf,
+        3 => flags.cf || flags.zf,
+        4 => flags.sf,
+        5 => flags.pf,
+        6 => differ(flags.sf, flags.of),
+        _ => flags.zf || differ(flags.sf, flags.of),
+    }
+}
+
+/// Whether a condition holds (SDM volume 2, appendix B.1.4.7): the odd numbers are the negations.
+fn condition(number: u8, flags: &Flags) -> bool
+    ensures { result ≡ condition_of number flags.now }
+{
+    differ(even_condition(number / 2, flags), number % 2 == 1)
+}
+
+/// The registers after a jump that is made where the condition holds.
+pub fn jumped_if(number: u8, insn: &Insn, regs: &Regs) -> Regs
+    ensures { result ≡ jumped_if_of number insn.now regs.now }
+{
+    let rip = if condition(number, &regs.flags) {
+        target(OperandForm::Relative, insn, regs, 0)
+    } else {
+        next_rip(insn, regs)
+    };
+    Regs { rip, ..*regs }
+}

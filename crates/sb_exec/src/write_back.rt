@@ -1,0 +1,153 @@
+//! The operands of a form, and where its result goes.
+
+ghost use Rattle.std.specs.Prelude.{◌≡◌, ◌<◌};
+ghost use Rattle.sb_exec.specs.Size.{modulus};
+ghost use Rattle.sb_exec.specs.Operand.{IsPlace};
+ghost use Rattle.sb_exec.specs.WriteBack.{
+  stepped as stepped_of,
+  written as written_of,
+  rm_value as rm_value_of,
+  destination as destination_of,
+  first_operand as first_operand_of,
+  last_operand as last_operand_of,
+  written_back as written_back_of,
+  computed as computed_of,
+};
+
+use crate::action::{After, Operation, Place};
+use crate::address::rm_place;
+use crate::operand::{
+    imm_value, next_rip, opcode_number, operand_value, reg_number, register, set_register,
+};
+use crate::operated::operate;
+use crate::size::Size;
+use sb_insn::{Insn, OperandForm, Regs};
+
+/// The number of RCX, whose lowest byte is CL.
+const COUNTER: usize = 1;
+
+/// The registers at the next instruction.
+pub fn stepped(insn: &Insn, regs: &Regs) -> Regs
+    ensures { result ≡ stepped_of insn.now regs.now }
+{
+    Regs {
+        rip: next_rip(insn, regs),
+        ..*regs
+    }
+}
+
+/// A value that is written to a place: into its register, or as what is stored.
+#[tactic(auto, unfolding(crate::specs::WriteBack::written))]
+pub fn written(size: Size, place: Place, value: u64, mut regs: Regs) -> After
+    requires { IsPlace place }
+    ensures { result ≡ written_of size place value regs }
+{
+    match place {
+        Place::Register(number) => {
+            set_register(size, number, value, &mut regs);
+            After { regs, stored: 0 }
+        }
+        Place::Memory(_) => After {
+            regs,
+            stored: value,
+        },
+    }
+}
+
+// ---- operands
+
+/// The operand that ModRM names by mod and rm.
+pub fn rm_value(size: Size, insn: &Insn, regs: &Regs, loaded: u64) -> u64
+    ensures value { result ≡ rm_value_of size insn.now regs.now loaded }
+    ensures range { result < modulus size }
+{
+    operand_value(size, rm_place(insn, regs), regs, loaded)
+}
+
+/// Where the result goes: the accumulator where the form names no place.
+#[tactic(auto, unfolding(crate::specs::WriteBack::destination))]
+fn destination(form: OperandForm, insn: &Insn, regs: &Regs) -> Place
+    ensures value { result ≡ destination_of form insn.now regs.now }
+    ensures range { IsPlace result }
+{
+    match form {
+        OperandForm::RmReg
+        | OperandForm::RmImm
+        | OperandForm::RmCount
+        | OperandForm::RmCl
+        | OperandForm::Rm => rm_place(insn, regs),
+        OperandForm::RegRm | OperandForm::RegRmImm => Place::Register(reg_number(insn)),
+        OperandForm::OpcodeImm | OperandForm::Opcode => Place::Register(opcode_number(insn)),
+        _ => Place::Register(0),
+    }
+}
+
+/// The first number of an operation.
+#[tactic(auto, unfolding(crate::specs::WriteBack::first_operand))]
+fn first_operand(form: OperandForm, size: Size, insn: &Insn, regs: &Regs, loaded: u64) -> u64
+    ensures value { result ≡ first_operand_of form size insn.now regs.now loaded }
+    ensures range { result < modulus size }
+{
+    match form {
+        OperandForm::RegRmImm => rm_value(size, insn, regs, loaded),
+        _ => operand_value(size, destination(form, insn, regs), regs, loaded),
+    }
+}
+
+/// The last operand of a form. A relative one is the address that lies so far from the next instruction.
+#[tactic(auto, unfolding(crate::specs::WriteBack::last_operand))]
+pub fn last_operand(form: OperandForm, size: Size, insn: &Insn, regs: &Regs, loaded: u64) -> u64
+    ensures value { result ≡ last_operand_of form size insn.now regs.now loaded }
+    ensures range { result < modulus size }
+{
+    match form {
+        OperandForm::RmReg => register(size, reg_number(insn), regs),
+        OperandForm::RegRm | OperandForm::Rm => rm_value(size, insn, regs, loaded),
+        OperandForm::RmImm
+        | OperandForm::AccImm
+        | OperandForm::OpcodeImm
+        | OperandForm::RegRmImm
+        | OperandForm::Imm => size.low(imm_value(insn.imm)),
+        OperandForm::RmCount => Size::Byte.low(imm_value(insn.imm)),
+        OperandForm::RmCl => register(Size::Byte, COUNTER, regs),
+        OperandForm::Opcode => register(size, opcode_number(insn), regs),
+        OperandForm::Relative => size.low(next_rip(insn, regs).wrapping_add(imm_value(insn.imm))),
+        OperandForm::Nothing => 0,
+    }
+}
+
+// ---- write back
+
+/// A result that is written back, if there is one.
+#[tactic(auto, unfolding(crate::specs::WriteBack::written_back))]
+fn written_back(size: Size, place: Place, value: Option<u64>, regs: Regs) -> After
+    requires { IsPlace place }
+    ensures { result ≡ written_back_of size place value regs }
+{
+    match value {
+        Some(value) => written(size, place, value, regs),
+        None => After { regs, stored: 0 },
+    }
+}
+
+/// The result of an operation on the operands of a form, written back.
+#[tactic(auto, unfolding(crate::specs::WriteBack::computed))]
+pub fn computed(
+    operation: Operation,
+    form: OperandForm,
+    size: Size,
+    insn: &Insn,
+    regs: &Regs,
+    loaded: u64,
+) -> After
+    ensures { result ≡ computed_of operation form size insn.now regs.now loaded }
+{
+    let first = first_operand(form, size, insn, regs, loaded);
+    let last = last_operand(form, size, insn, regs, loaded);
+    let outcome = operate(operation, size, first, last, regs.flags);
+    let next = Regs {
+        flags: outcome.flags,
+        ..stepped(insn, regs)
+    };
+    written_back(size, destination(form, insn, regs), outcome.value, next)
+}

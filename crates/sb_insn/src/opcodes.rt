@@ -1,0 +1,226 @@
+//! The opcode maps: a line for each opcode (SDM volume 2, tables A-2, A-3 and A-6).
+
+ghost use Rattle.std.specs.Prelude.{◌≡◌};
+ghost use Rattle.sb_insn.specs.OpcodeMap.{one_byte, two_byte, cell_of as cell_at, lockable, unlocked, address, of_bytes, from_byte, plain};
+ghost use Rattle.sb_insn.specs.Groups.{group_operand, operand_of as operand_at};
+
+use crate::insn::Op;
+use crate::opcode_map::Mnemonic::{
+    Add, And, Bsf, Call, Cmp, Cmpxchg, Dec, Endbr64, Imul, Inc, Jcc, Jmp, Lea, Mov, Movzx, Neg,
+    Nop, Not, Or, Pop, Push, Ret, Sar, Shl, Shr, Sub, Syscall, Test, Ud2, Vmfunc, Xadd, Xchg, Xor,
+};
+use crate::opcode_map::OperandForm::{
+    AccImm, Imm, Nothing, Opcode, OpcodeImm, RegRm, RegRmImm, Relative, Rm, RmCl, RmCount, RmImm,
+    RmReg,
+};
+use crate::opcode_map::RexRule::{Permitted, Refused};
+use crate::opcode_map::{
+    Cell, Group, ImmRule, Instruction, Mnemonic, Operand, OperandForm, Plain, RexRule, RmRule,
+};
+
+/// rm is a destination: LOCK may stand where it names memory.
+const fn lockable(mnemonic: Mnemonic, form: OperandForm, imm: ImmRule) -> Operand
+    ensures { result ≡ lockable mnemonic form imm }
+{
+    Operand {
+        lock: true,
+        rm: RmRule::Any,
+        byte_reg: false,
+        byte_rm: false,
+        imm,
+        instruction: Instruction { mnemonic, form },
+    }
+}
+
+/// LOCK may not stand.
+const fn unlocked(mnemonic: Mnemonic, form: OperandForm, imm: ImmRule) -> Operand
+    ensures { result ≡ unlocked mnemonic form imm }
+{
+    Operand {
+        lock: false,
+        rm: RmRule::Any,
+        byte_reg: false,
+        byte_rm: false,
+        imm,
+        instruction: Instruction { mnemonic, form },
+    }
+}
+
+/// rm names memory, whose address is the operand.
+const fn address(mnemonic: Mnemonic, form: OperandForm) -> Operand
+    ensures { result ≡ address mnemonic form }
+{
+    Operand {
+        lock: false,
+        rm: RmRule::Memory,
+        byte_reg: false,
+        byte_rm: false,
+        imm: ImmRule::None,
+        instruction: Instruction { mnemonic, form },
+    }
+}
+
+/// Both operands are bytes.
+const fn of_bytes(mnemonic: Mnemonic, form: OperandForm) -> Operand
+    ensures { result ≡ of_bytes mnemonic form }
+{
+    Operand {
+        lock: false,
+        rm: RmRule::Any,
+        byte_reg: true,
+        byte_rm: true,
+        imm: ImmRule::None,
+        instruction: Instruction { mnemonic, form },
+    }
+}
+
+/// rm is a byte, and reg is not.
+const fn from_byte(mnemonic: Mnemonic, form: OperandForm) -> Operand
+    ensures { result ≡ from_byte mnemonic form }
+{
+    Operand {
+        lock: false,
+        rm: RmRule::Any,
+        byte_reg: false,
+        byte_rm: true,
+        imm: ImmRule::None,
+        instruction: Instruction { mnemonic, form },
+    }
+}
+
+/// An opcode without ModRM byte.
+const fn plain(rex: RexRule, mnemonic: Mnemonic, form: OperandForm, imm: ImmRule) -> Cell
+    ensures { result ≡ plain rex mnemonic form imm }
+{
+    Cell::Plain(Plain {
+        rex,
+        imm,
+        instruction: Instruction { mnemonic, form },
+    })
+}
+
+/// The one-byte opcode map.
+#[tactic(auto, unfolding(crate::specs::OpcodeMap::one_byte))]
+fn one_byte(opcode: u8) -> Cell
+    ensures { result ≡ one_byte opcode }
+{
+    match opcode {
+        0x01 => Cell::ModRm(lockable(Add, RmReg, ImmRule::None)),
+        0x03 => Cell::ModRm(unlocked(Add, RegRm, ImmRule::None)),
+        0x05 => plain(Permitted, Add, AccImm, ImmRule::I32),
+        0x09 => Cell::ModRm(lockable(Or, RmReg, ImmRule::None)),
+        0x0B => Cell::ModRm(unlocked(Or, RegRm, ImmRule::None)),
+        0x0D => plain(Permitted, Or, AccImm, ImmRule::I32),
+        0x21 => Cell::ModRm(lockable(And, RmReg, ImmRule::None)),
+        0x23 => Cell::ModRm(unlocked(And, RegRm, ImmRule::None)),
+        0x25 => plain(Permitted, And, AccImm, ImmRule::I32),
+        0x29 => Cell::ModRm(lockable(Sub, RmReg, ImmRule::None)),
+        0x2B => Cell::ModRm(unlocked(Sub, RegRm, ImmRule::None)),
+        0x2D => plain(Permitted, Sub, AccImm, ImmRule::I32),
+        0x31 => Cell::ModRm(lockable(Xor, RmReg, ImmRule::None)),
+        0x33 => Cell::ModRm(unlocked(Xor, RegRm, ImmRule::None)),
+        0x35 => plain(Permitted, Xor, AccImm, ImmRule::I32),
+        0x39 => Cell::ModRm(unlocked(Cmp, RmReg, ImmRule::None)),
+        0x3B => Cell::ModRm(unlocked(Cmp, RegRm, ImmRule::None)),
+        0x3D => plain(Permitted, Cmp, AccImm, ImmRule::I32),
+        0x50..=0x57 => plain(Permitted, Push, Opcode, ImmRule::None),
+        0x58..=0x5F => plain(Permitted, Pop, Opcode, ImmRule::None),
+        0x68 => plain(Refused, Push, Imm, ImmRule::I32),
+        0x69 => Cell::ModRm(unlocked(Imul, RegRmImm, ImmRule::I32)),
+        0x6A => plain(Refused, Push, Imm, ImmRule::I8),
+        0x6B => Cell::ModRm(unlocked(Imul, RegRmImm, ImmRule::I8)),
+        0x70..=0x7F => plain(Refused, Jcc, Relative, ImmRule::I8),
+        0x81 => Cell::Extended(Group::Group1, RmImm, ImmRule::I32),
+        0x83 => Cell::Extended(Group::Group1, RmImm, ImmRule::I8),
+        0x85 => Cell::ModRm(unlocked(Test, RmReg, ImmRule::None)),
+        0x87 => Cell::ModRm(lockable(Xchg, RmReg, ImmRule::None)),
+        0x88 => Cell::ModRm(of_bytes(Mov, RmReg)),
+        0x89 => Cell::ModRm(unlocked(Mov, RmReg, ImmRule::None)),
+        0x8A => Cell::ModRm(of_bytes(Mov, RegRm)),
+        0x8B => Cell::ModRm(unlocked(Mov, RegRm, ImmRule::None)),
+        0x8D => Cell::ModRm(address(Lea, RegRm)),
+        0x90 => plain(Refused, Nop, Nothing, ImmRule::None),
+        0xB8..=0xBF => plain(Permitted, Mov, OpcodeImm, ImmRule::Wide),
+        0xC1 => Cell::Extended(Group::Group2, RmCount, ImmRule::I8),
+        0xC3 => plain(Refused, Ret, Nothing, ImmRule::None),
+        0xC7 => Cell::Extended(Group::Group11, RmImm, ImmRule::I32),
+        0xD3 => Cell::Extended(Group::Group2, RmCl, ImmRule::None),
+        0xE8 => plain(Refused, Call, Relative, ImmRule::I32),
+        0xE9 => plain(Refused, Jmp, Relative, ImmRule::I32),
+        0xEB => plain(Refused, Jmp, Relative, ImmRule::I8),
+        0xF7 => Cell::Extended(Group::Group3, Rm, ImmRule::None),
+        0xFF => Cell::Extended(Group::Group5, Rm, ImmRule::None),
+        _ => Cell::Absent,
+    }
+}
+
+/// The two-byte opcode map, behind 0F.
+#[tactic(auto, unfolding(crate::specs::OpcodeMap::two_byte))]
+fn two_byte(opcode: u8) -> Cell
+    ensures { result ≡ two_byte opcode }
+{
+    match opcode {
+        0x05 => plain(Refused, Syscall, Nothing, ImmRule::None),
+        0x0B => plain(Refused, Ud2, Nothing, ImmRule::None),
+        0x1F => Cell::Extended(Group::Group16, Rm, ImmRule::None),
+        0x80..=0x8F => plain(Refused, Jcc, Relative, ImmRule::I32),
+        0xAF => Cell::ModRm(unlocked(Imul, RegRm, ImmRule::None)),
+        0xB1 => Cell::ModRm(lockable(Cmpxchg, RmReg, ImmRule::None)),
+        0xB6 => Cell::ModRm(from_byte(Movzx, RegRm)),
+        0xBC => Cell::ModRm(unlocked(Bsf, RegRm, ImmRule::None)),
+        0xC1 => Cell::ModRm(lockable(Xadd, RmReg, ImmRule::None)),
+        _ => Cell::Absent,
+    }
+}
+
+/// What the opcode maps say of an opcode.
+pub fn cell_of(op: Op) -> Cell
+    ensures { result ≡ cell_at op }
+{
+    match op {
+        Op::One(opcode) => one_byte(opcode),
+        Op::Two(opcode) => two_byte(opcode),
+        Op::Endbr => plain(Refused, Endbr64, Nothing, ImmRule::None),
+        Op::Vmfunc => plain(Refused, Vmfunc, Nothing, ImmRule::None),
+    }
+}
+
+/// What a reg field makes of an opcode of the group, whose operands and immediate the opcode gives.
+#[tactic(auto, unfolding(crate::specs::Groups::group_operand))]
+fn group_operand(group: Group, form: OperandForm, imm: ImmRule, digit: u8) -> Option<Operand>
+    ensures { result ≡ group_operand group form imm digit }
+{
+    match (group, digit) {
+        (Group::Group1, 0) => Some(lockable(Add, form, imm)),
+        (Group::Group1, 1) => Some(lockable(Or, form, imm)),
+        (Group::Group1, 4) => Some(lockable(And, form, imm)),
+        (Group::Group1, 5) => Some(lockable(Sub, form, imm)),
+        (Group::Group1, 6) => Some(lockable(Xor, form, imm)),
+        (Group::Group1, 7) => Some(unlocked(Cmp, form, imm)),
+        (Group::Group2, 4) => Some(unlocked(Shl, form, imm)),
+        (Group::Group2, 5) => Some(unlocked(Shr, form, imm)),
+        (Group::Group2, 7) => Some(unlocked(Sar, form, imm)),
+        (Group::Group3, 0) => Some(unlocked(Test, RmImm, ImmRule::I32)),
+        (Group::Group3, 2) => Some(lockable(Not, form, imm)),
+        (Group::Group3, 3) => Some(lockable(Neg, form, imm)),
+        (Group::Group5, 0) => Some(lockable(Inc, form, imm)),
+        (Group::Group5, 1) => Some(lockable(Dec, form, imm)),
+        (Group::Group5, 2) => Some(unlocked(Call, form, imm)),
+        (Group::Group5, 4) => Some(unlocked(Jmp, form, imm)),
+        (Group::Group5, 6) => Some(unlocked(Push, form, imm)),
+        (Group::Group11, 0) => Some(unlocked(Mov, form, imm)),
+        (Group::Group16, 0) => Some(unlocked(Nop, form, imm)),
+        _ => None,
+    }
+}
+
+/// What a ModRM byte with this reg field means behind an opcode.
+pub fn operand_of(cell: Cell, reg: u8) -> Option<Operand>
+    ensures { result ≡ operand_at cell reg }
+{
+    match cell {
+        Cell::Absent | Cell::Plain(_) => None,
+        Cell::ModRm(operand) => Some(operand),
+        Cell::Extended(group, form, imm) => group_operand(group, form, imm, reg),
+    }
+}
