@@ -1,0 +1,5 @@
+pub mod Loop
+pub mod Numbers
+pub mod Exact
+pub mod Parts
+pub mod Whole

@@ -1,0 +1,57 @@
+//! The limits of a bundle's fields.
+
+ghost use Rattle.std.specs.Prelude.{◌≡◌};
+ghost use Rattle.sb_bundle.specs.Fields.{is_within};
+
+/// The least and the greatest number that a field may have.
+#[derive(Clone, Copy, Debug, PartialEq, Eq)]
+pub struct Limits {
+    /// The least that is allowed.
+    pub least: u32,
+    /// The greatest that is allowed.
+    pub most: u32,
+}
+
+impl Limits {
+    /// Is the number within the limits?
+    pub fn allow(&self, number: u32) -> bool
+        ensures { result ≡ is_within self.now number }
+    {
+        self.least <= number && number <= self.most
+    }
+}
+
+/// How many cores, each with one thread.
+pub const CORES: Limits = Limits { least: 1, most: 8 };
+/// How many processes.
+pub const PROCESSES: Limits = Limits { least: 1, most: 16 };
+/// How many frames of 4,096 bytes: the kernels' 512 and at least one more.
+pub const FRAMES: Limits = Limits {
+    least: 513,
+    most: 8192,
+};
+/// How many key words.
+pub const KEYS: Limits = Limits {
+    least: 0,
+    most: 128,
+};
+/// How many entries in the schedule.
+pub const SCHEDULE: Limits = Limits {
+    least: 0,
+    most: 1_048_576,
+};
+/// How many bytes in a text.
+pub const TEXT: Limits = Limits {
+    least: 1,
+    most: 2_097_152,
+};
+/// How many bytes of initial data in a process.
+pub const INITIAL: Limits = Limits {
+    least: 0,
+    most: 2_097_152,
+};
+/// How many heap pages of 4,096 bytes in a process.
+pub const HEAP: Limits = Limits {
+    least: 0,
+    most: 512,
+};
