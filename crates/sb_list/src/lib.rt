@@ -12,7 +12,7 @@
 //! ```
 #![tactic(auto)]
 
-ghost use Rattle.std.specs.Prelude.{◌≡◌};
+ghost use Rattle.std.specs.Prelude.{◌≡◌, ◌<◌, length, slice_set};
 
 use std::marker::Model;
 
@@ -43,6 +43,15 @@ impl<T> Listed<T> {
         ensures { result.now ≡ self.now }
     {
         &self.values
+    }
+
+    /// Puts a value in the place of another.
+    pub fn set(&mut self, index: usize, value: T)
+        where T: Drop
+        requires { index < length self.old }
+        ensures { self.new ≡ slice_set self.old index value }
+    {
+        self.values[index] = value;
     }
 
     /// Gives the `Vec` back.

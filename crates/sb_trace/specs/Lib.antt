@@ -2,3 +2,10 @@ pub mod Landing
 pub mod EventText
 pub mod Report
 pub mod Run
+pub mod PageName
+pub mod State
+pub mod Windows
+pub mod PlainMemory
+pub mod Start
+pub mod Step
+pub mod End

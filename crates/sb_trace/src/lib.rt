@@ -10,8 +10,12 @@
 
 mod end;
 mod event;
+mod page;
 mod report;
+mod state;
 
 pub use end::{EndKind, EndState, ThreadEnd, ThreadEnds};
 pub use event::{Event, Line, Lines, VMFUNC_PHASE, is_landing};
+pub use page::{Mode, Page, PageBytes, PageName, Seen};
 pub use report::report_text;
+pub use state::{Binding, Bindings, Thread};
