@@ -9,7 +9,9 @@ use Rattle.sb_exec.specs.declared.stop.BusStop.{BusStop}
 unfoldable pub bytes_from : {A : Type 0} → (ℕ → Result A BusStop) → ℕ → ℕ → Result (List A) BusStop
 bytes_from byte address zero = Ok []
 bytes_from byte address (suc count) =
-    and_then (byte address) (λ lowest. and_then (bytes_from byte ((address + 1) % 2 ^ 64) count) (λ others. Ok (lowest ∷ others)))
+    and_then (byte address) (λ lowest.
+    and_then (bytes_from byte ((address + 1) % 2 ^ 64) count) (λ others.
+    Ok (lowest ∷ others)))
 
 -- the number whose bytes these are, the lowest first
 abbrev pub number_of : List ℕ → ℕ

@@ -23,7 +23,8 @@ abbrev pub meaning_after : {M A : Type 0} → Interface M A → MemoryAccess →
 meaning_after bus (Loads address size) meaning loaded = meaning
 meaning_after bus (LoadsToWrite address size) meaning loaded = meaning
 meaning_after bus (Stores address size value) meaning loaded =
-    where_stored (store_answer (byte_for (bus.byte meaning) Write) address size) (bus.stored meaning address size (value loaded)) meaning
+    where_stored (store_answer (byte_for (bus.byte meaning) Write) address size)
+    (bus.stored meaning address size (value loaded)) meaning
 
 -- the call that makes an access
 abbrev pub call_of : MemoryAccess → ℕ → BusCall
@@ -44,6 +45,7 @@ abbrev pub run_on : {M A : Type 0} → (M → A → ℕ → Run M A) → Result 
 run_on next (Ok loaded) meaning account = next meaning account loaded
 run_on next (Err stop) meaning account = record { answer = Err stop; meaning = meaning; account = account }
 
+-- the accesses in their order, after this number was loaded
 abbrev pub run : {M A : Type 0} → Interface M A → List MemoryAccess → M → A → ℕ → Run M A
 run bus [] meaning account loaded = record { answer = Ok loaded; meaning = meaning; account = account }
 run bus (access ∷ others) meaning account loaded =
@@ -52,6 +54,7 @@ run bus (access ∷ others) meaning account loaded =
 
 -- ---- the instruction
 
+-- the effect comes where no access stops
 abbrev pub effect_after : Effect → Result ℕ BusStop → Result Effect BusStop
 effect_after effect (Ok loaded) = Ok effect
 effect_after effect (Err stop) = Err stop
@@ -77,11 +80,13 @@ execution_by row regs ended = record {
   account = ended.account;
 }
 
+-- what an instruction with this row leaves: nothing is loaded before its accesses
 unfoldable pub execution_of : {M A : Type 0} → Interface M A → Row → Regs → M → A → Execution M A
 execution_of bus row regs meaning account = execution_by row regs (run bus (accesses row) meaning account 0)
 
 -- registers, meaning and account go from old to new by the row, and the answer is this
-pub record Executes {M A : Type 0} (bus : Interface M A) (row : Row) (old_regs new_regs : Regs) (old_meaning new_meaning : M) (old_account new_account : A) (result : Result Effect BusStop) : Type 0 where
+pub record Executes {M A : Type 0} (bus : Interface M A) (row : Row) (old_regs new_regs : Regs)
+    (old_meaning new_meaning : M) (old_account new_account : A) (result : Result Effect BusStop) : Type 0 where
   pub answer : result ≡ (execution_of bus row old_regs old_meaning old_account).answer
   pub registers : new_regs ≡ (execution_of bus row old_regs old_meaning old_account).registers
   pub meaning : new_meaning ≡ (execution_of bus row old_regs old_meaning old_account).meaning

@@ -18,10 +18,11 @@ further address count = (address + count) % 2 ^ 64
 abbrev pub Stands : (ℕ → Result ℕ BusStop) → ℕ → List ℕ → Type 0
 Stands fetch address bytes = EachIndex bytes (λ index. fetch (further address index) ≡ Ok (slice_index bytes index))
 
--- each proper front of the bytes is one of an instruction
+-- each proper front of the bytes needs more: no instruction begins it, and one begins with it
 unfoldable pub HasShortFronts : List ℕ → Type 0
 HasShortFronts bytes = (count : ℕ) → count < length bytes → IsShort (take count bytes)
 
+-- where no instruction begins with the bytes
 abbrev pub undefined_at : ℕ → BusStop
 undefined_at address = Fault Undefined (record { 0 = address })
 
@@ -34,7 +35,8 @@ EndsFetch fetch address bytes (Err stop) asked =
     ⊎ (IsShort bytes × (fetch (further address (length bytes)) ≡ Err stop) × (asked ≡ suc (length bytes)))
 
 -- Bytes are fetched one after another, as long as those so far are a proper front of an instruction.
-pub record Fetches (fetch : ℕ → Result ℕ BusStop) (address : ℕ) (result : Result Insn BusStop) (asked : ℕ) : Type 0 where
+pub record Fetches (fetch : ℕ → Result ℕ BusStop) (address : ℕ) (result : Result Insn BusStop) (asked : ℕ)
+    : Type 0 where
   pub bytes : List ℕ
   pub stands : Stands fetch address bytes
   pub fronts : HasShortFronts bytes
@@ -42,7 +44,8 @@ pub record Fetches (fetch : ℕ → Result ℕ BusStop) (address : ℕ) (result 
 
 -- what memory gives determines the answer, and for how many bytes is asked
 abbrev pub OneFetch : Type 0
-OneFetch = (fetch : ℕ → Result ℕ BusStop) (address : ℕ) (first second : Result Insn BusStop) (asked others : ℕ)
+OneFetch =
+    (fetch : ℕ → Result ℕ BusStop) (address : ℕ) (first second : Result Insn BusStop) (asked others : ℕ)
     → Fetches fetch address first asked → Fetches fetch address second others → (first ≡ second) × (asked ≡ others)
 
 -- ---- on a bus
@@ -58,13 +61,16 @@ after_fetches bus meaning address (suc count) account =
     bus.rule (FetchByte (further address count)) meaning (after_fetches bus meaning address count account)
 
 -- an instruction is fetched, and the account is that of the fetches that were asked for
-pub record FetchesOn {M A : Type 0} (bus : Interface M A) (meaning : M) (address : ℕ) (old_account new_account : A) (result : Result Insn BusStop) : Type 0 where
+pub record FetchesOn {M A : Type 0} (bus : Interface M A) (meaning : M) (address : ℕ)
+    (old_account new_account : A) (result : Result Insn BusStop) : Type 0 where
   pub asked : ℕ
   pub fetched : Fetches (fetch_of bus meaning) address result asked
   pub account : new_account ≡ after_fetches bus meaning address asked old_account
 
 -- meaning and account determine the answer, and the account after it
 abbrev pub OneFetchOn : {M A : Type 0} → Interface M A → Type 0
-OneFetchOn {M} {A} bus = (meaning : M) (address : ℕ) (account first_account second_account : A) (first second : Result Insn BusStop)
-    → FetchesOn bus meaning address account first_account first → FetchesOn bus meaning address account second_account second
+OneFetchOn {M} {A} bus =
+    (meaning : M) (address : ℕ) (account first_account second_account : A) (first second : Result Insn BusStop)
+    → FetchesOn bus meaning address account first_account first
+    → FetchesOn bus meaning address account second_account second
     → (first ≡ second) × (first_account ≡ second_account)

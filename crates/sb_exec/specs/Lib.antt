@@ -10,3 +10,4 @@ pub mod Actions
 pub mod Rows
 pub mod Steps
 pub mod Fetching
+pub mod TestBus

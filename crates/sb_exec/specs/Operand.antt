@@ -17,6 +17,7 @@ use Rattle.sb_exec.specs.Size.{modulus}
 
 -- ---- fields
 
+-- a bit of a REX byte, 0 where there is none
 abbrev pub bit_of_rex : Option ℕ → ℕ → ℕ
 bit_of_rex None place = 0
 bit_of_rex (Some rex) place = rex / 2 ^ place % 2
@@ -25,6 +26,7 @@ bit_of_rex (Some rex) place = rex / 2 ^ place % 2
 abbrev pub rex_bit : Insn → ℕ → ℕ
 rex_bit insn place = bit_of_rex insn.rex place
 
+-- the ModRM byte, 0 where there is none
 abbrev pub modrm_of : Insn → ℕ
 modrm_of insn = unwrap_or insn.modrm 0
 
@@ -81,9 +83,11 @@ IsPlace (Memory address) = Unit {0}
 unfoldable pub low : Size → ℕ → ℕ
 low size value = value % modulus size
 
+-- what a register holds
 abbrev pub general : Regs → ℕ → ℕ
 general regs number = slice_index regs.general number
 
+-- the lowest bits of what a register holds
 abbrev pub register : Size → ℕ → Regs → ℕ
 register size number regs = low size (general regs number)
 
@@ -93,6 +97,7 @@ merged Byte old value = old / 256 * 256 + value % 256
 merged Double old value = value % 2 ^ 32
 merged Quad old value = value
 
+-- the registers after a value of this size is written to one of them
 abbrev pub with_register : Size → ℕ → ℕ → Regs → Regs
 with_register size number value regs =
     record regs { general = slice_set regs.general number (merged size (general regs number) value) }

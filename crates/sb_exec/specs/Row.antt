@@ -21,14 +21,17 @@ pub data MemoryAccess : Type 0 where
   LoadsToWrite : (address size : ℕ) → MemoryAccess
   Stores : (address size : ℕ) (value : ℕ → ℕ) → MemoryAccess
 
+-- what is loaded, as an access
 abbrev pub load_accesses : Load → List MemoryAccess
 load_accesses load.Nothing = []
 load_accesses (load.Read address size) = Loads address.0 (size_bytes size) ∷ []
 load_accesses (load.ReadToWrite address size) = LoadsToWrite address.0 (size_bytes size) ∷ []
 
+-- what is stored, as an access
 abbrev pub store_accesses : Store → (ℕ → After) → List MemoryAccess
 store_accesses store.Nothing after = []
-store_accesses (store.At address size) after = Stores address.0 (size_bytes size) (λ loaded. (after loaded).stored) ∷ []
+store_accesses (store.At address size) after =
+    Stores address.0 (size_bytes size) (λ loaded. (after loaded).stored) ∷ []
 
 -- the accesses of a row in their order
 abbrev pub accesses : Row → List MemoryAccess

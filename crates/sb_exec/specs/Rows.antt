@@ -32,6 +32,7 @@ use Rattle.sb_exec.specs.Actions.{action_of}
 abbrev pub stepped : Insn → Regs → Regs
 stepped insn regs = record regs { rip = next_rip insn regs }
 
+-- the registers with other flags
 abbrev pub with_flags : Flags → Regs → Regs
 with_flags flags regs = record regs { flags = flags }
 
@@ -39,6 +40,7 @@ with_flags flags regs = record regs { flags = flags }
 abbrev pub keeping : Regs → After
 keeping regs = record { regs = regs; stored = 0 }
 
+-- this number is stored
 abbrev pub storing : Regs → ℕ → After
 storing regs value = record { regs = regs; stored = value }
 
@@ -54,9 +56,11 @@ unfoldable pub destination : OperandForm → Insn → Place
 destination RmReg insn = rm_place insn
 destination OpcodeImm insn = Register (opcode_number insn)
 
+-- the operand that the result replaces
 unfoldable pub first_operand : OperandForm → Size → Insn → Regs → ℕ → ℕ
 first_operand form size insn regs loaded = operand_value size (destination form insn) regs loaded
 
+-- the operand that follows it
 unfoldable pub second_operand : OperandForm → Size → Insn → Regs → ℕ
 second_operand RmReg size insn regs = register size (reg_number insn) regs
 second_operand OpcodeImm size insn regs = low size (imm_value insn.imm)
@@ -70,6 +74,7 @@ written_back size place (Some value) regs = written size place value regs
 abbrev pub back : Size → Place → Outcome → Regs → After
 back size place outcome regs = written_back size place outcome.value (with_flags outcome.flags regs)
 
+-- the result of an operation on the operands of a form, written back
 unfoldable pub computed : Operation → OperandForm → Size → Insn → Regs → ℕ → After
 computed operation form size insn regs loaded =
     back size (destination form insn)
@@ -83,30 +88,36 @@ after_action (Stop effect) insn regs loaded = keeping regs
 
 -- ---- accesses
 
+-- what is loaded of an operand that is in memory
 abbrev pub load_by : MemoryUse → Size → Place → Load
 load_by usage size (Register number) = load.Nothing
 load_by memory_use.Nothing size (Memory address) = load.Nothing
 load_by memory_use.Update size (Memory address) = load.ReadToWrite address size
 
+-- what is stored to it
 abbrev pub store_by : MemoryUse → Size → Place → Store
 store_by usage size (Register number) = store.Nothing
 store_by memory_use.Nothing size (Memory address) = store.Nothing
 store_by memory_use.Update size (Memory address) = store.At address size
 
+-- what an action loads
 unfoldable pub load_of : Action → Insn → Load
 load_of (Compute operation form size usage) insn = load_by usage size (rm_place insn)
 load_of (Stop effect) insn = load.Nothing
 
+-- what an action stores
 unfoldable pub store_of : Action → Insn → Store
 store_of (Compute operation form size usage) insn = store_by usage size (rm_place insn)
 store_of (Stop effect) insn = store.Nothing
 
 -- ---- rows
 
+-- what follows an action
 unfoldable pub effect_of : Action → Effect
 effect_of (Compute operation form size usage) = Next
 effect_of (Stop effect) = effect
 
+-- the row of an action
 abbrev pub row_by : Action → Insn → Regs → Row
 row_by action insn regs = record {
   load = load_of action insn;

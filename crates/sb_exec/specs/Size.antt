@@ -3,6 +3,7 @@ use Rattle.std.specs.Prelude.{ℕ, ◌^◌}
 use Rattle.sb_exec.specs.declared.size.Size.{Size}
 use Rattle.sb_exec.specs.declared.size.Size.TheVariants.{Byte, Double, Quad}
 
+-- how many bytes a number of a size has
 abbrev pub size_bytes : Size → ℕ
 size_bytes Byte = 1
 size_bytes Double = 4

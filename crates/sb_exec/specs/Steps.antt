@@ -19,36 +19,48 @@ use Rattle.sb_exec.specs.Execution.{Execution}
 -- the number that a row loads, 0 where it loads nothing
 abbrev pub row_load_answer : {M A : Type 0} → Interface M A → Load → M → Result ℕ BusStop
 row_load_answer bus load.Nothing meaning = Ok 0
-row_load_answer bus (load.Read address size) meaning = loaded_from (byte_for (bus.byte meaning) Read) address.0 (size_bytes size)
-row_load_answer bus (load.ReadToWrite address size) meaning = loaded_from (byte_for_write (bus.byte meaning)) address.0 (size_bytes size)
+row_load_answer bus (load.Read address size) meaning =
+    loaded_from (byte_for (bus.byte meaning) Read) address.0 (size_bytes size)
+row_load_answer bus (load.ReadToWrite address size) meaning =
+    loaded_from (byte_for_write (bus.byte meaning)) address.0 (size_bytes size)
 
+-- the account after the load
 abbrev pub row_load_account : {M A : Type 0} → Interface M A → Load → M → A → A
 row_load_account bus load.Nothing meaning account = account
-row_load_account bus (load.Read address size) meaning account = bus.rule (LoadBytes address.0 (size_bytes size)) meaning account
-row_load_account bus (load.ReadToWrite address size) meaning account = bus.rule (LoadForWrite address.0 (size_bytes size)) meaning account
+row_load_account bus (load.Read address size) meaning account =
+    bus.rule (LoadBytes address.0 (size_bytes size)) meaning account
+row_load_account bus (load.ReadToWrite address size) meaning account =
+    bus.rule (LoadForWrite address.0 (size_bytes size)) meaning account
 
 -- ---- the store
 
+-- whether a row stores what it stores, if anything
 abbrev pub row_store_answer : {M A : Type 0} → Interface M A → Store → M → Result (Unit {0}) BusStop
 row_store_answer bus store.Nothing meaning = Ok tt
-row_store_answer bus (store.At address size) meaning = store_answer (byte_for (bus.byte meaning) Write) address.0 (size_bytes size)
+row_store_answer bus (store.At address size) meaning =
+    store_answer (byte_for (bus.byte meaning) Write) address.0 (size_bytes size)
 
+-- the meaning after the store of this number
 abbrev pub row_store_meaning : {M A : Type 0} → Interface M A → Store → ℕ → M → M
 row_store_meaning bus store.Nothing value meaning = meaning
 row_store_meaning bus (store.At address size) value meaning =
     where_stored (store_answer (byte_for (bus.byte meaning) Write) address.0 (size_bytes size))
     (bus.stored meaning address.0 (size_bytes size) value) meaning
 
+-- the account after it
 abbrev pub row_store_account : {M A : Type 0} → Interface M A → Store → ℕ → M → A → A
 row_store_account bus store.Nothing value meaning account = account
-row_store_account bus (store.At address size) value meaning account = bus.rule (StoreBytes address.0 (size_bytes size) value) meaning account
+row_store_account bus (store.At address size) value meaning account =
+    bus.rule (StoreBytes address.0 (size_bytes size) value) meaning account
 
 -- ---- both
 
+-- the effect, where the store is done
 abbrev pub effect_if : Result (Unit {0}) BusStop → Effect → Result Effect BusStop
 effect_if (Ok stored) effect = Ok effect
 effect_if (Err stop) effect = Err stop
 
+-- the new registers, where the store is done
 abbrev pub registers_if : Result (Unit {0}) BusStop → Regs → Regs → Regs
 registers_if (Ok stored) new old = new
 registers_if (Err stop) new old = old
@@ -64,6 +76,7 @@ store_after_load bus row regs meaning account (Ok loaded) = record {
   account = row_store_account bus row.store (row.after loaded).stored meaning account;
 }
 
+-- what the load and then the store leave
 unfoldable pub load_then_store : {M A : Type 0} → Interface M A → Row → Regs → M → A → Execution M A
 load_then_store bus row regs meaning account =
     store_after_load bus row regs meaning (row_load_account bus row.load meaning account) (row_load_answer bus row.load meaning)

@@ -1,6 +1,7 @@
 //! Instructions fetched from memory.
 
-ghost use Rattle.std.specs.Prelude.{◌≡◌};
+ghost use Rattle.std.specs.Prelude.{◌≡◌, IfOk};
+ghost use Rattle.sb_insn.specs.Grammar.{IsValid};
 ghost use Rattle.sb_exec.specs.Fetching.{FetchesOn, OneFetch, OneFetchOn};
 
 use crate::bus::Bus;
@@ -19,6 +20,7 @@ const LONGEST: usize = 13;
 /// the bytes.
 pub fn fetch_insn<B: Bus>(bus: &mut B, rip: u64) -> Result<Insn, BusStop>
     ensures fetched { FetchesOn B.interface (B.meaning bus.old) rip (B.account bus.old) (B.account bus.new) result }
+    ensures valid { IfOk result (λ insn. IsValid insn) }
     ensures same { B.meaning bus.new ≡ B.meaning bus.old }
     ensures kept { B.kept bus.new ≡ B.kept bus.old }
 {

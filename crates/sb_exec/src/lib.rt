@@ -1,10 +1,11 @@
-//! Instructions fetched and executed over any memory.
+//! Instructions fetched from any memory and executed over it.
 //!
-//! Promised: `execute` does to registers and memory what the instruction's row says, and makes the accesses of the row
-//! in their order, up to and with the first that stops, and no others.
+//! Promised: `fetch_insn` gives the one instruction whose bytes stand at an address, and fetches no byte more than it
+//! needs. `execute` does to registers and memory what the row of the instruction says: it makes the row's accesses in
+//! their order, up to and with the first that stops, and no others. After a stop all is as before.
 //!
 //! Inside: the trait `Bus`, which is all that an instruction sees of memory; what stops an access; the meaning of each
-//! instruction, as a row of data (`specs/`). Not inside: a memory.
+//! instruction as a row of data (`specs/`). Not inside: a memory, and what a system call or a switch does.
 //!
 //! A row is what is loaded, what is stored after it, and the registers and the stored number as functions of the loaded
 //! number. So `31 C0`, which is `XOR EAX, EAX`, loads and stores nothing, and leaves RAX 0, ZF and PF set, the other
@@ -30,3 +31,6 @@ pub use fetch::{fetch_insn, one_fetch, one_fetch_on};
 pub use size::Size;
 pub use step::execute;
 pub use stop::{BusStop, FaultKind};
+
+#[cfg(test)]
+mod tests;

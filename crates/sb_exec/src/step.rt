@@ -43,7 +43,8 @@ fn stored<B: Bus>(store: Store, value: u64, bus: &mut B) -> Result<(), BusStop>
 /// Makes the accesses of an instruction's row, and then sets the registers.
 #[tactic(auto, using(crate::proofs::Accesses::two_steps), unfolding(crate::specs::Rows::row_of, crate::specs::Steps::load_then_store))]
 fn perform<B: Bus>(insn: &Insn, regs: &mut Regs, bus: &mut B) -> Result<Effect, BusStop>
-    ensures row { Executes B.interface (row_of insn.now regs.old) regs.old regs.new (B.meaning bus.old) (B.meaning bus.new) (B.account bus.old) (B.account bus.new) result }
+    ensures row { Executes B.interface (row_of insn.now regs.old) regs.old regs.new
+        (B.meaning bus.old) (B.meaning bus.new) (B.account bus.old) (B.account bus.new) result }
     ensures kept { B.kept bus.new ≡ B.kept bus.old }
 {
     let action = action(insn);
@@ -58,10 +59,11 @@ fn perform<B: Bus>(insn: &Insn, regs: &mut Regs, bus: &mut B) -> Result<Effect, 
 ///
 /// `Err` is the first byte that fails, of the first access that fails. It, and each effect but `Next`, leave registers
 /// and memory as they were: SYSCALL, VMFUNC and UD2 are the caller's to do, from RIP at the instruction itself.
-#[tactic(auto, using(crate::proofs::Left::rows_left, crate::proofs::Effects::syscall_ends, crate::proofs::Effects::syscall_begins, crate::proofs::Effects::switch_ends, crate::proofs::Effects::switch_begins, crate::proofs::Known::undefined_ends, crate::proofs::Known::undefined_begins))]
+#[tactic(auto, using(crate::proofs::Laws::execute_laws))]
 pub fn execute<B: Bus>(insn: &Insn, regs: &mut Regs, bus: &mut B) -> Result<Effect, BusStop>
     requires { IsValid insn.now }
-    ensures row { Executes B.interface (row_of insn.now regs.old) regs.old regs.new (B.meaning bus.old) (B.meaning bus.new) (B.account bus.old) (B.account bus.new) result }
+    ensures row { Executes B.interface (row_of insn.now regs.old) regs.old regs.new
+        (B.meaning bus.old) (B.meaning bus.new) (B.account bus.old) (B.account bus.new) result }
     ensures regs_left { result ≢ Ok Effect.Next → regs.new ≡ regs.old }
     ensures memory_left { result ≢ Ok Effect.Next → B.meaning bus.new ≡ B.meaning bus.old }
     ensures syscall { (result ≡ Ok Effect.Syscall) ↔ (insn.now.op ≡ Op.Two 0x05) }
