@@ -1,0 +1,83 @@
+//! The listing of a text.
+
+ghost use Rattle.std.specs.Prelude.{◌≡◌, ◌↔◌, IsTrue, Contains};
+ghost use Rattle.sb_rewrite.specs.Listing.{Lists, OneListing, OnePlace, ListedApart, StartsRise};
+
+use crate::refusal::ListRefusal;
+use sb_decode::decode;
+use sb_list::Listed;
+use std::alloc::Global;
+use std::marker::Model;
+
+/// The address of a text's first byte.
+pub const TEXT_ADDRESS: u64 = 0x40_0000;
+
+/// Addresses at which instructions start, in order.
+pub type Starts = Listed<u64>;
+
+/// A text's instructions: to contracts, the list of their starts.
+#[derive(Debug, Drop)]
+pub struct Listing {
+    starts: Starts,
+}
+
+impl Model for Listing {
+    ghost use Rattle.std.specs.Prelude.{ℕ, List};
+    ghost use Rattle.std.specs.List.Sorted.{IsStrictlyIncreasing};
+
+    ghost Value = { List ℕ };
+
+    ghost view = { λ listing. listing.starts };
+
+    ghost invariant = { λ listing. IsStrictlyIncreasing listing.starts };
+}
+
+impl Listing {
+    /// The addresses at which the instructions start, in order.
+    pub fn starts(&self) -> &Starts
+        ensures { result.now ≡ self.now }
+    {
+        &self.starts
+    }
+
+    /// Whether an instruction starts at the address.
+    pub fn is_start(&self, at: u64) -> bool
+        ensures { IsTrue result ↔ Contains self.now at }
+    {
+        self.starts.items().binary_search(&at).is_ok()
+    }
+}
+
+/// The listing of a text, which stands at `TEXT_ADDRESS`.
+///
+/// # Errors
+///
+/// `Undecoded` exactly where whole instructions spell a front of the text, and behind it something is left with which
+/// no whole instruction begins; `Memory` where memory ran out, in place of any answer.
+pub fn list(alloc: Global, text: &[u8]) -> Result<Listing, ListRefusal>
+    ensures { Lists text.now result }
+{
+    let mut starts = Vec::new(alloc);
+    let mut rest = text;
+    while !rest.is_empty() {
+        let at = TEXT_ADDRESS + (text.len() - rest.len()) as u64;
+        match decode(rest) {
+            Ok((_, length)) => {
+                starts.push(at)?;
+                rest = &rest[length..];
+            }
+            Err(_) => return Err(ListRefusal::Undecoded { at }),
+        }
+    }
+    Ok(Listing {
+        starts: Starts::new(starts),
+    })
+}
+
+/// A law, which does nothing when it is called: a text has one listing, or one place where it has none.
+pub fn one_listing()
+    ensures listing { OneListing }
+    ensures place { OnePlace }
+    ensures apart { ListedApart }
+    ensures rising { StartsRise }
+{}
