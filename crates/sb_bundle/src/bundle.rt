@@ -40,7 +40,7 @@ pub struct Image {
 /// Where a core starts.
 #[derive(Clone, Copy, Debug, PartialEq, Eq)]
 pub struct CoreStart {
-    /// The process that is at home on the core.
+    /// The process in which the thread of this core is at home.
     pub process: u32,
     /// The address of its first instruction.
     pub entry: u64,

@@ -1,15 +1,15 @@
 //! Sources and sinks of bytes that count their faults.
 //!
-//! The crate promises that a program over any source and sink can say exactly what it read and wrote, also where a
-//! device failed: a fault comes only where the count of faults of its device rose, and bytes are neither lost nor made
-//! up on the way.
+//! The crate promises that a transfer over any source and sink gives exactly the bytes that were there, or says why not:
+//! a fault comes only where the count of faults of its device rose in the call, and after a fault of writing it is known
+//! how many bytes were written. What an unfinished reading had taken is lost.
 //!
 //! Inside: the traits `Source` and `Sink`; one of each in memory, which fails the calls that it is told to fail;
 //! adapters over std's readers and writers; and `read_all` and `write_all`, which work over any of them. Not inside:
 //! formats, text, and any file or terminal.
 //!
 //! ```text
-//! let mut source = MemorySource::new(bytes, 16, fails);    // gives 16 bytes a call
+//! let mut source = MemorySource::new(bytes, 16, fails);    // gives at most 16 bytes a call
 //! let input = read_all(alloc, &mut source, 1024)?;         // all of the bytes, or why not
 //! let mut sink = WriteSink::new(io::writer(&rt));
 //! write_all(&mut sink, &input)?;                           // all of them, or how many were written

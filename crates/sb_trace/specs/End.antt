@@ -6,7 +6,7 @@ use Rattle.sb_trace.specs.declared.state.Thread.{Thread}
 use Rattle.sb_trace.specs.State.{State}
 use Rattle.sb_trace.specs.Windows.{shown_by}
 
--- a thread, with the process that its view shows
+-- A thread, with the process that its view shows. Each view of a thread is its home or a binding, so one is shown.
 abbrev pub thread_end : Thread → ThreadEnd
 thread_end thread = record {
   home = thread.home;

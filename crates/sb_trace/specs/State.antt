@@ -1,4 +1,4 @@
--- The state of the plain machine: pages by name, processes, threads, and what is left to be given out.
+-- The state of the plain machine: pages by name, threads, and what is left to be given out.
 use Rattle.std.specs.Prelude.{ℕ, false, List, [], ◌∷◌, Option, Some, None, slice_get, slice_set, unwrap_or, if◌then◌else◌}
 use Rattle.sb_insn.specs.declared.registers.Regs.{Regs}
 use Rattle.sb_trace.specs.declared.end.EndKind.{EndKind}
@@ -8,7 +8,7 @@ use Rattle.sb_trace.specs.declared.page.Page.{Page}
 use Rattle.sb_trace.specs.declared.state.Thread.{Thread}
 use Rattle.sb_trace.specs.PageName.{same_name}
 
--- All that the plain machine is. Each kind of page is in one list, so a law over pages needs no case for each kind.
+-- Pages of every kind are in one list, so a law over pages needs no case for each kind.
 pub record State : Type 0 where
   pub pages : List Page
   pub threads : List Thread

@@ -1,4 +1,4 @@
--- Which page a thread sees at each linear address (docs/FORMATS.md, "The address layout").
+-- Which page a thread sees at each linear address (docs/FORMATS.md, "The memory of a thread").
 use Rattle.std.specs.Prelude.{ℕ, ◌+◌, ◌-◌, ◌/◌, ◌%◌, ◌==◌, ◌&&◌, ◌||◌, Bool, false, nat_lt, nat_le, List, [], ◌∷◌, Option, Some, None, slice_get, if◌then◌else◌}
 use Rattle.std.specs.Option.{option_map, option_and_then}
 use Rattle.sb_trace.specs.declared.page.PageName.{PageName}

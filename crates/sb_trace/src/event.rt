@@ -37,9 +37,9 @@ pub enum Event {
     WrongKey { index: u32 },
     /// A call was refused, since each stack of the server was taken.
     PoolEmpty { index: u32 },
-    /// VMFUNC with an index that is no binding.
+    /// VMFUNC in the home view with an index, other than 0, that is no binding.
     Unbound { index: u32 },
-    /// VMFUNC with a leaf other than 0.
+    /// VMFUNC in the home view with a leaf other than 0.
     BadLeaf { index: u32 },
     /// VMFUNC out of a server's view to the home view.
     Return,

@@ -1,54 +1,58 @@
 -- The definitions give one report of a bundle: a fetch, a step and a run have one outcome each.
-use Rattle.std.proofs.Common.{◌≡◌, ℕ, List, Result, Ok, Err, replicate, ap, sym, ◌∙◌, subst}
+use Rattle.std.proofs.Common.{◌≡◌, ℕ, List, Result, Ok, Err, ap, sym, ◌∙◌, subst}
 use Rattle.sb_insn.specs.declared.insn.Insn.{Insn}
 use Rattle.sb_insn.specs.declared.registers.Regs.{Regs}
 use Rattle.sb_exec.specs.declared.stop.BusStop.{BusStop}
 use Rattle.sb_exec.specs.declared.stop.BusStop.TheVariants.{Fault as FaultStop, Missing}
 use Rattle.sb_exec.specs.declared.action.Effect.{Effect}
-use Rattle.sb_exec.specs.Execution.{execution_of}
-use Rattle.sb_exec.specs.Rows.{row_of}
 use Rattle.sb_exec.proofs.OneFetch.{one_fetch_on}
+use Rattle.sb_bundle.specs.declared.bundle.Bundle.{Bundle}
 use Rattle.sb_trace.specs.declared.event.Event.{Event}
 use Rattle.sb_trace.specs.declared.event.Line.{Line}
 use Rattle.sb_trace.specs.declared.end.EndKind.{EndKind}
 use Rattle.sb_trace.specs.declared.end.EndKind.TheVariants.{Running, Ended, Faulted}
+use Rattle.sb_trace.specs.declared.state.Thread.{Thread}
 use Rattle.sb_trace.specs.Report.{report_text}
+use Rattle.sb_trace.specs.State.{State, thread_at}
+use Rattle.sb_trace.specs.PlainMemory.{plain}
+use Rattle.sb_trace.specs.Step.{Outcome, StopsWith, PerformsBy, executed, FollowsFetch, StepsBy, Steps}
+use Rattle.sb_trace.specs.End.{end_of}
 use Rattle.sb_trace.proofs.Runs.{one_run}
-use Rattle.skybridge.specs.declared.thread.Thread.{Thread}
-use Rattle.skybridge.specs.TextPage.{text_page}
-use Rattle.skybridge.specs.Form.{Bundle}
-use Rattle.skybridge.specs.Step.{Outcome, StopsWith, PerformsWith, FollowsFetch, StepBy, Steps}
-use Rattle.skybridge.specs.Output.{first_thread, end_state, IsReport}
+use Rattle.sb_plain.specs.Start.{start_of}
+use Rattle.skybridge.specs.Output.{IsReport, first_state}
 
-one_stop : (stop : BusStop) (regs : Regs) (first second : Outcome) → StopsWith stop regs first → StopsWith stop regs second → first ≡ second
-one_stop (FaultStop kind at) regs first second one other = one ∙ sym other
-one_stop (Missing frame) regs first second one other = absurd one
+one_stop : (state : State) (number : ℕ) (stop : BusStop) (first second : Outcome) → StopsWith state number stop first → StopsWith state number stop second → first ≡ second
+one_stop state number (FaultStop kind at) first second one other = one ∙ sym other
+one_stop state number (Missing frame) first second one other = absurd one
 
-one_performance : (answer : Result Effect BusStop) (insn : Insn) (old new : Regs) (first second : Outcome)
-    → PerformsWith answer insn old new first → PerformsWith answer insn old new second → first ≡ second
-one_performance (Ok effect) insn old new first second one other = one ∙ sym other
-one_performance (Err stop) insn old new first second one other = one_stop stop old first second one other
+one_performance : (state : State) (number : ℕ) (insn : Insn) (regs : Regs) (answer : Result Effect BusStop) (regs' : Regs) (state' : State) (first second : Outcome)
+    → PerformsBy state number insn regs answer regs' state' first → PerformsBy state number insn regs answer regs' state' second → first ≡ second
+one_performance state number insn regs (Ok effect) regs' state' first second one other = one ∙ sym other
+one_performance state number insn regs (Err stop) regs' state' first second one other = one_stop state number stop first second one other
 
-one_follows : (text : List ℕ) (fetched : Result Insn BusStop) (regs : Regs) (first second : Outcome)
-    → FollowsFetch text fetched regs first → FollowsFetch text fetched regs second → first ≡ second
-one_follows text (Ok insn) regs first second one other =
-    one_performance (execution_of text_page (row_of insn regs) regs text tt).answer insn regs
-    (execution_of text_page (row_of insn regs) regs text tt).registers first second one other
-one_follows text (Err stop) regs first second one other = one_stop stop regs first second one other
+one_follows : (state : State) (number view : ℕ) (regs : Regs) (fetched : Result Insn BusStop) (first second : Outcome)
+    → FollowsFetch state number view regs fetched first → FollowsFetch state number view regs fetched second → first ≡ second
+one_follows state number view regs (Ok insn) first second one other =
+    one_performance state number insn regs (executed state number view insn regs).answer (executed state number view insn regs).registers
+    (executed state number view insn regs).meaning first second one other
+one_follows state number view regs (Err stop) first second one other = one_stop state number stop first second one other
 
-one_step : (text : List ℕ) (state : EndKind) (old new another : Thread) (event other : Event)
-    → StepBy text state old event new → StepBy text state old other another → (event ≡ other) × (new ≡ another)
-one_step text Running old new another event other first second =
-    let same = one_fetch_on text_page text old.regs.rip tt tt tt first.0 second.0 first.1 second.1 in
-    let follows = subst (λ (fetched : Result Insn BusStop). FollowsFetch text fetched old.regs (event, new)) same.0 first.2 in
-    let both = one_follows text second.0 old.regs (event, new) (other, another) follows second.2 in
+one_outcome : (state : State) (number : ℕ) (thread : Thread) (end : EndKind) (first second : Outcome)
+    → StepsBy state number thread end first → StepsBy state number thread end second → first ≡ second
+one_outcome state number thread Running first second one other =
+    let same = one_fetch_on (plain number thread.view) state thread.regs.rip tt tt tt one.0 other.0 one.1 other.1 in
+    let follows = subst (λ (fetched : Result Insn BusStop). FollowsFetch state number thread.view thread.regs fetched first) same.0 one.2 in
+    one_follows state number thread.view thread.regs other.0 first second follows other.2
+one_outcome state number thread (Ended status) first second one other = one ∙ sym other
+one_outcome state number thread (Faulted kind at) first second one other = one ∙ sym other
+
+one_step : (state : State) (core : ℕ) (event other : Event) (new another : State) → Steps state core event new → Steps state core other another → (event ≡ other) × (new ≡ another)
+one_step state core event other new another first second =
+    let both = one_outcome state core (thread_at state core) (thread_at state core).state (event, new) (other, another) first second in
     (ap (λ (outcome : Outcome). outcome.0) both, ap (λ (outcome : Outcome). outcome.1) both)
-one_step text (Ended status) old new another event other first second = (first.0 ∙ sym second.0, first.1 ∙ sym second.1)
-one_step text (Faulted kind at) old new another event other first second = (first.0 ∙ sym second.0, first.1 ∙ sym second.1)
 
 pub one_report : (bundle : Bundle) (text other : List ℕ) → IsReport bundle text → IsReport bundle other → text ≡ other
 one_report bundle text other first second =
-    let same = one_run Thread (Steps bundle.text) (λ old core event another new' new''. one_step bundle.text old.state old new' new'' event another)
-    first_thread first.1 second.1 (replicate bundle.steps 0) first.0 second.0 first.2 second.2 in
-    first.3 ∙ ap (λ (lines : List Line). report_text lines (end_state first.1)) same.0
-    ∙ ap (λ (end : Thread). report_text second.0 (end_state end)) same.1 ∙ sym second.3
+    let same = one_run State Steps one_step (first_state bundle) first.1 second.1 bundle.schedule first.0 second.0 first.2 second.2 in
+    first.3 ∙ ap (λ (lines : List Line). report_text lines (end_of first.1)) same.0
+    ∙ ap (λ (end : State). report_text second.0 (end_of end)) same.1 ∙ sym second.3

@@ -1,5 +1,3 @@
-pub mod Bundles
-pub mod Listing
 pub mod Parts
-pub mod Page
+pub mod Schedule
 pub mod Determined

@@ -4,7 +4,7 @@ use Rattle.std.specs.Fmt.{decimal}
 use Rattle.sb_bundle.specs.declared.refusal.BundleRefusal.{BundleRefusal}
 use Rattle.sb_bundle.specs.declared.refusal.BundleRefusal.TheVariants.{Short, Magic, Version, Count, Range, Trailing, Memory}
 use Rattle.sb_load.specs.declared.refusal.LoadRefusal.{LoadRefusal}
-use Rattle.sb_load.specs.Line.{load_refusal_text}
+use Rattle.sb_load.specs.RefusalText.{refusal_text}
 
 abbrev pub usage_line : List ℕ
 usage_line = codes "usage: skybridge --help\n"
@@ -29,4 +29,4 @@ bundle_line (Trailing at) = named_at (codes "Trailing") at
 bundle_line Memory = []
 
 abbrev pub load_line : LoadRefusal → List ℕ
-load_line refusal = load_refusal_text refusal ++ codes "\n"
+load_line refusal = refusal_text refusal ++ codes "\n"

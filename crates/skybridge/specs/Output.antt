@@ -1,5 +1,5 @@
 -- What the program writes.
-use Rattle.std.specs.Prelude.{◌≡◌, ℕ, List, [], ◌++◌, Option, Some, None, take}
+use Rattle.std.specs.Prelude.{◌≡◌, ℕ, ◌-◌, List, [], ◌++◌, Option, Some, None, take}
 use Rattle.sb_port.specs.Port.{Rose, Appended}
 use Rattle.sb_bundle.specs.declared.bundle.Bundle.{Bundle}
 use Rattle.sb_trace.specs.declared.event.Line.{Line}
@@ -8,22 +8,30 @@ use Rattle.sb_trace.specs.State.{State}
 use Rattle.sb_trace.specs.Step.{Steps}
 use Rattle.sb_trace.specs.End.{end_of}
 use Rattle.sb_trace.specs.Report.{report_text}
+use Rattle.sb_load.specs.Need.{need_of, have_of}
 use Rattle.sb_plain.specs.Start.{start_of}
-use Rattle.skybridge.specs.Input.{IsAccepted}
+use Rattle.sb_bundle.specs.declared.refusal.BundleRefusal.{BundleRefusal}
+use Rattle.sb_load.specs.declared.refusal.LoadRefusal.{LoadRefusal}
+use Rattle.skybridge.specs.Lines.{bundle_line, load_line}
+use Rattle.skybridge.specs.Input.{IsAccepted, IsNoBundle, IsNotLoadable}
+
+-- the plain machine at the start: the frames that loading does not need are free
+abbrev pub first_state : Bundle → State
+first_state bundle = start_of bundle (have_of bundle - need_of bundle)
 
 -- The text is the report of the plain machine's run on the bundle's schedule.
 abbrev pub IsReport : Bundle → List ℕ → Type 0
 IsReport bundle text =
-    (lines : List Line) × (end : State) × RunBy Steps (start_of bundle) bundle.schedule lines end × (text ≡ report_text lines (end_of end))
+    (lines : List Line) × (end : State) × RunBy Steps (first_state bundle) bundle.schedule lines end × (text ≡ report_text lines (end_of end))
 
 -- ---- bytes that may be told
 
--- the bytes are told, and are so
+-- the bytes are told, and the claim holds of them
 abbrev pub IsTold : Option (List ℕ) → (List ℕ → Type 0) → Type 0
 IsTold None claim = ⊥
 IsTold (Some bytes) claim = claim bytes
 
--- the bytes are so, if they are told
+-- if the bytes are told, the claim holds of them
 abbrev pub WhereTold : Option (List ℕ) → (List ℕ → Type 0) → Type 0
 WhereTold None claim = Unit {0}
 WhereTold (Some bytes) claim = claim bytes
@@ -53,3 +61,21 @@ Reported left left' held held' =
 abbrev pub PartlyReported : Option (List ℕ) → Option (List ℕ) → Option (List ℕ) → Option (List ℕ) → Type 0
 PartlyReported left left' held held' =
     (bundle : Bundle) × (text : List ℕ) × WhereTold left (WasRead left' bundle) × IsReport bundle text × PartlyAppended held held' text
+
+-- ---- the refusals that name a place
+
+-- the bytes, which were read to their end, are refused so
+abbrev pub WasRefused : Option (List ℕ) → (List ℕ → Type 0) → List ℕ → Type 0
+WasRefused left' claim bytes = claim bytes × (left' ≡ Some [])
+
+-- the input is no bundle, and the line of its refusal was written
+abbrev pub RefusedBundle : Option (List ℕ) → Option (List ℕ) → Option (List ℕ) → Option (List ℕ) → ℕ → ℕ → Type 0
+RefusedBundle left left' held held' faults faults' =
+    (refusal : BundleRefusal) × WhereTold left (WasRefused left' (λ bytes. IsNoBundle bytes refusal))
+    × WritesLine held held' faults faults' (bundle_line refusal)
+
+-- the bundle cannot be loaded, and the line of its refusal was written
+abbrev pub RefusedLoad : Option (List ℕ) → Option (List ℕ) → Option (List ℕ) → Option (List ℕ) → ℕ → ℕ → Type 0
+RefusedLoad left left' held held' faults faults' =
+    (refusal : LoadRefusal) × WhereTold left (WasRefused left' (λ bytes. IsNotLoadable bytes refusal))
+    × WritesLine held held' faults faults' (load_line refusal)

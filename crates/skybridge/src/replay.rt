@@ -1,34 +1,74 @@
-//! From the bytes of an input to the report, or why there is none.
+//! From the bytes of an input to the report of its run, or why there is none.
 
-ghost use Rattle.std.specs.Prelude.{◌≡◌, IfOk, string_bytes};
+ghost use Rattle.std.specs.Prelude.{IfOk, length, string_bytes};
 ghost use Rattle.sb_trace.specs.Run.{RunBy};
 ghost use Rattle.sb_trace.specs.Step.{Steps};
-ghost use Rattle.skybridge.specs.Answer.{ReportsBytes};
+ghost use Rattle.sb_load.specs.Loading.{IsLoadable};
+ghost use Rattle.skybridge.specs.Output.{IsReport};
+ghost use Rattle.skybridge.specs.Answer.{Reports, ReportsBundle};
+ghost use Rattle.sb_bundle.specs.Limits.{IsBundle, AllBelow};
 
-use sb_bundle::{BundleRefusal, read_bundle};
+use sb_bundle::{Bundle, BundleRefusal, read_bundle};
 use sb_load::{LoadRefusal, Loaded, load};
 use sb_plain::Plain;
-use sb_trace::{Line, Lines, report_text};
+use sb_trace::{Lines, report_text};
 use std::alloc::{AllocError, Global};
-use thiserror::Error;
 
 /// Why an input has no report.
-#[derive(Clone, Copy, Debug, PartialEq, Eq, Error)]
+#[derive(Clone, Copy, Debug, PartialEq, Eq)]
 pub enum Refusal {
-    #[error("the bytes are no bundle")]
+    /// Its bytes are no bundle.
     Bundle(BundleRefusal),
-    #[error("the bundle cannot be loaded")]
+    /// Its bundle cannot be loaded.
     Load(LoadRefusal),
-    #[error("memory does not suffice")]
+    /// Memory did not suffice.
     Memory,
 }
 
-impl From<AllocError> for Refusal {
-    ghost use Rattle.skybridge.specs.declared.replay.Refusal.TheVariants.{Memory};
+// A step for each entry of the schedule.
+fn run(alloc: Global, plain: &mut Plain, schedule: &[u8]) -> Result<Lines, AllocError>
+    requires { AllBelow (length plain.old.threads) schedule.now }
+    ensures { IfOk result (λ lines. RunBy Steps plain.old schedule.now lines plain.new) }
+{
+    let mut lines = Vec::new(alloc);
+    for core in schedule {
+        lines.push(plain.step(*core))?;
+    }
+    Ok(Lines::new(lines))
+}
 
-    ghost from_gives = { λ _ refusal. refusal ≡ Memory };
+// The report of the plain machine's run on the bundle's schedule.
+fn report(alloc: Global, loaded: &Loaded) -> Result<String, AllocError>
+    requires { IsLoadable loaded.now }
+    ensures { IfOk result (λ text. IsReport loaded.now.bundle (string_bytes text)) }
+{
+    let mut plain = Plain::new(alloc, loaded)?;
+    let lines = run(alloc, &mut plain, loaded.bundle().schedule.items())?;
+    let end = plain.end(alloc)?;
+    report_text(alloc, &lines, &end)
+}
 
-    fn from(_: AllocError) -> Self {
-        Refusal::Memory
+fn load_and_report(alloc: Global, bundle: &Bundle) -> Result<String, Refusal>
+    requires { IsBundle bundle.now }
+    ensures { ReportsBundle bundle.now result }
+{
+    match load(alloc, bundle) {
+        Err(LoadRefusal::Memory) => Err(Refusal::Memory),
+        Err(why) => Err(Refusal::Load(why)),
+        Ok(loaded) => match report(alloc, &loaded) {
+            Ok(text) => Ok(text),
+            Err(AllocError) => Err(Refusal::Memory),
+        },
+    }
+}
+
+/// The report of the bundle that the bytes spell.
+pub fn report_of(alloc: Global, bytes: &[u8]) -> Result<String, Refusal>
+    ensures { Reports bytes.now result }
+{
+    match read_bundle(alloc, bytes) {
+        Err(BundleRefusal::Memory) => Err(Refusal::Memory),
+        Err(why) => Err(Refusal::Bundle(why)),
+        Ok(bundle) => load_and_report(alloc, &bundle),
     }
 }

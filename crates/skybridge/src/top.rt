@@ -1,14 +1,16 @@
 //! The top call.
 
-ghost use Rattle.std.specs.Prelude.{◌≡◌, ◌≤◌, ℕ, List, ◌↔◌, ◌⊎◌};
+ghost use Rattle.std.specs.Prelude.{◌≡◌, ◌≤◌, ℕ, List, ◌↔◌, ◌⊎◌, MatchResult, string_bytes};
 ghost use Rattle.sb_port.specs.Port.{Rose};
-ghost use Rattle.skybridge.specs.Form.{Bundle, IsBundle};
-ghost use Rattle.skybridge.specs.Output.{IsReport, IsTold, WhereTold, Reported, PartlyReported, WritesLine};
-ghost use Rattle.skybridge.specs.Words.{IsReplay, word_texts, usage_line, read_fault_line, form_line};
+ghost use Rattle.sb_bundle.specs.declared.bundle.Bundle.{Bundle};
+ghost use Rattle.skybridge.specs.Input.{IsTooLong, IsNoBundle, IsNotLoadable, IsAccepted, SomeNoBundle, SomeNotLoadable, SomeAccepted};
+ghost use Rattle.skybridge.specs.Output.{IsReport, IsTold, WhereTold, Reported, PartlyReported, RefusedBundle, RefusedLoad, WritesLine};
+ghost use Rattle.skybridge.specs.Words.{IsCommand, word_texts};
+ghost use Rattle.skybridge.specs.Lines.{usage_line, read_fault_line, too_long_line};
 
-use crate::form::read_input;
-use crate::run::replay;
-use crate::words::is_replay;
+use crate::lines::{bundle_line, load_line};
+use crate::replay::{Refusal, report_of};
+use crate::words::is_command;
 use sb_port::{ReadAll, Sink, Source, read_all, write_all};
 use std::alloc::{AllocError, Global};
 
@@ -23,14 +25,18 @@ pub enum Status {
     ReadFault = 3,
     /// The sink failed while the output was written.
     WriteFault = 4,
+    /// The input is no bundle.
+    BundleRefused = 5,
+    /// The bundle cannot be loaded.
+    LoadRefused = 6,
     /// Memory did not suffice. Nothing was written.
     NoMemory = 7,
-    /// The input is not of the accepted form.
-    Form = 9,
+    /// The input is longer than 64 MiB.
+    TooLong = 8,
 }
 
-// The most bytes of input. No accepted bundle has more.
-const INPUT_LIMIT: usize = 2_097_152;
+// The most bytes of an input.
+const INPUT_LIMIT: usize = 67_108_864;
 
 // Writes the line of a refusal, as far as the sink takes it.
 fn refuse<K: Sink>(sink: &mut K, line: &str)
@@ -40,21 +46,39 @@ fn refuse<K: Sink>(sink: &mut K, line: &str)
     let _ = write_all(sink, line.as_bytes());
 }
 
+// Writes the line of a refusal with this status, if there is memory for the line.
+fn refuse_by<K: Sink>(sink: &mut K, line: Result<String, AllocError>, status: Status) -> Status
+    ensures written { MatchResult line
+        (λ text. (result ≡ status) × WritesLine (K.held sink.old) (K.held sink.new) (K.faults sink.old) (K.faults sink.new) (string_bytes text))
+        (λ _. (result ≡ Status.NoMemory) × (K.held sink.new ≡ K.held sink.old)) }
+    ensures later { K.faults sink.old ≤ K.faults sink.new }
+{
+    match line {
+        Ok(text) => {
+            refuse(sink, text.as_str());
+            status
+        }
+        Err(AllocError) => Status::NoMemory,
+    }
+}
+
 /// Runs the command of the words, from the source to the sink.
 ///
 /// A refusal keeps its status where its line could not be written whole. Causes are tried in the order words, reading,
-/// form, memory, writing.
+/// bundle, loading, writing; `NoMemory` may come anywhere between.
 pub fn bridge<S: Source, K: Sink>(
     alloc: Global,
     words: &Vec<String>,
     source: &mut S,
     sink: &mut K,
 ) -> Status
-    // The words are good, the source was read to its end, and the report of its bundle was appended.
+    // An accepted bundle was read to the end of the source, and the report of its run was appended.
     ensures done { result ≡ Status.Done
-        → WhereTold (S.left source.old) (λ bytes. Reported bytes (S.left source.new) (K.held sink.old) (K.held sink.new)) }
+        → Reported (S.left source.old) (S.left source.new) (K.held sink.old) (K.held sink.new) }
+    ensures command { result ≡ Status.Done → IsCommand (word_texts words.now.items) }
 
-    ensures bad_words { (result ≡ Status.BadWords) ↔ (¬ IsReplay (word_texts words.now.items)) }
+    ensures bad_words { (result ≡ Status.BadWords) ↔ (¬ IsCommand (word_texts words.now.items)) }
+    ensures unread { result ≡ Status.BadWords → source.new ≡ source.old }
     ensures bad_words_line { result ≡ Status.BadWords
         → WritesLine (K.held sink.old) (K.held sink.new) (K.faults sink.old) (K.faults sink.new) usage_line }
 
@@ -62,25 +86,37 @@ pub fn bridge<S: Source, K: Sink>(
     ensures read_fault_line { result ≡ Status.ReadFault
         → WritesLine (K.held sink.old) (K.held sink.new) (K.faults sink.old) (K.faults sink.new) read_fault_line }
 
-    // An input of another form is refused as such, and no other input is.
-    ensures form { result ≡ Status.Form → WhereTold (S.left source.old) (λ bytes. ¬ IsBundle bytes) }
-    ensures refused { IsReplay (word_texts words.now.items) → IsTold (S.left source.old) (λ bytes. ¬ IsBundle bytes)
-        → ¬ Rose (S.faults source.old) (S.faults source.new) → (result ≡ Status.Form) ⊎ (result ≡ Status.NoMemory) }
-    ensures form_line { result ≡ Status.Form
-        → WritesLine (K.held sink.old) (K.held sink.new) (K.faults sink.old) (K.faults sink.new) form_line }
+    // An input that is longer than the limit is refused as such, and no other input is.
+    ensures too_long { result ≡ Status.TooLong → WhereTold (S.left source.old) IsTooLong }
+    ensures long { IsCommand (word_texts words.now.items) → IsTold (S.left source.old) IsTooLong
+        → ¬ Rose (S.faults source.old) (S.faults source.new) → (result ≡ Status.TooLong) ⊎ (result ≡ Status.NoMemory) }
+    ensures too_long_line { result ≡ Status.TooLong
+        → WritesLine (K.held sink.old) (K.held sink.new) (K.faults sink.old) (K.faults sink.new) too_long_line }
+
+    // An input that is no bundle is refused as such, and no other input is.
+    ensures bundle_refused { result ≡ Status.BundleRefused
+        → RefusedBundle (S.left source.old) (S.left source.new) (K.held sink.old) (K.held sink.new) (K.faults sink.old) (K.faults sink.new) }
+    ensures no_bundle { IsCommand (word_texts words.now.items) → IsTold (S.left source.old) SomeNoBundle
+        → ¬ Rose (S.faults source.old) (S.faults source.new) → (result ≡ Status.BundleRefused) ⊎ (result ≡ Status.NoMemory) }
+
+    // A bundle that the loader refuses is refused as such, and no other input is.
+    ensures load_refused { result ≡ Status.LoadRefused
+        → RefusedLoad (S.left source.old) (S.left source.new) (K.held sink.old) (K.held sink.new) (K.faults sink.old) (K.faults sink.new) }
+    ensures not_loadable { IsCommand (word_texts words.now.items) → IsTold (S.left source.old) SomeNotLoadable
+        → ¬ Rose (S.faults source.old) (S.faults source.new) → (result ≡ Status.LoadRefused) ⊎ (result ≡ Status.NoMemory) }
 
     ensures write_fault { result ≡ Status.WriteFault → Rose (K.faults sink.old) (K.faults sink.new) }
     ensures write_fault_part { result ≡ Status.WriteFault
-        → WhereTold (S.left source.old) (λ bytes. PartlyReported bytes (K.held sink.old) (K.held sink.new)) }
+        → PartlyReported (S.left source.old) (S.left source.new) (K.held sink.old) (K.held sink.new) }
 
     ensures no_memory { result ≡ Status.NoMemory → K.held sink.new ≡ K.held sink.old }
 
-    // Where nothing fails, a good command on an accepted bundle is done, unless memory runs out.
-    ensures complete { IsReplay (word_texts words.now.items) → IsTold (S.left source.old) IsBundle
+    // Where nothing fails, a command on an accepted bundle is done, unless memory runs out.
+    ensures complete { IsCommand (word_texts words.now.items) → IsTold (S.left source.old) SomeAccepted
         → ¬ Rose (S.faults source.old) (S.faults source.new) → ¬ Rose (K.faults sink.old) (K.faults sink.new)
         → (result ≡ Status.Done) ⊎ (result ≡ Status.NoMemory) }
 {
-    if !is_replay(words) {
+    if !is_command(words) {
         refuse(sink, "usage: skybridge --help\n");
         return Status::BadWords;
     }
@@ -91,21 +127,19 @@ pub fn bridge<S: Source, K: Sink>(
             return Status::ReadFault;
         }
         Err(ReadAll::TooLong) => {
-            refuse(sink, "form\n");
-            return Status::Form;
+            refuse(sink, "input too long\n");
+            return Status::TooLong;
         }
         Err(ReadAll::Memory) => return Status::NoMemory,
     };
-    let Some(input) = read_input(&bytes) else {
-        refuse(sink, "form\n");
-        return Status::Form;
-    };
-    match replay(alloc, &input) {
-        Err(AllocError) => Status::NoMemory,
+    match report_of(alloc, &bytes) {
         Ok(text) => match write_all(sink, text.as_bytes()) {
             Ok(()) => Status::Done,
             Err(_) => Status::WriteFault,
         },
+        Err(Refusal::Bundle(why)) => refuse_by(sink, bundle_line(alloc, why), Status::BundleRefused),
+        Err(Refusal::Load(why)) => refuse_by(sink, load_line(alloc, why), Status::LoadRefused),
+        Err(Refusal::Memory) => Status::NoMemory,
     }
 }
 
