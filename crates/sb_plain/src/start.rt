@@ -2,13 +2,14 @@
 
 ghost use Rattle.std.specs.Prelude.{◌≡◌, ◌≢◌, ◌+◌, ◌*◌, ◌^◌, ◌<◌, ◌≤◌, ◌++◌, IfOk, OnOk, [], ◌∷◌, false, length, take, map};
 ghost use Rattle.sb_trace.specs.Start.{page_count as page_count_of, filled, page_of, zeros as zeros_of, text_pages, data_pages, heap_pages, process_pages, thread_pages, images_pages, threads_pages, start_registers as registers_at_start, start_threads as threads_at_start};
-ghost use Rattle.sb_plain.specs.Start.{image_of, entry_of, AllFit, start_of};
+ghost use Rattle.sb_plain.specs.Start.{image_of, entry_of, AllFit, start_of, first_state};
 ghost use Rattle.sb_bundle.specs.Limits.{IsBundle};
 
 use crate::pages::Pages;
 use crate::state::PlainState;
 use sb_bundle::{Bundle, CoreStart, Image};
 use sb_insn::{Flags, Regs};
+use sb_load::Loaded;
 use sb_trace::{Bindings, EndKind, Page, PageBytes, PageName, Thread};
 use std::alloc::{AllocError, Global};
 
@@ -210,9 +211,9 @@ pub fn start_threads(alloc: Global, cores: &[CoreStart]) -> Result<Vec<Thread>, 
 
 // ---- the machine
 
-/// The machine at the start of a bundle's run, with so many free frames.
+// The machine at the start of a bundle's run, with so many free frames.
 #[tactic(auto, using(crate::proofs::Starting::all_fit))]
-pub fn start_machine(alloc: Global, bundle: &Bundle, free: u32) -> Result<PlainState, AllocError>
+fn start_machine(alloc: Global, bundle: &Bundle, free: u32) -> Result<PlainState, AllocError>
     requires { IsBundle bundle.now }
     ensures { IfOk result (λ state. state ≡ start_of bundle.now free) }
 {
@@ -221,5 +222,19 @@ pub fn start_machine(alloc: Global, bundle: &Bundle, free: u32) -> Result<PlainS
     let pages = start_pages(alloc, images, cores)?;
     let threads = start_threads(alloc, cores)?;
     let keys = Vec::from_slice(alloc, bundle.keys.items())?;
-    Ok(PlainState::new(pages, threads, free, keys))
+    Ok(PlainState {
+        pages,
+        threads,
+        free,
+        keys,
+    })
+}
+
+impl PlainState {
+    /// The machine at the start of a loaded bundle's run.
+    pub fn new(alloc: Global, loaded: &Loaded) -> Result<PlainState, AllocError>
+        ensures { IfOk result (λ plain. plain ≡ first_state loaded.now.bundle) }
+    {
+        start_machine(alloc, loaded.bundle(), loaded.free())
+    }
 }

@@ -27,18 +27,3 @@ impl Model for PlainState {
 
     ghost invariant = { λ state. length state.keys.items < 2 ^ 32 };
 }
-
-impl PlainState {
-    /// The state of these parts.
-    pub fn new(pages: Pages, threads: Vec<Thread>, free: u32, keys: Vec<u64>) -> PlainState
-        requires { length keys.items < 2 ^ 32 }
-        ensures { result ≡ record { pages = pages; threads = threads.items; free = free; keys = keys.items } }
-    {
-        PlainState {
-            pages,
-            threads,
-            free,
-            keys,
-        }
-    }
-}

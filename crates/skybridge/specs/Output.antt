@@ -1,5 +1,5 @@
 -- What the program writes.
-use Rattle.std.specs.Prelude.{◌≡◌, ℕ, ◌-◌, List, [], ◌++◌, Option, Some, None, take}
+use Rattle.std.specs.Prelude.{◌≡◌, ℕ, List, [], ◌++◌, Option, Some, None, take}
 use Rattle.sb_port.specs.Port.{Rose, Appended}
 use Rattle.sb_bundle.specs.declared.bundle.Bundle.{Bundle}
 use Rattle.sb_trace.specs.declared.event.Line.{Line}
@@ -8,16 +8,11 @@ use Rattle.sb_trace.specs.State.{State}
 use Rattle.sb_trace.specs.Step.{Steps}
 use Rattle.sb_trace.specs.End.{end_of}
 use Rattle.sb_trace.specs.Report.{report_text}
-use Rattle.sb_load.specs.Need.{need_of, have_of}
-use Rattle.sb_plain.specs.Start.{start_of}
+use Rattle.sb_plain.specs.Start.{first_state}
 use Rattle.sb_bundle.specs.declared.refusal.BundleRefusal.{BundleRefusal}
 use Rattle.sb_load.specs.declared.refusal.LoadRefusal.{LoadRefusal}
 use Rattle.skybridge.specs.Lines.{bundle_line, load_line}
 use Rattle.skybridge.specs.Input.{IsAccepted, IsNoBundle, IsNotLoadable}
-
--- the plain machine at the start: the frames that loading does not need are free
-abbrev pub first_state : Bundle → State
-first_state bundle = start_of bundle (have_of bundle - need_of bundle)
 
 -- The text is the report of the plain machine's run on the bundle's schedule.
 abbrev pub IsReport : Bundle → List ℕ → Type 0

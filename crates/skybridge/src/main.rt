@@ -3,32 +3,28 @@
 //! `bridge` is the top call: it takes the words of the command line, a source and a sink, and its contract says what is
 //! written and when each status comes. `main` hands it the standard streams.
 //!
-//! The way through: `top` (the command), `form` (which input is accepted), `run` (a step for each entry of the
-//! schedule), `thread` (one step), `text_page` (the memory under it).
+//! The way through: `top` (the command), `replay` (from the bytes of an input to the report of its run), `lines` (the
+//! lines of the refusals). What they call: `sb_bundle` reads the bundle, `sb_load` says whether it can be loaded,
+//! `sb_plain` runs it, and `sb_trace` writes the report.
 //!
 //! ```text
 //! skybridge replay < five.bundle
 //! ```
 #![tactic(auto)]
 
-mod form;
-mod run;
+mod lines;
+mod replay;
 #[cfg(test)]
 mod tests;
-mod text_page;
-mod thread;
 mod top;
 mod words;
 
-pub use form::{Input, read_input};
-pub use run::{replay, run};
+pub use replay::{Refusal, report_of};
 use sb_port::{ReadSource, WriteSink};
 use std::alloc::{AllocError, Global};
 use std::process::ExitCode;
 use std::rt::Env;
 use std::{env, io};
-pub use text_page::TextPage;
-pub use thread::Thread;
 pub use top::{Status, bridge, one_report};
 
 /// The words of the command line, without the program's name.
