@@ -1,6 +1,9 @@
 //! What a bundle holds.
 
+ghost use Rattle.std.specs.Prelude.{◌≡◌, IfOk};
+
 use sb_list::Listed;
+use std::alloc::{AllocError, Global};
 
 /// Key words.
 pub type Words = Listed<u64>;
@@ -44,4 +47,42 @@ pub struct CoreStart {
     pub process: u32,
     /// The address of its first instruction.
     pub entry: u64,
+}
+
+impl Image {
+    /// The same image in memory of its own.
+    pub fn copied(&self, alloc: Global) -> Result<Image, AllocError>
+        ensures { IfOk result (λ copy. copy ≡ self.now) }
+    {
+        Ok(Image {
+            text: self.text.copied(alloc)?,
+            initial: self.initial.copied(alloc)?,
+            heap_pages: self.heap_pages,
+        })
+    }
+}
+
+fn copied_images(alloc: Global, images: &[Image]) -> Result<Images, AllocError>
+    ensures { IfOk result (λ copies. copies ≡ images.now) }
+{
+    let mut copies = Vec::new(alloc);
+    for image in images {
+        copies.push(image.copied(alloc)?)?;
+    }
+    Ok(Images::new(copies))
+}
+
+impl Bundle {
+    /// The same bundle in memory of its own.
+    pub fn copied(&self, alloc: Global) -> Result<Bundle, AllocError>
+        ensures { IfOk result (λ copy. copy ≡ self.now) }
+    {
+        Ok(Bundle {
+            frames: self.frames,
+            keys: self.keys.copied(alloc)?,
+            images: copied_images(alloc, self.images.items())?,
+            cores: self.cores.copied(alloc)?,
+            schedule: self.schedule.copied(alloc)?,
+        })
+    }
 }

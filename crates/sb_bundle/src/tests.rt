@@ -157,5 +157,8 @@ fn what_is_read_is_written(rt: HostRuntime) -> Result<(), Fail> {
     );
     let bytes = write_bundle(rt.alloc(), &bundle)?;
     assert_eq!(rt; bytes.as_slice(), FIRST.as_slice());
+    let copy = bundle.copied(rt.alloc())?;
+    let again = write_bundle(rt.alloc(), &copy)?;
+    assert_eq!(rt; again.as_slice(), FIRST.as_slice());
     Ok(())
 }

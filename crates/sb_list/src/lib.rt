@@ -12,8 +12,9 @@
 //! ```
 #![tactic(auto)]
 
-ghost use Rattle.std.specs.Prelude.{◌≡◌, ◌<◌, length, slice_set};
+ghost use Rattle.std.specs.Prelude.{◌≡◌, ◌<◌, IfOk, length, slice_set};
 
+use std::alloc::{AllocError, Global};
 use std::marker::Model;
 
 /// A list of values: to contracts, the list itself.
@@ -55,6 +56,17 @@ impl<T> Listed<T> {
         self.values[index] = value;
     }
 
+    /// The same values in memory of their own.
+    pub fn copied(&self, alloc: Global) -> Result<Listed<T>, AllocError>
+    where
+        T: Copy,
+        ensures { IfOk result (λ copy. copy ≡ self.now) }
+    {
+        Ok(Listed {
+            values: Vec::from_slice(alloc, &self.values)?,
+        })
+    }
+
     /// Gives the `Vec` back.
     pub fn into_vec(self) -> Vec<T>
         ensures { result.items ≡ self }
@@ -72,6 +84,7 @@ mod tests {
     fn a_list_gives_its_vec_back(rt: HostRuntime) -> Result<(), Fail> {
         let words: Listed<u64> = Listed::new(vec![in rt.alloc(); 5, 7]?);
         assert_eq!(rt; words.items(), [5, 7].as_slice());
+        assert_eq!(rt; words.copied(rt.alloc())?.items(), [5, 7].as_slice());
         assert_eq!(rt; words.into_vec().as_slice(), [5, 7].as_slice());
         Ok(())
     }
