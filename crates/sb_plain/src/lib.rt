@@ -17,6 +17,8 @@ mod pages;
 mod reach;
 mod state;
 mod store;
+#[cfg(test)]
+mod tests;
 mod windows;
 
 pub use bus::PlainBus;
