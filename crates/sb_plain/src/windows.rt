@@ -21,7 +21,7 @@ fn server_of(bindings: &[Binding], index: u32) -> Option<u32>
 }
 
 /// The process that a thread's view shows.
-fn shown_by(view: u32, thread: &Thread) -> Option<u32>
+pub fn shown_by(view: u32, thread: &Thread) -> Option<u32>
     ensures { result ≡ shown_from view thread.now }
 {
     if view == 0 {
