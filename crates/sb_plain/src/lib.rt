@@ -11,6 +11,8 @@ mod start;
 mod state;
 mod step;
 mod store;
+#[cfg(test)]
+mod tests;
 mod windows;
 
 pub use pages::Pages;
