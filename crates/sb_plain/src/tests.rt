@@ -1,6 +1,8 @@
 //! Stores and loads of several threads over one small state.
 
-use crate::{Pages, PlainBus, PlainState, fetch_next, perform};
+use crate::bus::PlainBus;
+use crate::instruction::{fetch_next, perform};
+use crate::{Pages, Plain};
 use sb_exec::{Bus, BusStop, Effect, FaultKind};
 use sb_insn::{Flags, Op, Regs};
 use sb_list::Listed;
@@ -51,7 +53,7 @@ fn thread(alloc: Global, home: u32) -> Thread {
 }
 
 /// Two processes with a page of data each: threads 0 and 1 are at home in the first, thread 2 in the second.
-fn state(alloc: Global) -> Result<PlainState, Fail> {
+fn state(alloc: Global) -> Result<Plain, Fail> {
     let mut pages = Pages::new(alloc);
     pages.push(page(alloc, PageName::Text(0, 0), &[0x31, 0xC0], 0xCC)?)?;
     pages.push(page(alloc, PageName::Data(0, 0), &[], 0)?)?;
@@ -63,7 +65,12 @@ fn state(alloc: Global) -> Result<PlainState, Fail> {
     threads.push(thread(alloc, 0))?;
     threads.push(thread(alloc, 0))?;
     threads.push(thread(alloc, 1))?;
-    Ok(PlainState::new(pages, threads, 0, Vec::new(alloc)))
+    Ok(Plain {
+        pages,
+        threads,
+        free: 0,
+        keys: Vec::new(alloc),
+    })
 }
 
 /// The answer of a fault.
