@@ -1,0 +1,4 @@
+pub mod Targets
+pub mod Refusals
+pub mod Parts
+pub mod Known
