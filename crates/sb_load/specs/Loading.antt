@@ -61,3 +61,7 @@ Loads bundle (Err (BadEntry core at)) = IsRefusedBehindTexts bundle (λ starts. 
 Loads bundle (Err (NoFrames need have)) =
     IsRefusedBehindTexts bundle (λ starts. AllByRecursion (HasEntry starts) bundle.cores × (need ≡ need_of bundle) × (have ≡ have_of bundle) × (have < need))
 Loads bundle (Err Memory) = Unit {0}
+
+-- a bundle that may be loaded is refused for want of memory only
+abbrev pub OneAnswer : Type 0
+OneAnswer = (bundle : Bundle) (load : Load) (why : LoadRefusal) → Loads bundle (Ok load) → Loads bundle (Err why) → why ≡ Memory

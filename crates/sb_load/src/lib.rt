@@ -23,5 +23,5 @@ mod refusal;
 mod text;
 
 pub use loaded::Loaded;
-pub use loading::load;
+pub use loading::{load, one_answer};
 pub use refusal::LoadRefusal;

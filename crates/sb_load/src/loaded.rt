@@ -1,11 +1,12 @@
 //! A bundle that may be loaded.
 
-ghost use Rattle.std.specs.Prelude.{◌≡◌, ◌↔◌, ◌<◌, ◌≤◌, IsTrue, Contains, length};
+ghost use Rattle.std.specs.Prelude.{◌≡◌, ◌↔◌, ◌<◌, ◌≤◌, ◌-◌, IsTrue, Contains, length};
 ghost use Rattle.sb_bundle.specs.Limits.{IsBundle};
 ghost use Rattle.sb_load.specs.Loading.{IsLoadable, starts_of};
 ghost use Rattle.sb_load.specs.Need.{need_of, have_of};
 
 use crate::entries::is_start_of;
+use crate::need::KEPT_FRAMES;
 use sb_bundle::Bundle;
 use sb_list::Listed;
 use sb_rewrite::Listing;
@@ -65,6 +66,13 @@ impl Loaded {
         ensures enough { result ≤ have_of self.now.bundle }
     {
         self.need
+    }
+
+    /// How many frames are free when it has taken those that it needs.
+    pub fn free(&self) -> u32
+        ensures { result ≡ have_of self.now.bundle - need_of self.now.bundle }
+    {
+        self.bundle().frames - KEPT_FRAMES - self.need()
     }
 
     /// Whether an instruction of the process starts at the address.

@@ -2,19 +2,16 @@
 
 ghost use Rattle.std.specs.Prelude.{◌≡◌, ◌≤◌, length};
 ghost use Rattle.sb_bundle.specs.Limits.{IsBundle};
-ghost use Rattle.sb_load.specs.Loading.{Loads};
+ghost use Rattle.sb_load.specs.Loading.{Loads, OneAnswer};
 ghost use Rattle.sb_load.specs.Checks.{ListsTexts, ChecksFrames};
 
 use crate::entries::check_entries;
 use crate::loaded::{Listings, Loaded};
-use crate::need::need_of;
+use crate::need::{KEPT_FRAMES, need_of};
 use crate::refusal::LoadRefusal;
 use crate::text::{TextRefusal, accept_text};
 use sb_bundle::{Bundle, Image};
 use std::alloc::Global;
-
-/// The frames that the machine keeps.
-const KEPT_FRAMES: u32 = 512;
 
 /// The listings of the texts, or the first process whose text may not be loaded.
 fn list_texts(alloc: Global, images: &[Image]) -> Result<Listings, LoadRefusal>
@@ -66,3 +63,8 @@ pub fn load(alloc: Global, bundle: &Bundle) -> Result<Loaded, LoadRefusal>
     let need = check_frames(bundle)?;
     Ok(Loaded::new(bundle.copied(alloc)?, listings, need))
 }
+
+/// A law, which does nothing when it is called: a bundle that may be loaded is refused for want of memory only.
+pub fn one_answer()
+    ensures { OneAnswer }
+{}

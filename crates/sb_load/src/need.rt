@@ -7,6 +7,9 @@ ghost use Rattle.sb_load.specs.Need.{page_count, process_need, need_of};
 
 use sb_bundle::{Bundle, Image};
 
+/// The frames that the machine keeps.
+pub const KEPT_FRAMES: u32 = 512;
+
 /// Beside its pages: 11 tables and 1 pool page.
 const PROCESS_FRAMES: u32 = 12;
 

@@ -233,7 +233,6 @@ fn start_machine(alloc: Global, bundle: &Bundle, free: u32) -> Result<Plain, All
 impl Plain {
     /// The machine at the start of a loaded bundle's run.
     pub fn new(alloc: Global, loaded: &Loaded) -> Result<Plain, AllocError>
-        requires { IsBundle loaded.now.bundle }
         ensures { IfOk result (λ plain. plain ≡ first_state loaded.now.bundle) }
     {
         start_machine(alloc, loaded.bundle(), loaded.free())

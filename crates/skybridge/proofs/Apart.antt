@@ -1,5 +1,5 @@
 -- Bytes that spell a bundle spell no other one, and are not refused as none.
-use Rattle.std.proofs.Common.{◌≡◌, List, ℕ, Result, Ok, Err, ap, sym, ◌∙◌, subst, cc}
+use Rattle.std.proofs.Common.{◌≡◌, ℕ, List, Result, Ok, Err, ap, sym, ◌∙◌, subst}
 use Rattle.sb_bundle.specs.declared.bundle.Bundle.{Bundle}
 use Rattle.sb_bundle.specs.declared.refusal.BundleRefusal.{BundleRefusal}
 use Rattle.sb_bundle.specs.Reading.{reading}
