@@ -1,5 +1,6 @@
 pub mod Accesses
-pub mod Refused
+pub mod Loads
+pub mod TestBus
 pub mod Left
 pub mod Named
 pub mod Effects
