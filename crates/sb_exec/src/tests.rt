@@ -18,7 +18,7 @@ const DATA: u64 = 0x80_0000;
 #[derive(Drop)]
 struct Board<'a> {
     text: &'a [u8],
-    data: &'a [u8],
+    bytes: &'a [u8],
     writable: bool,
     /// The last store: address, size and number. It changes no byte.
     noted: Option<(u64, u8, u64)>,
@@ -27,13 +27,13 @@ struct Board<'a> {
 /// The byte at an address.
 #[tactic(auto, unfolding(crate::specs::TestBus::test_byte, crate::specs::TestBus::data_byte))]
 fn byte(board: &Board<'_>, at: Linear, access: Access) -> Result<u8, BusStop>
-    ensures { result ≡ test_byte (test_memory board.now.text.now board.now.data.now board.now.writable board.now.noted) at.0 access }
+    ensures { result ≡ test_byte (test_memory board.now.text.now board.now.bytes.now board.now.writable board.now.noted) at.0 access }
 {
     let found = match access {
         Access::Fetch => board.text.get(at.0 as usize),
         Access::Write if !board.writable => None,
         _ => match at.0.checked_sub(DATA) {
-            Some(offset) => board.data.get(offset as usize),
+            Some(offset) => board.bytes.get(offset as usize),
             None => None,
         },
     };
@@ -47,7 +47,7 @@ fn byte(board: &Board<'_>, at: Linear, access: Access) -> Result<u8, BusStop>
 #[tactic(auto, using(crate::proofs::Loads::loaded_none, crate::proofs::Loads::loaded_stop, crate::proofs::Loads::loaded_stop_later, crate::proofs::Loads::loaded_more, crate::proofs::Loads::number_fits, crate::proofs::Loads::number_below))]
 fn number(board: &Board<'_>, at: Linear, size: u8, access: Access) -> Result<u64, BusStop>
     requires { size ≤ 8 }
-    ensures answer { result ≡ loaded_from (byte_for (test_byte (test_memory board.now.text.now board.now.data.now board.now.writable board.now.noted)) access) at.0 size }
+    ensures answer { result ≡ loaded_from (byte_for (test_byte (test_memory board.now.text.now board.now.bytes.now board.now.writable board.now.noted)) access) at.0 size }
     ensures range { IfOk result (λ number. number < 256 ^ size) }
 {
     if size == 0 {
@@ -70,7 +70,7 @@ impl Bus for Board<'_> {
 
     ghost interface = { test_interface };
 
-    ghost meaning = { λ board. test_memory board.text.now board.data.now board.writable board.noted };
+    ghost meaning = { λ board. test_memory board.text.now board.bytes.now board.writable board.noted };
 
     ghost account = { λ board. tt };
 
@@ -198,10 +198,10 @@ fn regs_of(seen: Seen) -> Regs {
 
 /// The answer of a row's instruction, the registers after it, and what was stored.
 fn run(row: &Row, writable: bool) -> (Result<Effect, BusStop>, Regs, Option<(u64, u8, u64)>) {
-    let data = row.word.to_le_bytes();
+    let bytes = row.word.to_le_bytes();
     let mut board = Board {
         text: row.code,
-        data: &data,
+        bytes: &bytes,
         writable,
         noted: None,
     };
@@ -651,7 +651,7 @@ fn bytes_that_are_no_instruction_stop_the_fetch(rt: HostRuntime) {
     for (shows, code, rip, kind, at) in rows {
         let mut board = Board {
             text: code,
-            data: &[],
+            bytes: &[],
             writable: false,
             noted: None,
         };
