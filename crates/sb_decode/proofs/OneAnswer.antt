@@ -1,12 +1,12 @@
 -- Decoding has one answer.
-use Rattle.std.proofs.Common.{◌≡◌, ℕ, List, [], ◌++◌, length, Result, Ok, Err, refl, sym, ap, subst, ◌∙◌}
+use Rattle.std.proofs.Common.{◌≡◌, ℕ, List, [], length, Result, Ok, Err, refl, sym, ap, subst, ◌∙◌}
 use Rattle.std.proofs.lemmas.List.{append-nil}
 use Rattle.sb_insn.specs.declared.insn.Insn.{Insn}
 use Rattle.sb_insn.specs.Spelling.{spelling}
 use Rattle.sb_insn.specs.Grammar.{BeginsWith, IsShort, IsUndecoded}
 use Rattle.sb_decode.specs.declared.fault.DecodeFault.{DecodeFault}
 use Rattle.sb_decode.specs.declared.fault.DecodeFault.TheVariants.{Short, Undecoded}
-use Rattle.sb_decode.specs.Decode.{Decodes, OneAnswer}
+use Rattle.sb_decode.specs.Decode.{OneAnswer}
 use Rattle.sb_decode.proofs.Exact.{one_begins}
 
 begins_undecoded : (bytes : List ℕ) (insn : Insn) → BeginsWith bytes insn → IsUndecoded bytes → ⊥

@@ -1,4 +1,8 @@
 //! The opcode maps: a line for each opcode (SDM volume 2, tables A-2, A-3 and A-6).
+//!
+//! A processor runs more than stands here. Left out are, beside whole instructions: AH, CH, DH and BH; REX before `68`,
+//! `6A`, `90`, `C3`, direct jumps and calls, SYSCALL, UD2, VMFUNC and ENDBR64; a second REX byte; `0F 1F` /1 to /7; `C1`
+//! and `D3` /6; `F7` /1 and /5.
 
 ghost use Rattle.std.specs.Prelude.{◌≡◌};
 ghost use Rattle.sb_insn.specs.OpcodeMap.{one_byte, two_byte, cell_of as cell_at, lockable, unlocked, address, of_bytes, from_byte, plain};
