@@ -9,3 +9,5 @@ pub mod Laws
 pub mod Fetched
 pub mod OneFetch
 pub mod Stops
+pub mod Simulation
+pub mod Within

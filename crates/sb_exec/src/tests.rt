@@ -4,7 +4,10 @@ ghost use Rattle.std.specs.Prelude.{◌≡◌, ◌≤◌, ◌<◌, ◌^◌, IfOk
 ghost use Rattle.sb_exec.specs.Access.{byte_for, loaded_from};
 ghost use Rattle.sb_exec.specs.TestBus.{test_memory, test_byte};
 
-use crate::{Bus, BusStop, Effect, FaultKind, execute, fetch_insn};
+use crate::{
+    Bus, BusStop, Effect, FaultKind, Pair, execute, executes_agreeing, executes_told, fetch_insn,
+    one_fetch, one_fetch_on, rows_agreeing, rows_alike, rows_in, rows_told,
+};
 use sb_insn::{Flags, Regs};
 use sb_memory::{Access, Frame, Linear};
 use std::test::Fail;
@@ -673,4 +676,40 @@ fn a_stop_says_what_and_where(rt: HostRuntime) -> Result<(), Fail> {
         assert_eq!(rt; format!(in rt.alloc(); "{stop}")?.as_str(), text);
     }
     Ok(())
+}
+
+/// The memory of the tests beside itself.
+struct Itself;
+
+impl Pair for Itself {
+    ghost use Rattle.std.specs.Prelude.{◌≡◌};
+    ghost use Rattle.sb_exec.specs.TestBus.{TestMemory, test_interface};
+
+    ghost Of = { Unit {0} };
+
+    ghost Left = { TestMemory };
+
+    ghost LeftAccount = { Unit {0} };
+
+    ghost Right = { TestMemory };
+
+    ghost RightAccount = { Unit {0} };
+
+    ghost left = { λ which. test_interface };
+
+    ghost right = { λ which. test_interface };
+
+    ghost related = { λ which first second. second ≡ first };
+}
+
+#[test]
+fn the_laws_speak_of_this_memory(_rt: HostRuntime) {
+    one_fetch();
+    one_fetch_on::<Board<'_>>();
+    rows_agreeing::<Itself>();
+    rows_told::<Itself>();
+    rows_alike::<Itself>();
+    rows_in::<Itself>();
+    executes_agreeing::<Itself>();
+    executes_told::<Itself>();
 }
