@@ -1,18 +1,18 @@
 -- Bytes that lead to one answer lead to no other one.
-use Rattle.std.proofs.Common.{◌≡◌, ◌≤◌, ℕ, List, length, Option, Some, None, Result, Ok, Err, String, ap, sym, ◌∙◌, subst}
+use Rattle.std.proofs.Common.{◌≡◌, ◌≢◌, ◌≤◌, ℕ, List, length, Option, Some, None, Result, Ok, Err, ap, sym, ◌∙◌, subst}
 use Rattle.sb_port.specs.Port.{ReadWhole}
 use Rattle.sb_bundle.specs.declared.bundle.Bundle.{Bundle}
 use Rattle.sb_bundle.specs.declared.refusal.BundleRefusal.{BundleRefusal}
-use Rattle.sb_bundle.specs.Spelling.{spelling}
 use Rattle.sb_bundle.specs.Reading.{reading}
 use Rattle.sb_bundle.proofs.Whole.{reading_again, same_spelling}
 use Rattle.sb_load.specs.declared.refusal.LoadRefusal.{LoadRefusal}
 use Rattle.sb_load.specs.declared.refusal.LoadRefusal.TheVariants.{Memory}
 use Rattle.sb_load.specs.Loading.{Load, Loads}
 use Rattle.sb_load.proofs.Exclusive.{one_answer}
-use Rattle.skybridge.specs.declared.replay.Refusal.TheVariants as refusal
+use Rattle.skybridge.specs.declared.replay.Refusal.{Refusal}
+use Rattle.skybridge.specs.declared.replay.Refusal.TheVariants as variant
 use Rattle.skybridge.specs.Input.{input_limit, IsNotLoadable, SomeNoBundle, SomeNotLoadable, SomeAccepted}
-use Rattle.skybridge.specs.Output.{IsTold, WhereTold, WasRefused}
+use Rattle.skybridge.specs.Output.{IsReport, IsTold, WhereTold, WasRefused}
 use Rattle.skybridge.specs.Answer.{SpellsBundle, IsLoaded, Reports}
 
 -- ---- the bytes
@@ -43,14 +43,66 @@ told (Some old) left' bytes now Claim read same claim = subst Claim (sym (same �
 
 -- ---- a report
 
-pub reported_spelled : {A : Type 0} (left left' : Option (List ℕ)) (bytes now : List ℕ) (text : String A) → ReadWhole left left' bytes → now ≡ bytes
-    → Reports now (Ok text) → ¬ IsTold left SomeNoBundle
-reported_spelled left left' bytes now text read same report claim =
-    let bad = told left left' bytes now SomeNoBundle read same claim in
-    is_read now report.0 bad.0 report.1 bad.2
+-- the bytes spell a bundle that has this report
+abbrev HasReport : List ℕ → List ℕ → Type 0
+HasReport bytes text = (bundle : Bundle) × SpellsBundle bytes bundle × IsLoaded bundle × IsReport bundle text
 
-pub reported_loaded : {A : Type 0} (left left' : Option (List ℕ)) (bytes now : List ℕ) (text : String A) → ReadWhole left left' bytes → now ≡ bytes
-    → Reports now (Ok text) → ¬ IsTold left SomeNotLoadable
+pub reported_spelled : (left left' : Option (List ℕ)) (bytes now text : List ℕ) → ReadWhole left left' bytes → now ≡ bytes
+    → HasReport now text → ¬ IsTold left SomeNoBundle
+reported_spelled left left' bytes now text read same report claim =
+    let (why, bad) = told left left' bytes now SomeNoBundle read same claim in
+    is_read now report.0 why report.1 bad.1
+
+pub reported_loaded : (left left' : Option (List ℕ)) (bytes now text : List ℕ) → ReadWhole left left' bytes → now ≡ bytes
+    → HasReport now text → ¬ IsTold left SomeNotLoadable
 reported_loaded left left' bytes now text read same report claim =
-    let bad = told left left' bytes now SomeNotLoadable read same claim in
-    bad.2.2.1 (is_loaded now report.0 bad.1 bad.0 report.1 report.2 bad.2.0.1 bad.2.1)
+    let (why, bad) = told left left' bytes now SomeNotLoadable read same claim in
+    bad.3 (is_loaded now report.0 bad.0 why report.1 report.2 (bad.1.1, bad.1.2) bad.2)
+
+-- ---- no bundle
+
+read_refused : (now : List ℕ) (refusal : Refusal) (why : BundleRefusal) → refusal ≡ variant.Bundle why → Reports {A = Unit {0}} now (Err refusal) → reading now ≡ Err why
+read_refused now refusal why is refused = subst (λ (value : Refusal). Reports {A = Unit {0}} now (Err value)) is refused
+
+pub unread_spelled : (left left' : Option (List ℕ)) (bytes now : List ℕ) (refusal : Refusal) (why : BundleRefusal) → ReadWhole left left' bytes → now ≡ bytes
+    → refusal ≡ variant.Bundle why → Reports {A = Unit {0}} now (Err refusal) → ¬ IsTold left SomeNotLoadable
+unread_spelled left left' bytes now refusal why read same is refused claim =
+    let (other, bad) = told left left' bytes now SomeNotLoadable read same claim in
+    is_read now bad.0 why (bad.1.1, bad.1.2) (read_refused now refusal why is refused)
+
+pub unread_accepted : (left left' : Option (List ℕ)) (bytes now : List ℕ) (refusal : Refusal) (why : BundleRefusal) → ReadWhole left left' bytes → now ≡ bytes
+    → refusal ≡ variant.Bundle why → Reports {A = Unit {0}} now (Err refusal) → ¬ IsTold left SomeAccepted
+unread_accepted left left' bytes now refusal why read same is refused claim =
+    let (bundle, good) = told left left' bytes now SomeAccepted read same claim in
+    is_read now bundle why (good.0.1, good.0.2) (read_refused now refusal why is refused)
+
+-- ---- no start
+
+-- the bytes spell a bundle that the loader refuses
+abbrev Unloaded : List ℕ → LoadRefusal → Type 0
+Unloaded bytes why = (bundle : Bundle) × SpellsBundle bytes bundle × Loads bundle (Err why) × (why ≢ Memory)
+
+load_refused : (now : List ℕ) (refusal : Refusal) (why : LoadRefusal) → refusal ≡ variant.Load why → Reports {A = Unit {0}} now (Err refusal) → Unloaded now why
+load_refused now refusal why is refused = subst (λ (value : Refusal). Reports {A = Unit {0}} now (Err value)) is refused
+
+pub unloaded_spelled : (left left' : Option (List ℕ)) (bytes now : List ℕ) (refusal : Refusal) (why : LoadRefusal) → ReadWhole left left' bytes → now ≡ bytes
+    → refusal ≡ variant.Load why → Reports {A = Unit {0}} now (Err refusal) → ¬ IsTold left SomeNoBundle
+unloaded_spelled left left' bytes now refusal why read same is answer claim =
+    let refused = load_refused now refusal why is answer in
+    let (other, bad) = told left left' bytes now SomeNoBundle read same claim in
+    is_read now refused.0 other refused.1 bad.1
+
+pub unloaded_accepted : (left left' : Option (List ℕ)) (bytes now : List ℕ) (refusal : Refusal) (why : LoadRefusal) → ReadWhole left left' bytes → now ≡ bytes
+    → refusal ≡ variant.Load why → Reports {A = Unit {0}} now (Err refusal) → ¬ IsTold left SomeAccepted
+unloaded_accepted left left' bytes now refusal why read same is answer claim =
+    let refused = load_refused now refusal why is answer in
+    let (bundle, good) = told left left' bytes now SomeAccepted read same claim in
+    refused.3 (is_loaded now bundle refused.0 why (good.0.1, good.0.2) good.1 refused.1 refused.2)
+
+-- what a refusal of the loader says of the bytes
+pub unloaded_told : (left left' : Option (List ℕ)) (bytes now : List ℕ) (refusal : Refusal) (why : LoadRefusal) → ReadWhole left left' bytes → now ≡ bytes
+    → length bytes ≤ input_limit → refusal ≡ variant.Load why → Reports {A = Unit {0}} now (Err refusal) → WhereTold left (WasRefused left' (λ bytes. IsNotLoadable bytes why))
+unloaded_told None left' bytes now refusal why read same within is answer = tt
+unloaded_told (Some old) left' bytes now refusal why read same within is answer =
+    let (bundle, spelled, loads, some) = load_refused now refusal why is answer in
+    ((bundle, (subst (λ (list : List ℕ). length list ≤ input_limit) read.0 within, spelled.0, sym read.0 ∙ sym same ∙ spelled.1), loads, some), read.1)
