@@ -25,3 +25,6 @@ mod text;
 pub use loaded::Loaded;
 pub use loading::load;
 pub use refusal::LoadRefusal;
+
+#[cfg(test)]
+mod tests;
