@@ -2,7 +2,7 @@
 
 ghost use Rattle.std.specs.Prelude.{◌≡◌, ◌≤◌, length};
 ghost use Rattle.sb_bundle.specs.Limits.{IsBundle};
-ghost use Rattle.sb_load.specs.Loading.{Loads};
+ghost use Rattle.sb_load.specs.Loading.{Loads, OneAnswer};
 ghost use Rattle.sb_load.specs.Checks.{ListsTexts, ChecksFrames};
 
 use crate::entries::check_entries;
@@ -66,3 +66,9 @@ pub fn load(alloc: Global, bundle: &Bundle) -> Result<Loaded, LoadRefusal>
     let need = check_frames(bundle)?;
     Ok(Loaded::new(bundle.copied(alloc)?, listings, need))
 }
+
+/// A law, which does nothing when it is called: what `load` promises leaves one answer for each bundle, but for want of
+/// memory.
+pub fn one_answer()
+    ensures { OneAnswer }
+{}
