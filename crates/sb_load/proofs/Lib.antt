@@ -2,4 +2,4 @@ pub mod Targets
 pub mod Refusals
 pub mod Parts
 pub mod Known
-pub mod Exclusive
+pub mod OneAnswer

@@ -1,5 +1,5 @@
 -- Lists of texts and of cores, one by one.
-use Rattle.std.proofs.Common.{◌≡◌, ℕ, zero, suc, ◌+◌, ◌<◌, ◌≤◌, List, [], ◌∷◌, ◌++◌, length, take, drop, get_or, refl, ap, sym, ◌∙◌, subst, arith, length-take-le}
+use Rattle.std.proofs.Common.{◌≡◌, ℕ, suc, ◌+◌, ◌<◌, List, [], ◌∷◌, ◌++◌, length, take, drop, get_or, refl, ap, sym, ◌∙◌, subst, arith, length-take-le}
 use Rattle.std.proofs.lemmas.List.{take-append-drop, take_more, drop_more}
 use Rattle.std.specs.List.{AllByRecursion}
 use Rattle.sb_bundle.specs.declared.bundle.Image.{Image}
@@ -30,7 +30,7 @@ pub one_more_text : (images : List Image) (starts more : List (List ℕ)) (k : �
     → AreLoadable (take k images) starts → IsLoadableText text first → more ≡ starts ++ first ∷ [] → AreLoadable (take (k + 1) images) more
 one_more_text images starts more k image text first within is its_text loadable accepted pushed =
     let longer : AreLoadable (take k images ++ image ∷ []) (starts ++ first ∷ []) =
-        loadable_push (take k images) starts image first loadable (subst (λ (bytes : List ℕ). IsLoadableText bytes first) its_text accepted) in
+    loadable_push (take k images) starts image first loadable (subst (λ (bytes : List ℕ). IsLoadableText bytes first) its_text accepted) in
     let front : take (k + 1) images ≡ take k images ++ image ∷ [] = take_more images k image within ∙ ap (λ (one : Image). take k images ++ one ∷ []) (sym is) in
     subst (λ (list : List (List ℕ)). AreLoadable (take (k + 1) images) list) (sym pushed) (subst (λ (list : List Image). AreLoadable list (starts ++ first ∷ [])) (sym front) longer)
 

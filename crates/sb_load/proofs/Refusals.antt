@@ -1,10 +1,9 @@
 -- The first refusal of a text, from what its parts answer.
-use Rattle.std.proofs.Common.{◌≡◌, ◌⊎◌, inl, inr, ℕ, ◌+◌, ◌<◌, ◌≤◌, min, List, Option, None, Some, sym, subst, arith, ⊎_elim, refl}
+use Rattle.std.proofs.Common.{◌≡◌, ◌⊎◌, inl, inr, ℕ, ◌+◌, min, List, Option, None, Some, sym, subst, arith, ⊎_elim, refl}
 use Rattle.std.proofs.lemmas.Bool.{cases_eq}
-use Rattle.sb_scan.specs.Pattern.{HasPatternAt, HasNoPattern}
 use Rattle.sb_rewrite.specs.Listing.{text_address, IsListing, IsUndecodedAt}
 use Rattle.sb_rewrite.proofs.OneListing.{one_listed, one_place, listed_apart}
-use Rattle.sb_load.specs.Text.{HasBadTargetAt, IsAstrayAt, IsPatternAt, IsRefusedAt, IsLeast, IsFirstRefusal, IsLoadableText}
+use Rattle.sb_load.specs.Text.{HasBadTargetAt, IsAstrayAt, IsPatternAt, IsLeast, IsFirstRefusal, IsLoadableText}
 use Rattle.sb_load.specs.Checks.{lesser}
 
 -- the lesser of the least of two kinds is the least of both
@@ -12,9 +11,9 @@ least_of_two : (First Second : ℕ → Type 0) (at : ℕ) (other : Option ℕ) �
 least_of_two First Second at None first second = (inl first.0, λ k less. λ held. ⊎_elim (λ one. first.1 k less one) (λ two. second k two) held)
 least_of_two First Second at (Some place) first second = (
   ⊎_elim
-  (λ is. subst (λ (k : ℕ). First k ⊎ Second k) (sym is) (inl first.0))
-  (λ other. let is : min at place ≡ place = omega arith in subst (λ (k : ℕ). First k ⊎ Second k) (sym is) (inr second.0))
-  (cases_eq (min at place) at),
+      (λ is. subst (λ (k : ℕ). First k ⊎ Second k) (sym is) (inl first.0))
+      (λ other. let is : min at place ≡ place = omega arith in subst (λ (k : ℕ). First k ⊎ Second k) (sym is) (inr second.0))
+      (cases_eq (min at place) at),
   λ k less. λ held. ⊎_elim (λ one. first.1 k (omega arith) one) (λ two. second.1 k (omega arith) two) held,
 )
 

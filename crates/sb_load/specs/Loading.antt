@@ -1,5 +1,5 @@
 -- Which bundles may be loaded, and why one may not: its texts first, then its entries, then its frames.
-use Rattle.std.specs.Prelude.{◌≡◌, ℕ, ◌<◌, ◌≤◌, List, [], ◌∷◌, ◌++◌, length, Contains, unwrap_or, slice_get, Result, Ok, Err}
+use Rattle.std.specs.Prelude.{◌≡◌, ◌≢◌, ℕ, ◌<◌, ◌≤◌, List, [], ◌∷◌, ◌++◌, length, Contains, unwrap_or, slice_get, Result, Ok, Err}
 use Rattle.std.specs.List.{AllByRecursion}
 use Rattle.sb_bundle.specs.declared.bundle.Bundle.{Bundle}
 use Rattle.sb_bundle.specs.declared.bundle.Image.{Image}
@@ -62,6 +62,8 @@ Loads bundle (Err (NoFrames need have)) =
     IsRefusedBehindTexts bundle (λ starts. AllByRecursion (HasEntry starts) bundle.cores × (need ≡ need_of bundle) × (have ≡ have_of bundle) × (have < need))
 Loads bundle (Err Memory) = Unit {0}
 
--- a bundle that may be loaded is refused for want of memory only
+-- a bundle has one answer, but for want of memory
 abbrev pub OneAnswer : Type 0
-OneAnswer = (bundle : Bundle) (load : Load) (why : LoadRefusal) → Loads bundle (Ok load) → Loads bundle (Err why) → why ≡ Memory
+OneAnswer =
+    (bundle : Bundle) (first second : Result Load LoadRefusal) → first ≢ Err Memory → second ≢ Err Memory → Loads bundle first → Loads bundle second
+    → first ≡ second

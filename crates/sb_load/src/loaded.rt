@@ -32,9 +32,7 @@ impl Model for Loaded {
 
     ghost view = { λ loaded. record { bundle = loaded.bundle; starts = loaded.listings } };
 
-    ghost invariant = {
-        λ loaded. ∥ IsLoadable (record { bundle = loaded.bundle; starts = loaded.listings }) ∥₁ × (loaded.need ≡ need_of loaded.bundle)
-    };
+    ghost invariant = { λ loaded. ∥ IsLoadable (record { bundle = loaded.bundle; starts = loaded.listings }) ∥₁ × (loaded.need ≡ need_of loaded.bundle) };
 }
 
 impl Loaded {

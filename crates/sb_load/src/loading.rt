@@ -64,7 +64,8 @@ pub fn load(alloc: Global, bundle: &Bundle) -> Result<Loaded, LoadRefusal>
     Ok(Loaded::new(bundle.copied(alloc)?, listings, need))
 }
 
-/// A law, which does nothing when it is called: a bundle that may be loaded is refused for want of memory only.
+/// A law, which does nothing when it is called: what `load` promises leaves one answer for each bundle, but for want of
+/// memory.
 pub fn one_answer()
     ensures { OneAnswer }
 {}

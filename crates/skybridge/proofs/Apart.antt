@@ -1,5 +1,5 @@
 -- Bytes that lead to one answer lead to no other one.
-use Rattle.std.proofs.Common.{◌≡◌, ◌≢◌, ◌≤◌, ℕ, List, length, Option, Some, None, Result, Ok, Err, ap, sym, ◌∙◌, subst}
+use Rattle.std.proofs.Common.{◌≡◌, ◌≢◌, ◌≤◌, ℕ, List, length, Option, Some, None, Result, Ok, Err, refl, ap, sym, ◌∙◌, subst}
 use Rattle.sb_port.specs.Port.{ReadWhole}
 use Rattle.sb_bundle.specs.declared.bundle.Bundle.{Bundle}
 use Rattle.sb_bundle.specs.declared.refusal.BundleRefusal.{BundleRefusal}
@@ -8,7 +8,7 @@ use Rattle.sb_bundle.proofs.Whole.{reading_again, same_spelling}
 use Rattle.sb_load.specs.declared.refusal.LoadRefusal.{LoadRefusal}
 use Rattle.sb_load.specs.declared.refusal.LoadRefusal.TheVariants.{Memory}
 use Rattle.sb_load.specs.Loading.{Load, Loads}
-use Rattle.sb_load.proofs.Exclusive.{one_answer}
+use Rattle.sb_load.proofs.OneAnswer.{one_answer}
 use Rattle.skybridge.specs.declared.replay.Refusal.{Refusal}
 use Rattle.skybridge.specs.declared.replay.Refusal.TheVariants as variant
 use Rattle.skybridge.specs.Input.{input_limit, IsNotLoadable, SomeNoBundle, SomeNotLoadable, SomeAccepted}
@@ -28,11 +28,26 @@ is_read bytes bundle why (good, parts) refused = not_both bundle why (reading by
 one_bundle : (bytes : List ℕ) (first second : Bundle) → SpellsBundle bytes first → SpellsBundle bytes second → first ≡ second
 one_bundle bytes first second (good, parts) (good', parts') = same_spelling first second good good' (sym parts ∙ parts')
 
+-- an answer of the loader
+abbrev Answer : Type 0
+Answer = Result Load LoadRefusal
+
+not_loaded : (load : Load) (why : LoadRefusal) (answer : Answer) → answer ≡ Ok load → ¬ (answer ≡ Err why)
+not_loaded load why (Ok other) is refused = absurd cc
+not_loaded load why (Err other) is refused = absurd cc
+
+no_lack : (why : LoadRefusal) (answer : Answer) → answer ≡ Err why → why ≢ Memory → answer ≢ Err Memory
+no_lack why (Ok load) is some lack = absurd cc
+no_lack why (Err other) is some lack = absurd (some cc)
+
 -- what can be loaded is not refused by the loader
 is_loaded : (bytes : List ℕ) (first second : Bundle) (why : LoadRefusal) → SpellsBundle bytes first → IsLoaded first
-    → SpellsBundle bytes second → Loads second (Err why) → why ≡ Memory
-is_loaded bytes first second why spelled (load, same, loadable) spelled' refused =
-    one_answer first load why (same, loadable) (subst (λ (bundle : Bundle). Loads bundle (Err why)) (one_bundle bytes second first spelled' spelled) refused)
+    → SpellsBundle bytes second → Loads second (Err why) → ¬ (why ≢ Memory)
+is_loaded bytes first second why spelled (load, same, loadable) spelled' refused some =
+    let loads = subst (λ (bundle : Bundle). Loads bundle (Err why)) (one_bundle bytes second first spelled' spelled) refused in
+    let loaded : Answer = Ok load in
+    let failed : Answer = Err why in
+    not_loaded load why loaded refl (one_answer first loaded failed (λ lack. not_loaded load Memory loaded refl lack) (no_lack why failed refl some) (same, loadable) loads)
 
 -- ---- the bytes of a source
 
@@ -57,7 +72,7 @@ pub reported_loaded : (left left' : Option (List ℕ)) (bytes now text : List �
     → HasReport now text → ¬ IsTold left SomeNotLoadable
 reported_loaded left left' bytes now text read same report claim =
     let (why, bad) = told left left' bytes now SomeNotLoadable read same claim in
-    bad.3 (is_loaded now report.0 bad.0 why report.1 report.2 (bad.1.1, bad.1.2) bad.2)
+    is_loaded now report.0 bad.0 why report.1 report.2 (bad.1.1, bad.1.2) bad.2 bad.3
 
 -- ---- no bundle
 
@@ -97,7 +112,7 @@ pub unloaded_accepted : (left left' : Option (List ℕ)) (bytes now : List ℕ) 
 unloaded_accepted left left' bytes now refusal why read same is answer claim =
     let refused = load_refused now refusal why is answer in
     let (bundle, good) = told left left' bytes now SomeAccepted read same claim in
-    refused.3 (is_loaded now bundle refused.0 why (good.0.1, good.0.2) good.1 refused.1 refused.2)
+    is_loaded now bundle refused.0 why (good.0.1, good.0.2) good.1 refused.1 refused.2 refused.3
 
 -- what a refusal of the loader says of the bytes
 pub unloaded_told : (left left' : Option (List ℕ)) (bytes now : List ℕ) (refusal : Refusal) (why : LoadRefusal) → ReadWhole left left' bytes → now ≡ bytes

@@ -1,5 +1,4 @@
 -- The texts so far may be loaded, and the next one may be or not.
-use Rattle.std.proofs.Common.{◌≡◌}
 use Rattle.sb_load.proofs.Parts.{one_more_text, refused_text}
 use Rattle.sb_load.proofs.loading.list_texts.Goals as goal
 

@@ -1,5 +1,5 @@
 -- The starts are gone through in order.
-use Rattle.std.proofs.Common.{◌≡◌, ◌<◌, ◌≤◌, length, ◌∙◌, sym}
+use Rattle.std.proofs.Common.{◌∙◌, sym}
 use Rattle.std.proofs.lemmas.Bool.{false≢true}
 use Rattle.sb_load.proofs.Targets.{start_within, bad_is_first, none_is_bad, one_more_is_good}
 use Rattle.sb_load.proofs.text.first_bad_target.Goals as goal

@@ -1,4 +1,3 @@
-use Rattle.std.proofs.Common.{◌<◌, length}
 use Rattle.sb_load.specs.Loading.{Load}
 use Rattle.sb_load.proofs.Known.{has_listing}
 use Rattle.sb_load.proofs.loaded.Loaded.is_start.Goals as goal
