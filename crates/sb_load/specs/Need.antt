@@ -7,11 +7,11 @@ use Rattle.sb_bundle.specs.declared.bundle.Image.{Image}
 abbrev pub page_count : ℕ → ℕ
 page_count size = (size + 4095) / 4096
 
--- a process: its 11 tables, its text, its initial data, its heap, and its pool page
+-- a process: 11 page tables beside its root, its text, its initial data, its heap, and its pool page
 abbrev pub process_need : Image → ℕ
 process_need image = 11 + page_count (length image.text) + page_count (length image.initial) + image.heap_pages + 1
 
--- a thread: its tables, lists, stack and other pages of its own
+-- a thread: its EPTP list, 6 frames of its home view, 4 stack pages, and its save page
 abbrev pub thread_need : ℕ
 thread_need = 12
 

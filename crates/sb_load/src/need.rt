@@ -10,10 +10,10 @@ use sb_bundle::{Bundle, Image};
 /// The frames that the machine keeps.
 pub const KEPT_FRAMES: u32 = 512;
 
-/// Beside its pages: 11 tables and 1 pool page.
+/// Of a process beside its text, data and heap: 11 page tables and 1 pool page.
 const PROCESS_FRAMES: u32 = 12;
 
-/// Tables, lists, stack and other pages of a thread.
+/// Of a thread: its EPTP list, 6 frames of its home view, 4 stack pages, and its save page.
 const THREAD_FRAMES: u32 = 12;
 
 /// The pages of 4,096 bytes that bytes take.
