@@ -8,7 +8,8 @@
  *
  * The status is 2 where this system has no room for the guest's pages, or lets no child be traced.
  *
- * The guest's pages are shared between this process, which writes them, and a child, which is stepped by ptrace.
+ * The guest's pages are shared between this process, which writes them, and its children, one for each core, which are
+ * stepped by ptrace. A child has the pages of its own thread only.
  */
 #define _GNU_SOURCE
 #include <errno.h>
@@ -36,8 +37,9 @@ enum {
 
 #define TEXT 0x400000ul
 #define DATA 0x800000ul
-#define STACK 0x3004000ul /* of thread 0 */
-#define STACK_STRIDE 0x8000ul
+#define SAVE_PAGE 0x3000000ul /* of thread 0 */
+#define STACK 0x3004000ul     /* of thread 0 */
+#define STRIDE 0x8000ul       /* from one thread's pages to the next one's */
 #define ARITHMETIC_FLAGS 0x8C5ul /* OF SF ZF PF CF: SDM volume 1, section 3.4.3.1 */
 #define FLAGS_AT_START 0x202ul   /* IF, and bit 1, which is always set */
 
@@ -50,7 +52,8 @@ struct process {
     struct bytes text, data;
 };
 
-static struct user_regs_struct clear; /* the child's segment registers; its general registers are set for each thread */
+static pid_t children[CORES];
+static struct user_regs_struct clear; /* a child's segment registers; its general registers are set for each thread */
 
 static void stop_with(const char *what, int status)
 {
@@ -107,19 +110,29 @@ static int stopped_by(pid_t child)
     return WSTOPSIG(status);
 }
 
-/* A child that runs nothing but the guest. It ends with its parent. */
-static pid_t forked_child(void)
+/* What the child of a thread begins with: of the guest's pages it keeps those that the thread has. */
+static void become_thread(unsigned thread)
+{
+    prctl(PR_SET_PDEATHSIG, SIGKILL); /* it ends with its parent */
+    for (unsigned i = 0; i < CORES; i++) {
+        if (i != thread) {
+            munmap((void *)(SAVE_PAGE + i * STRIDE), PAGE);
+            munmap((void *)(STACK + i * STRIDE), STACK_PAGES * PAGE);
+        }
+    }
+    if (mprotect((void *)TEXT, PAGE, PROT_READ | PROT_EXEC) == 0 && ptrace(PTRACE_TRACEME, 0, NULL, NULL) == 0)
+        raise(SIGSTOP);
+    _exit(1);
+}
+
+/* A child that runs nothing but the guest. */
+static pid_t forked_child(unsigned thread)
 {
     pid_t child = fork();
     if (child < 0)
         stop_with("fork", FAILED);
-    if (child == 0) {
-        prctl(PR_SET_PDEATHSIG, SIGKILL);
-        if (mprotect((void *)TEXT, PAGE, PROT_READ | PROT_EXEC) != 0 || ptrace(PTRACE_TRACEME, 0, NULL, NULL) != 0)
-            _exit(1);
-        raise(SIGSTOP);
-        _exit(1);
-    }
+    if (child == 0)
+        become_thread(thread);
     int status;
     if (waitpid(child, &status, 0) != child || !WIFSTOPPED(status))
         stop_with("the child cannot be traced", UNAVAILABLE);
@@ -142,16 +155,17 @@ static void print_state(pid_t child, int signal, uint64_t rip)
         printf("stopped by signal %d\n", signal);
 }
 
-static void run_thread(pid_t child, unsigned thread, uint32_t process, uint64_t entry, uint32_t steps)
+static void run_thread(unsigned thread, uint32_t process, uint64_t entry, uint32_t steps)
 {
     struct user_regs_struct registers = clear;
+    pid_t child = children[thread];
     int signal = SIGTRAP;
 
     registers.rax = registers.rcx = registers.rdx = registers.rbx = registers.rbp = registers.rsi = 0;
     registers.r8 = registers.r9 = registers.r10 = registers.r11 = 0;
     registers.r12 = registers.r13 = registers.r14 = registers.r15 = 0;
     registers.rdi = thread;
-    registers.rsp = STACK + STACK_PAGES * PAGE + thread * STACK_STRIDE;
+    registers.rsp = STACK + STACK_PAGES * PAGE + thread * STRIDE;
     registers.rip = entry;
     registers.eflags = FLAGS_AT_START;
     registers.orig_rax = -1; /* no system call is to be resumed */
@@ -175,7 +189,7 @@ static void run_thread(pid_t child, unsigned thread, uint32_t process, uint64_t 
 }
 
 /* Runs the bundle that begins here, and gives what follows it. */
-static const uint8_t *run_bundle(pid_t child, const uint8_t *at)
+static const uint8_t *run_bundle(const uint8_t *at)
 {
     struct process processes[PROCESSES];
     uint32_t homes[CORES], steps[CORES] = {0};
@@ -202,8 +216,9 @@ static const uint8_t *run_bundle(pid_t child, const uint8_t *at)
     for (unsigned i = 0; i < cores; i++) {
         fill(TEXT, 0xCC, processes[homes[i]].text);
         fill(DATA, 0, processes[homes[i]].data);
-        memset((void *)(STACK + i * STACK_STRIDE), 0, STACK_PAGES * PAGE);
-        run_thread(child, i, homes[i], entries[i], steps[i]);
+        memset((void *)(SAVE_PAGE + i * STRIDE), 0, PAGE);
+        memset((void *)(STACK + i * STRIDE), 0, STACK_PAGES * PAGE);
+        run_thread(i, homes[i], entries[i], steps[i]);
     }
     return at;
 }
@@ -215,11 +230,15 @@ int main(void)
     size_t length = fread(input, 1, sizeof input, stdin);
     map(TEXT, PAGE);
     map(DATA, PAGE);
-    for (uintptr_t i = 0; i < CORES; i++)
-        map(STACK + i * STACK_STRIDE, STACK_PAGES * PAGE);
-    pid_t child = forked_child();
+    for (uintptr_t i = 0; i < CORES; i++) {
+        map(SAVE_PAGE + i * STRIDE, PAGE);
+        map(STACK + i * STRIDE, STACK_PAGES * PAGE);
+    }
+    for (unsigned i = 0; i < CORES; i++)
+        children[i] = forked_child(i);
     for (const uint8_t *at = input; at < input + length;)
-        at = run_bundle(child, at);
-    kill(child, SIGKILL);
+        at = run_bundle(at);
+    for (unsigned i = 0; i < CORES; i++)
+        kill(children[i], SIGKILL);
     return 0;
 }
