@@ -1,8 +1,6 @@
 -- The effect of a valid instruction is that of its opcode.
-use Rattle.std.proofs.Common.{◌≡◌, ◌∙◌, sym, subst, ℕ, Bool, true, false, Option, Some, None, refl}
+use Rattle.std.proofs.Common.{◌≡◌, ◌∙◌, Option, Some, None, refl}
 use Rattle.sb_insn.specs.declared.insn.Insn.{Insn}
-use Rattle.sb_insn.specs.declared.insn.Op.{Op}
-use Rattle.sb_insn.specs.declared.insn.Op.TheVariants.{One, Two, Endbr, Vmfunc}
 use Rattle.sb_insn.specs.declared.opcode_map.Mnemonic.{Mnemonic}
 use Rattle.sb_insn.specs.declared.opcode_map.Mnemonic.TheVariants as mnemonic
 use Rattle.sb_insn.specs.declared.opcode_map.OperandForm.{OperandForm}
@@ -11,7 +9,6 @@ use Rattle.sb_insn.specs.Grammar.{IsValid}
 use Rattle.sb_insn.specs.Listing.{instruction_of}
 use Rattle.sb_insn.proofs.Listed.{valid_listed}
 use Rattle.sb_exec.specs.declared.action.Effect.{Effect}
-use Rattle.sb_exec.specs.declared.action.Effect.TheVariants as effect
 use Rattle.sb_exec.specs.Actions.{action_by, action_for, action_of}
 use Rattle.sb_exec.specs.Rows.{effect_of}
 use Rattle.sb_exec.proofs.Named.{mnemonic_effect, op_effect, Ends, op_ends}

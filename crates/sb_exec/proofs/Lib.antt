@@ -1,5 +1,6 @@
 pub mod Accesses
-pub mod Refused
+pub mod Loads
+pub mod TestBus
 pub mod Left
 pub mod Named
 pub mod Effects
@@ -9,3 +10,5 @@ pub mod Fetched
 pub mod OneFetch
 pub mod Stops
 pub mod Keeps
+pub mod Simulation
+pub mod Within

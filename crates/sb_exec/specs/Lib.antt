@@ -16,4 +16,5 @@ pub mod Actions
 pub mod Rows
 pub mod Steps
 pub mod Fetching
+pub mod Simulation
 pub mod TestBus

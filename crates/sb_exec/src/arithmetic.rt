@@ -83,10 +83,7 @@ fn sum_overflows(size: Size, first: u64, second: u64) -> bool
             .cast_signed()
             .overflowing_add((second as u32).cast_signed())
             .1,
-        Size::Quad => first
-            .cast_signed()
-            .overflowing_add(second.cast_signed())
-            .1,
+        Size::Quad => first.cast_signed().overflowing_add(second.cast_signed()).1,
     }
 }
 
@@ -135,10 +132,7 @@ fn difference_overflows(size: Size, first: u64, second: u64) -> bool
             .cast_signed()
             .overflowing_sub((second as u32).cast_signed())
             .1,
-        Size::Quad => first
-            .cast_signed()
-            .overflowing_sub(second.cast_signed())
-            .1,
+        Size::Quad => first.cast_signed().overflowing_sub(second.cast_signed()).1,
     }
 }
 
@@ -199,10 +193,7 @@ fn product_overflows(size: Size, first: u64, second: u64) -> bool
             .cast_signed()
             .overflowing_mul((second as u32).cast_signed())
             .1,
-        Size::Quad => first
-            .cast_signed()
-            .overflowing_mul(second.cast_signed())
-            .1,
+        Size::Quad => first.cast_signed().overflowing_mul(second.cast_signed()).1,
     }
 }
 

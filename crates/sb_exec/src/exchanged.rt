@@ -24,14 +24,7 @@ use sb_insn::{Insn, Regs};
 const ACCUMULATOR: usize = 0;
 
 /// reg gets what rm held, and then rm the new value.
-fn exchanged(
-    size: Size,
-    number: usize,
-    place: Place,
-    old: u64,
-    value: u64,
-    mut regs: Regs,
-) -> After
+fn exchanged(size: Size, number: usize, place: Place, old: u64, value: u64, mut regs: Regs) -> After
     requires number { number < 16 }
     requires place { IsPlace place }
     ensures { result ≡ exchanged_of size number place old value regs }

@@ -140,7 +140,11 @@ fn store_by(usage: MemoryUse, size: Size, place: Place) -> Store
 fn load_source(form: OperandForm, insn: &Insn, regs: &Regs) -> Load
     ensures { result ≡ load_source_of form insn.now regs.now }
 {
-    load_by(rm_use(form, MemoryUse::Read), Size::Quad, rm_place(insn, regs))
+    load_by(
+        rm_use(form, MemoryUse::Read),
+        Size::Quad,
+        rm_place(insn, regs),
+    )
 }
 
 /// What an action loads.
@@ -160,7 +164,8 @@ pub fn load(action: Action, insn: &Insn, regs: &Regs) -> Load
             form, insn, regs,
         ),
         Action::Pop | Action::Return => Load::Read(Linear(stack_top(regs)), Size::Quad),
-        Action::LoadAddress(_) | Action::JumpIf(_) | Action::Pass | Action::Stop(_) => Load::Nothing,
+        Action::LoadAddress(_) | Action::JumpIf(_) | Action::Pass | Action::Stop(_) =>
+            Load::Nothing,
     }
 }
 

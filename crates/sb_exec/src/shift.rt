@@ -1,6 +1,6 @@
 //! Shifts of numbers of a size.
 
-ghost use Rattle.std.specs.Prelude.{◌≡◌, ◌<◌};
+ghost use Rattle.std.specs.Prelude.{◌≡◌, ◌<◌, Some};
 ghost use Rattle.sb_exec.specs.Size.{modulus, size_bits};
 ghost use Rattle.sb_exec.specs.Shift.{
   differ as differ_of,
@@ -113,16 +113,24 @@ fn shifted_signed(size: Size, value: u64, count: u32) -> Outcome
 
 // ---- by any count
 
+/// A shift by 0 gives its operand and leaves the flags.
+fn unshifted(value: u64, flags: Flags) -> Outcome
+    ensures value { result.value ≡ Some value }
+    ensures flags { result.flags ≡ flags }
+{
+    Outcome {
+        value: Some(value),
+        flags,
+    }
+}
+
 /// SHL.
 pub fn left_by(size: Size, value: u64, count: u64, flags: Flags) -> Outcome
     requires { value < modulus size }
     ensures { result ≡ unless_zero (shift_count size count) value flags (shifted_left_of size value (shift_count size count)) }
 {
     match masked(size, count) {
-        0 => Outcome {
-            value: Some(value),
-            flags,
-        },
+        0 => unshifted(value, flags),
         count => shifted_left(size, value, count),
     }
 }
@@ -133,10 +141,7 @@ pub fn right_by(size: Size, value: u64, count: u64, flags: Flags) -> Outcome
     ensures { result ≡ unless_zero (shift_count size count) value flags (shifted_right_of size value (shift_count size count)) }
 {
     match masked(size, count) {
-        0 => Outcome {
-            value: Some(value),
-            flags,
-        },
+        0 => unshifted(value, flags),
         count => shifted_right(size, value, count),
     }
 }
@@ -147,10 +152,7 @@ pub fn signed_right_by(size: Size, value: u64, count: u64, flags: Flags) -> Outc
     ensures { result ≡ unless_zero (shift_count size count) value flags (shifted_signed_of size value (shift_count size count)) }
 {
     match masked(size, count) {
-        0 => Outcome {
-            value: Some(value),
-            flags,
-        },
+        0 => unshifted(value, flags),
         count => shifted_signed(size, value, count),
     }
 }

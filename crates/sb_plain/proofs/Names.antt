@@ -1,6 +1,6 @@
--- Two names that are one are equal, and `==` decides it.
+-- `==` decides whether two names are one, and then they are equal.
 use Rattle.std.proofs.Common.{◌≡◌, ℕ, true, ◌&&◌, ◌==◌, refl}
-use Rattle.std.proofs.lemmas.Bool.{and_parts, and_from}
+use Rattle.std.proofs.lemmas.Bool.{and_parts}
 use Rattle.std.proofs.lemmas.Bool.Decides.{Decides-eqb}
 use Rattle.sb_trace.specs.declared.page.PageName.{PageName}
 use Rattle.sb_trace.specs.declared.page.PageName.TheVariants.{Text, Area, Data, Heap, Pool, ServerStack, Save, Stack, Buffer, Record, Scratch, HomeTrampoline, ServerTrampoline}
@@ -30,14 +30,8 @@ equal_same _ _ = refl
 number : (first second : ℕ) → (first == second) ≡ true → first ≡ second
 number first second same = (Decides-eqb first second).0 same
 
-number_self : (number : ℕ) → (number == number) ≡ true
-number_self number = (Decides-eqb number number).1 refl
-
 two : (a b c d : ℕ) → ((a == b) && (c == d)) ≡ true → (a ≡ b) × (c ≡ d)
 two a b c d same = let parts = and_parts (a == b) (c == d) same in (number a b parts.0, number c d parts.1)
-
-two_self : (a c : ℕ) → ((a == a) && (c == c)) ≡ true
-two_self a c = and_from (a == a) (c == c) (number_self a) (number_self c)
 
 three : (a b c d e f : ℕ) → ((a == b) && ((c == d) && (e == f))) ≡ true → (a ≡ b) × (c ≡ d) × (e ≡ f)
 three a b c d e f same =
@@ -45,22 +39,6 @@ three a b c d e f same =
     let rest = two c d e f parts.1 in (number a b parts.0, rest.0, rest.1)
 
 -- ---- names
-
-pub name_self : (name : PageName) → same_name name name ≡ true
-unfolding same_name
-name_self (Text process page) = two_self process page
-name_self (Area process page) = two_self process page
-name_self (Data process page) = two_self process page
-name_self (Heap process page) = two_self process page
-name_self (Pool process) = number_self process
-name_self (ServerStack process page) = two_self process page
-name_self (Save thread) = number_self thread
-name_self (Stack thread page) = two_self thread page
-name_self (Buffer thread index page) = and_from _ _ (number_self thread) (two_self index page)
-name_self (Record thread view) = two_self thread view
-name_self (Scratch thread view) = two_self thread view
-name_self HomeTrampoline = refl
-name_self ServerTrampoline = refl
 
 pub name_same : (first second : PageName) → same_name first second ≡ true → first ≡ second
 unfolding same_name

@@ -1,16 +1,15 @@
 -- Where pages stand after others are added, and after their bytes are replaced.
-use Rattle.std.proofs.Common.{◌≡◌, ◌≢◌, ◌<◌, ◌≤◌, ◌++◌, sym, ap, ◌∙◌, ℕ, zero, suc, Bool, true, false, cond, List, [], ◌∷◌, length, refl, arith}
-use Rattle.std.specs.Prelude.{Option, Some, None, IfSome, if◌then◌else◌, slice_index_or, slice_set}
+use Rattle.std.proofs.Common.{◌≡◌, ◌<◌, ◌≤◌, ◌++◌, sym, ap, ◌∙◌, ℕ, zero, suc, Bool, true, false, cond, List, [], ◌∷◌, length, refl, arith}
+use Rattle.std.specs.Prelude.{Option, Some, None, IfSome, is_some, if◌then◌else◌, slice_index_or, slice_set}
 use Rattle.std.specs.Option.{option_map}
 use Rattle.std.proofs.lemmas.List.{set_past}
 use Rattle.std.proofs.lemmas.Grind.{common_steps}
-use Rattle.std.proofs.lemmas.Bool.{true≢false}
 use Rattle.sb_trace.specs.declared.page.PageName.{PageName}
 use Rattle.sb_trace.specs.declared.page.Page.{Page}
 use Rattle.sb_trace.specs.PageName.{same_name}
 use Rattle.sb_trace.specs.State.{find_page, replaced, bytes_of}
-use Rattle.sb_plain.specs.Places.{place_of, equal_names, IsIndex}
-use Rattle.sb_plain.proofs.Names.{equal_same, name_self, name_same}
+use Rattle.sb_plain.specs.Places.{place_of, equal_names, IsIndex, either, IsNoted}
+use Rattle.sb_plain.proofs.Names.{equal_same, name_same}
 
 -- ---- the place of a name
 
@@ -69,51 +68,66 @@ found_none (page ∷ pages) name is =
 
 -- ---- a page is added
 
--- the first answer, or else another
-abbrev pub or_else : Option ℕ → Option ℕ → Option ℕ
-or_else None other = other
-or_else (Some first) other = Some first
+suc_if : (same : Bool) (count : ℕ) → option_map suc (if same then Some count else None) ≡ (if same then Some (suc count) else None)
+suc_if true count = refl
+suc_if false count = refl
 
-pushed_by : (test other : Bool) (count : ℕ) (found behind : Option ℕ)
-    → behind ≡ or_else found (if other then Some count else None)
-    → (if test then Some 0 else option_map suc behind) ≡ or_else (if test then Some 0 else option_map suc found) (if other then Some (suc count) else None)
-pushed_by true other count found behind more = refl
-pushed_by false true count None behind more = rw more refl
-pushed_by false true count (Some place) behind more = rw more refl
-pushed_by false false count None behind more = rw more refl
-pushed_by false false count (Some place) behind more = rw more refl
+pushed_by : (test same : Bool) (count : ℕ) (found behind : Option ℕ) → behind ≡ either found (if same then Some count else None)
+    → (if test then Some 0 else option_map suc behind)
+    ≡ either (if test then Some 0 else option_map suc found) (if same then Some (suc count) else None)
+pushed_by true same count found behind more = refl
+pushed_by false same count None behind more = rw more (suc_if same count)
+pushed_by false same count (Some place) behind more = rw more refl
 
 -- the new page is behind the others
-pub place_pushed : (pages : List Page) (new : Page) (name : PageName)
-    → place_of (pages ++ new ∷ []) name ≡ or_else (place_of pages name) (if same_name new.name name then Some (length pages) else None)
+place_pushed : (pages : List Page) (new : Page) (name : PageName)
+    → place_of (pages ++ new ∷ []) name ≡ either (place_of pages name) (if same_name new.name name then Some (length pages) else None)
 place_pushed [] new name = refl
 place_pushed (page ∷ pages) new name =
     pushed_by (same_name page.name name) (same_name new.name name) (length pages) (place_of pages name) (place_of (pages ++ new ∷ []) name)
     (place_pushed pages new name)
 
-behind_by : (other : Bool) (count : ℕ) (found : Option ℕ) → (other ≡ true → found ≢ None) → or_else found (if other then Some count else None) ≡ found
-behind_by other count (Some place) there = refl
-behind_by true count None there = absurd (there refl refl)
-behind_by false count None there = refl
+-- the index after the place of the new page is noted
+pub index_pushed : (index now : PageName → Option ℕ) (pages : List Page) (new : Page) (count : ℕ)
+    → IsIndex index pages → count ≡ length pages → IsNoted index now new.name count → IsIndex now (pages ++ new ∷ [])
+index_pushed index now pages new count old long noted = λ name.
+    noted name ∙ rw (long, old name) (sym (place_pushed pages new name))
 
--- a page whose name another one has is not found
-pub place_behind : (pages : List Page) (new : Page) (name : PageName) → place_of pages new.name ≢ None → place_of (pages ++ new ∷ []) name ≡ place_of pages name
-place_behind pages new name there =
-    place_pushed pages new name ∙ behind_by (same_name new.name name) (length pages) (place_of pages name)
-    (λ same none. there (ap (λ (one : PageName). place_of pages one) (name_same new.name name same) ∙ none))
+-- ---- a place is noted
 
-new_by : (other : Bool) (count : ℕ) (found : Option ℕ) → (other ≡ true → found ≡ None)
-    → or_else found (if other then Some count else None) ≡ (if other then Some count else found)
-new_by true count found none = rw (none refl) refl
-new_by false count None none = refl
-new_by false count (Some place) none = refl
+either_none : (found : Option ℕ) → found ≡ either found None
+either_none None = refl
+either_none (Some place) = refl
 
--- a page of a new name is found behind the others
-pub place_new : (pages : List Page) (new : Page) (name : PageName) → place_of pages new.name ≡ None
-    → place_of (pages ++ new ∷ []) name ≡ (if same_name new.name name then Some (length pages) else place_of pages name)
-place_new pages new name none =
-    place_pushed pages new name ∙ new_by (same_name new.name name) (length pages) (place_of pages name)
-    (λ same. ap (λ (one : PageName). place_of pages one) (sym (name_same new.name name same)) ∙ none)
+either_some : (found second : Option ℕ) → is_some found ≡ true → found ≡ either found second
+either_some None second some = cc
+either_some (Some place) second some = refl
+
+there_by : (index : PageName → Option ℕ) (name other : PageName) (place : ℕ) (same : Bool) → same_name name other ≡ same
+    → is_some (index name) ≡ true → index other ≡ either (index other) (if same then Some place else None)
+there_by index name other place true is there =
+    either_some (index other) (Some place) (ap (λ (n : PageName). is_some (index n)) (sym (name_same name other is)) ∙ there)
+there_by index name other place false is there = either_none (index other)
+
+-- a name that has a place keeps it
+pub noted_there : (index : PageName → Option ℕ) (name : PageName) (place : ℕ) → is_some (index name) ≡ true → IsNoted index index name place
+noted_there index name place there = λ other. there_by index name other place (same_name name other) refl there
+
+none_there : (found : Option ℕ) → is_some found ≡ false → found ≡ None
+none_there None missing = refl
+none_there (Some place) missing = cc
+
+put_by : (index : PageName → Option ℕ) (name other : PageName) (place : ℕ) (same : Bool) → same_name name other ≡ same → index name ≡ None
+    → (if same then Some place else index other) ≡ either (index other) (if same then Some place else None)
+put_by index name other place true is none =
+    let missing : index other ≡ None = ap index (sym (name_same name other is)) ∙ none in rw missing refl
+put_by index name other place false is none = either_none (index other)
+
+-- a name that has none gets this one
+pub noted_put : (index now : PageName → Option ℕ) (name : PageName) (place : ℕ) → is_some (index name) ≡ false
+    → ((other : PageName) → now other ≡ cond (equal_names name other) (Some place) (index other)) → IsNoted index now name place
+noted_put index now name place none put = λ other.
+    put other ∙ rw (equal_same name other) (put_by index name other place (same_name name other) refl (none_there (index name) none))
 
 -- ---- the bytes of a page are replaced
 
@@ -191,18 +205,3 @@ pub place_put : (pages : List Page) (name other : PageName) (place offset value 
 place_put pages name other place offset value page is at =
     ap (λ (list : List Page). place_of list other) (put_at pages name place offset value page is at)
     ∙ place_replaced pages name other (slice_set (bytes_of (find_page pages name)) offset value)
-
--- ---- the index
-
--- the index after the name of the new page is put into it
-pub index_new : (index now : PageName → Option ℕ) (pages : List Page) (new : Page) (count : ℕ) → place_of pages new.name ≡ None
-    → IsIndex index pages → count ≡ length pages
-    → ((name : PageName) → now name ≡ cond (equal_names new.name name) (Some count) (index name))
-    → IsIndex now (pages ++ new ∷ [])
-index_new index now pages new count none old long put = λ name.
-    put name ∙ rw (equal_same new.name name, long, old name) (sym (place_new pages new name none))
-
--- the index serves as it is where the name of the new page is in it
-pub index_behind : (index : PageName → Option ℕ) (pages : List Page) (new : Page) → place_of pages new.name ≢ None
-    → IsIndex index pages → IsIndex index (pages ++ new ∷ [])
-index_behind index pages new there old = λ name. old name ∙ sym (place_behind pages new name there)

@@ -18,3 +18,13 @@ place_of (page ∷ pages) name = if same_name page.name name then Some 0 else op
 -- the index gives the place of each name
 abbrev pub IsIndex : (PageName → Option ℕ) → List Page → Type 0
 IsIndex index pages = (name : PageName) → index name ≡ place_of pages name
+
+-- the first of two places that is there
+abbrev pub either : Option ℕ → Option ℕ → Option ℕ
+either None second = second
+either (Some place) second = Some place
+
+-- the index has this place for this name too, if it had none
+abbrev pub IsNoted : (PageName → Option ℕ) → (PageName → Option ℕ) → PageName → ℕ → Type 0
+IsNoted old new name place =
+    (other : PageName) → new other ≡ either (old other) (if same_name name other then Some place else None)

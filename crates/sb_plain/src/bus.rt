@@ -3,7 +3,7 @@
 ghost use Rattle.std.specs.Prelude.{◌≡◌};
 
 use crate::load::{byte, load};
-use crate::state::PlainState;
+use crate::state::Plain;
 use crate::store::store;
 use sb_exec::{Bus, BusStop};
 use sb_memory::{Access, Linear};
@@ -11,13 +11,13 @@ use sb_memory::{Access, Linear};
 /// The memory of a thread in a view.
 #[derive(Drop)]
 pub struct PlainBus<'a> {
-    state: &'a mut PlainState,
+    state: &'a mut Plain,
     thread: u32,
     view: u32,
 }
 
 impl<'a> PlainBus<'a> {
-    pub fn new(state: &'a mut PlainState, thread: u32, view: u32) -> PlainBus<'a>
+    pub fn new(state: &'a mut Plain, thread: u32, view: u32) -> PlainBus<'a>
         ensures loan { result.state.ghost_name ≡ state.entry.ghost_name }
         ensures state { result.state.now ≡ state.old }
         ensures thread { result.thread ≡ thread }

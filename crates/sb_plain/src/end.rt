@@ -3,7 +3,7 @@
 ghost use Rattle.std.specs.Prelude.{◌≡◌, IfOk, map};
 ghost use Rattle.sb_trace.specs.End.{thread_end as end_of_thread, end_of};
 
-use crate::state::PlainState;
+use crate::state::Plain;
 use crate::windows::shown_by;
 use sb_trace::{EndState, Thread, ThreadEnd, ThreadEnds};
 use std::alloc::{AllocError, Global};
@@ -31,7 +31,7 @@ fn thread_ends(alloc: Global, threads: &[Thread]) -> Result<ThreadEnds, AllocErr
     Ok(ThreadEnds::new(ends))
 }
 
-impl PlainState {
+impl Plain {
     /// The state as the report shows it.
     pub fn end(&self, alloc: Global) -> Result<EndState, AllocError>
         ensures { IfOk result (λ end. end ≡ end_of self.now) }

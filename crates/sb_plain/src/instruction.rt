@@ -9,14 +9,14 @@ ghost use Rattle.sb_trace.specs.PlainMemory.{plain};
 ghost use Rattle.sb_plain.specs.Faults.{IsFault};
 
 use crate::bus::PlainBus;
-use crate::state::PlainState;
+use crate::state::Plain;
 use sb_exec::{BusStop, Effect, execute, fetch_insn};
 use sb_insn::{Insn, Regs};
 
 /// The instruction at an address, in a view of a thread.
 ///
 /// Each error is a fault: a byte that cannot be fetched, or bytes with which no instruction begins.
-pub fn fetch_next(state: &mut PlainState, thread: u32, view: u16, rip: u64) -> Result<Insn, BusStop>
+pub fn fetch_next(state: &mut Plain, thread: u32, view: u16, rip: u64) -> Result<Insn, BusStop>
     ensures fetched { FetchesOn (plain thread view) state.old rip tt tt result }
     ensures valid { IfOk result IsValid }
     ensures fault { IfErr result IsFault }
@@ -30,7 +30,7 @@ pub fn fetch_next(state: &mut PlainState, thread: u32, view: u16, rip: u64) -> R
 /// Each error is a fault, at the first byte that may not be accessed. It, and each effect but `Next`, leave registers and
 /// memory as they were.
 pub fn perform(
-    state: &mut PlainState,
+    state: &mut Plain,
     thread: u32,
     view: u16,
     insn: &Insn,

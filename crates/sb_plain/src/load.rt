@@ -5,14 +5,14 @@ ghost use Rattle.sb_exec.specs.Access.{byte_for, loaded_from};
 ghost use Rattle.sb_trace.specs.PlainMemory.{plain_byte};
 
 use crate::reach::reach;
-use crate::state::PlainState;
+use crate::state::Plain;
 use sb_exec::BusStop;
 use sb_memory::{Access, Linear};
 
 /// The byte at an address, for an access.
 #[tactic(auto, using(crate::proofs::Reached::byte_reached, crate::proofs::Reached::byte_refused))]
 pub fn byte(
-    state: &PlainState,
+    state: &Plain,
     thread: u32,
     view: u32,
     at: Linear,
@@ -28,7 +28,7 @@ pub fn byte(
 /// The number of some bytes from an address upwards, its lowest byte first.
 #[tactic(auto, using(crate::proofs::Loads::loaded_none, crate::proofs::Loads::loaded_stop, crate::proofs::Loads::loaded_stop_later, crate::proofs::Loads::loaded_more, crate::proofs::Loads::number_fits, crate::proofs::Loads::number_below))]
 pub fn load(
-    state: &PlainState,
+    state: &Plain,
     thread: u32,
     view: u32,
     at: Linear,

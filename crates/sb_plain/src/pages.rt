@@ -1,9 +1,10 @@
 //! The pages of the plain machine, found by name.
 
-ghost use Rattle.std.specs.Prelude.{◌≡◌, ◌≢◌, ◌++◌, ◌∷◌, ◌<◌, [], None, IfSome, OnOk, OnErr, length, slice_index, slice_set};
+ghost use Rattle.std.specs.Prelude.{◌≡◌, ◌++◌, ◌∷◌, ◌<◌, [], None, IfSome, OnOk, OnErr, length, slice_index, slice_set};
 ghost use Rattle.std.specs.Option.{option_copied};
 ghost use Rattle.sb_trace.specs.State.{find_page, replaced, bytes_of};
-ghost use Rattle.sb_plain.specs.Places.{place_of};
+ghost use Rattle.std.specs.HashMap.{get, IsUnchanged};
+ghost use Rattle.sb_plain.specs.Places.{place_of, equal_names, IsNoted};
 
 use sb_trace::{Page, PageName};
 use std::alloc::{AllocError, Global};
@@ -32,6 +33,21 @@ impl Model for Pages {
     ghost invariant = { λ pages. IsIndex (get equal_names pages.places) pages.pages.items };
 }
 
+/// Notes the place of a name that has none yet.
+fn note(
+    places: &mut HashMap<PageName, usize>,
+    name: PageName,
+    place: usize,
+) -> Result<(), AllocError>
+    ensures ok { OnOk result (IsNoted (get equal_names places.old) (get equal_names places.new) name place) }
+    ensures err { OnErr result (IsUnchanged places.old places.new) }
+{
+    if !places.contains_key(&name) {
+        places.insert(name, place)?;
+    }
+    Ok(())
+}
+
 impl Pages {
     /// No pages.
     pub fn new(alloc: Global) -> Pages
@@ -43,37 +59,15 @@ impl Pages {
         }
     }
 
-    /// Adds a page behind the others. Of pages with one name the first is found.
+    /// Adds a page behind the others. Where a page has its name already, that one stays the one of this name.
     ///
     /// An error means that there is no memory, and leaves the pages as they were.
     pub fn push(&mut self, page: Page) -> Result<(), AllocError>
         ensures ok { OnOk result (self.new ≡ self.old ++ page ∷ []) }
         ensures err { OnErr result (self.new ≡ self.old) }
     {
-        match self.place(page.name) {
-            Some(_) => self.push_behind(page),
-            None => self.push_new(page),
-        }
-    }
-
-    // Adds a page whose name another one has.
-    fn push_behind(&mut self, page: Page) -> Result<(), AllocError>
-        requires { place_of self.old page.name ≢ None }
-        ensures ok { OnOk result (self.new ≡ self.old ++ page ∷ []) }
-        ensures err { OnErr result (self.new ≡ self.old) }
-    {
-        self.pages.push(page)?;
-        Ok(())
-    }
-
-    // Adds a page of a name that no other one has.
-    fn push_new(&mut self, page: Page) -> Result<(), AllocError>
-        requires { place_of self.old page.name ≡ None }
-        ensures ok { OnOk result (self.new ≡ self.old ++ page ∷ []) }
-        ensures err { OnErr result (self.new ≡ self.old) }
-    {
         self.pages.reserve(1)?;
-        self.places.insert(page.name, self.pages.len())?;
+        note(&mut self.places, page.name, self.pages.len())?;
         self.pages.push(page)?;
         Ok(())
     }

@@ -7,7 +7,7 @@ ghost use Rattle.sb_trace.specs.PlainMemory.{is_canonical as is_canonical_addres
 ghost use Rattle.sb_plain.specs.Reach.{reached, reached_as, name_only};
 
 use crate::pages::Pages;
-use crate::state::PlainState;
+use crate::state::Plain;
 use crate::windows::{mode_of, name_at, permits};
 use sb_exec::{BusStop, FaultKind};
 use sb_memory::{Access, Linear};
@@ -39,7 +39,7 @@ fn reach_named(
 /// The page that an access in a view of a thread reaches, with its name.
 #[tactic(auto, unfolding(sb_trace::specs::Windows::page_seen, crate::specs::Reach::reached))]
 pub fn reach(
-    state: &PlainState,
+    state: &Plain,
     thread: u32,
     view: u32,
     at: Linear,

@@ -6,7 +6,7 @@ ghost use Rattle.sb_plain.specs.Start.{image_of, entry_of, AllFit, start_of, fir
 ghost use Rattle.sb_bundle.specs.Limits.{IsBundle};
 
 use crate::pages::Pages;
-use crate::state::PlainState;
+use crate::state::Plain;
 use sb_bundle::{Bundle, CoreStart, Image};
 use sb_insn::{Flags, Regs};
 use sb_load::Loaded;
@@ -213,7 +213,7 @@ pub fn start_threads(alloc: Global, cores: &[CoreStart]) -> Result<Vec<Thread>, 
 
 // The machine at the start of a bundle's run, with so many free frames.
 #[tactic(auto, using(crate::proofs::Starting::all_fit))]
-fn start_machine(alloc: Global, bundle: &Bundle, free: u32) -> Result<PlainState, AllocError>
+fn start_machine(alloc: Global, bundle: &Bundle, free: u32) -> Result<Plain, AllocError>
     requires { IsBundle bundle.now }
     ensures { IfOk result (λ state. state ≡ start_of bundle.now free) }
 {
@@ -222,7 +222,7 @@ fn start_machine(alloc: Global, bundle: &Bundle, free: u32) -> Result<PlainState
     let pages = start_pages(alloc, images, cores)?;
     let threads = start_threads(alloc, cores)?;
     let keys = Vec::from_slice(alloc, bundle.keys.items())?;
-    Ok(PlainState {
+    Ok(Plain {
         pages,
         threads,
         free,
@@ -230,9 +230,9 @@ fn start_machine(alloc: Global, bundle: &Bundle, free: u32) -> Result<PlainState
     })
 }
 
-impl PlainState {
+impl Plain {
     /// The machine at the start of a loaded bundle's run.
-    pub fn new(alloc: Global, loaded: &Loaded) -> Result<PlainState, AllocError>
+    pub fn new(alloc: Global, loaded: &Loaded) -> Result<Plain, AllocError>
         ensures { IfOk result (λ plain. plain ≡ first_state loaded.now.bundle) }
     {
         start_machine(alloc, loaded.bundle(), loaded.free())

@@ -8,7 +8,7 @@ use std::marker::Model;
 
 /// All that the plain machine is. To contracts it is the state of the definitions.
 #[derive(Drop)]
-pub struct PlainState {
+pub struct Plain {
     pub(crate) pages: Pages,
     pub(crate) threads: Vec<Thread>,
     /// The number of free frames.
@@ -17,7 +17,7 @@ pub struct PlainState {
     pub(crate) keys: Vec<u64>,
 }
 
-impl Model for PlainState {
+impl Model for Plain {
     ghost use Rattle.std.specs.Prelude.{◌<◌, ◌^◌, length};
     ghost use Rattle.sb_trace.specs.State.{State};
 

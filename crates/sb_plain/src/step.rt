@@ -7,7 +7,7 @@ ghost use Rattle.sb_trace.specs.Step.{Steps, RunsOn, Performs, StopsWith, faulte
 ghost use Rattle.sb_plain.specs.Faults.{IsFault};
 
 use crate::instruction::{fetch_next, perform};
-use crate::state::PlainState;
+use crate::state::Plain;
 use sb_exec::{BusStop, Effect, FaultKind};
 use sb_insn::{Insn, Regs};
 use sb_memory::Linear;
@@ -33,7 +33,7 @@ const NO_CALL: u64 = 21;
 // ---- the thread of a core
 
 #[tactic(auto, unfolding(sb_trace::specs::State::thread_at))]
-fn regs_of(state: &PlainState, core: u8) -> Regs
+fn regs_of(state: &Plain, core: u8) -> Regs
     requires { core < length state.now.threads }
     ensures { result ≡ (thread_at state.now core).regs }
 {
@@ -41,7 +41,7 @@ fn regs_of(state: &PlainState, core: u8) -> Regs
 }
 
 #[tactic(auto, unfolding(sb_trace::specs::State::thread_at))]
-fn view_of(state: &PlainState, core: u8) -> u16
+fn view_of(state: &Plain, core: u8) -> u16
     requires { core < length state.now.threads }
     ensures { result ≡ (thread_at state.now core).view }
 {
@@ -49,7 +49,7 @@ fn view_of(state: &PlainState, core: u8) -> u16
 }
 
 #[tactic(auto, unfolding(sb_trace::specs::State::thread_at))]
-fn end_kind_of(state: &PlainState, core: u8) -> EndKind
+fn end_kind_of(state: &Plain, core: u8) -> EndKind
     requires { core < length state.now.threads }
     ensures { result ≡ (thread_at state.now core).state }
 {
@@ -57,7 +57,7 @@ fn end_kind_of(state: &PlainState, core: u8) -> EndKind
 }
 
 #[tactic(auto, unfolding(sb_trace::specs::State::thread_at, sb_trace::specs::State::with_regs))]
-fn set_regs(state: &mut PlainState, core: u8, regs: Regs)
+fn set_regs(state: &mut Plain, core: u8, regs: Regs)
     requires { core < length state.old.threads }
     ensures set { state.new ≡ regs_put state.old core regs }
     ensures count { length state.new.threads ≡ length state.old.threads }
@@ -66,7 +66,7 @@ fn set_regs(state: &mut PlainState, core: u8, regs: Regs)
 }
 
 #[tactic(auto, unfolding(sb_trace::specs::State::thread_at, sb_trace::specs::State::with_end))]
-fn set_end(state: &mut PlainState, core: u8, end: EndKind)
+fn set_end(state: &mut Plain, core: u8, end: EndKind)
     requires { core < length state.old.threads }
     ensures set { state.new ≡ end_put state.old core end }
     ensures count { length state.new.threads ≡ length state.old.threads }
@@ -76,7 +76,7 @@ fn set_end(state: &mut PlainState, core: u8, end: EndKind)
 
 // ---- faults
 
-fn fault(state: &mut PlainState, core: u8, kind: FaultKind, at: Linear) -> Event
+fn fault(state: &mut Plain, core: u8, kind: FaultKind, at: Linear) -> Event
     requires { core < length state.old.threads }
     ensures ended { (result, state.new) ≡ faulted state.old core kind at.0 }
     ensures count { length state.new.threads ≡ length state.old.threads }
@@ -86,7 +86,7 @@ fn fault(state: &mut PlainState, core: u8, kind: FaultKind, at: Linear) -> Event
 }
 
 // A refused access ends the thread.
-fn stop_thread(state: &mut PlainState, core: u8, stop: BusStop) -> Event
+fn stop_thread(state: &mut Plain, core: u8, stop: BusStop) -> Event
     requires inside { core < length state.old.threads }
     requires fault { IsFault stop }
     ensures stopped { StopsWith state.old core stop (result, state.new) }
@@ -126,7 +126,7 @@ fn answered(regs: &Regs, answer: u64) -> Regs
 }
 
 // 0 is exit, 1 prints, and no other number is a call.
-fn call(state: &mut PlainState, core: u8, insn: &Insn, regs: &Regs) -> Event
+fn call(state: &mut Plain, core: u8, insn: &Insn, regs: &Regs) -> Event
     requires { core < length state.old.threads }
     ensures called { (result, state.new) ≡ called state.old core insn.now regs.now (rax regs.now) }
     ensures count { length state.new.threads ≡ length state.old.threads }
@@ -157,7 +157,7 @@ fn call(state: &mut PlainState, core: u8, insn: &Insn, regs: &Regs) -> Event
 // ---- the step
 
 // The instruction that was fetched, from these registers, in this view.
-fn execute_next(state: &mut PlainState, core: u8, view: u16, insn: &Insn, regs: &Regs) -> Event
+fn execute_next(state: &mut Plain, core: u8, view: u16, insn: &Insn, regs: &Regs) -> Event
     requires inside { core < length state.old.threads }
     requires valid { IsValid insn.now }
     ensures performed { Performs state.old core view insn.now regs.now (result, state.new) }
@@ -178,7 +178,7 @@ fn execute_next(state: &mut PlainState, core: u8, view: u16, insn: &Insn, regs: 
 }
 
 // The step of a running thread with these registers in this view.
-fn run_from(state: &mut PlainState, core: u8, view: u16, regs: &Regs) -> Event
+fn run_from(state: &mut Plain, core: u8, view: u16, regs: &Regs) -> Event
     requires { core < length state.old.threads }
     ensures ran { RunsOn state.old core view regs.now (result, state.new) }
     ensures count { length state.new.threads ≡ length state.old.threads }
@@ -190,7 +190,7 @@ fn run_from(state: &mut PlainState, core: u8, view: u16, regs: &Regs) -> Event
 }
 
 // The step of a thread that runs.
-fn run_on(state: &mut PlainState, core: u8) -> Event
+fn run_on(state: &mut Plain, core: u8) -> Event
     requires { core < length state.old.threads }
     ensures ran { RunsOn state.old core (thread_at state.old core).view (thread_at state.old core).regs (result, state.new) }
     ensures count { length state.new.threads ≡ length state.old.threads }
@@ -200,7 +200,7 @@ fn run_on(state: &mut PlainState, core: u8) -> Event
     run_from(state, core, view, &regs)
 }
 
-impl PlainState {
+impl Plain {
     /// One step of a core: its line.
     ///
     /// A thread that has ended is idle.

@@ -7,7 +7,7 @@ ghost use Rattle.sb_trace.specs.PlainMemory.{plain_byte, plain_stored, put_all};
 ghost use Rattle.sb_plain.specs.Spots.{spot_at, placed_in};
 
 use crate::reach::reach;
-use crate::state::PlainState;
+use crate::state::Plain;
 use sb_exec::BusStop;
 use sb_memory::{Access, Linear};
 use sb_trace::PageName;
@@ -27,7 +27,7 @@ const NOWHERE: Spot = Spot {
 
 /// Where a byte that is written at an address goes.
 #[tactic(auto, unfolding(crate::specs::Spots::spot_at))]
-fn find_spot(state: &PlainState, thread: u32, view: u32, at: Linear) -> Result<Spot, BusStop>
+fn find_spot(state: &Plain, thread: u32, view: u32, at: Linear) -> Result<Spot, BusStop>
     ensures { result ≡ spot_at thread view state.now at.0 }
 {
     let (name, _) = reach(state, thread, view, at, Access::Write)?;
@@ -38,7 +38,7 @@ fn find_spot(state: &PlainState, thread: u32, view: u32, at: Linear) -> Result<S
 /// Where the bytes that are written from an address upwards go.
 #[tactic(auto, using(crate::proofs::Spots::spots_none, crate::proofs::Spots::spots_stop, crate::proofs::Spots::spots_stop_later, crate::proofs::Spots::spots_more))]
 fn find_spots(
-    state: &PlainState,
+    state: &Plain,
     thread: u32,
     view: u32,
     at: Linear,
@@ -56,7 +56,7 @@ fn find_spots(
 
 /// Puts the lowest bytes of a number at these places, the lowest first.
 #[tactic(auto, unfolding(sb_trace::specs::PlainMemory::put_byte, sb_trace::specs::State::with_contents, sb_trace::specs::State::contents))]
-fn put(state: &mut PlainState, spots: &[Spot], value: u64)
+fn put(state: &mut Plain, spots: &[Spot], value: u64)
     ensures { state.new ≡ put_all state.old (placed_in spots.now value) }
 {
     if let Some((lowest, others)) = spots.split_first() {
@@ -71,7 +71,7 @@ fn put(state: &mut PlainState, spots: &[Spot], value: u64)
 /// them may be written.
 #[tactic(auto, using(crate::proofs::Spots::store_done, crate::proofs::Spots::store_stopped, crate::proofs::Spots::spots_stored))]
 fn store_by(
-    state: &mut PlainState,
+    state: &mut Plain,
     thread: u32,
     view: u32,
     at: Linear,
@@ -88,7 +88,7 @@ fn store_by(
 
 /// Writes the lowest bytes of a number from an address upwards, if each of them may be written.
 pub fn store(
-    state: &mut PlainState,
+    state: &mut Plain,
     thread: u32,
     view: u32,
     at: Linear,

@@ -82,7 +82,7 @@ all_listed text [] starts partway none = (partway.insns, partway.valid, partway.
 all_listed text (byte ∷ rest) starts partway none = absurd (omega arith)
 
 -- no instruction begins what the decoder refuses
-none_begins : (rest : List ℕ) (fault : DecodeFault) → Decodes rest (Err fault) → (insn : Insn) → BeginsWith rest insn → ⊥
+pub none_begins : (rest : List ℕ) (fault : DecodeFault) → Decodes rest (Err fault) → (insn : Insn) → BeginsWith rest insn → ⊥
 none_begins rest Short decodes insn begins = decodes.0 insn begins
 none_begins rest Undecoded decodes insn begins =
     decodes [] insn (subst (λ (bytes : List ℕ). BeginsWith bytes insn) (sym (append-nil rest)) begins)

@@ -9,7 +9,7 @@ use Rattle.std.specs.Ordering.{nat_cmp}
 use Rattle.std.specs.Result.{is_ok}
 
 -- an earlier start is no greater
-in_order : (starts : List ℕ) → IsStrictlyIncreasing starts → (i j : ℕ) → i ≤ j → j < length starts → get_or starts i 0 ≤ get_or starts j 0
+pub in_order : (starts : List ℕ) → IsStrictlyIncreasing starts → (i j : ℕ) → i ≤ j → j < length starts → get_or starts i 0 ≤ get_or starts j 0
 in_order starts rising i zero before within =
     let same : i ≡ 0 = omega arith in
     omega (arith, ap (λ (k : ℕ). get_or starts k 0) same)

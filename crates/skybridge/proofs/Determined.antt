@@ -18,8 +18,8 @@ use Rattle.sb_trace.specs.PlainMemory.{plain}
 use Rattle.sb_trace.specs.Step.{Outcome, StopsWith, PerformsBy, executed, FollowsFetch, StepsBy, Steps}
 use Rattle.sb_trace.specs.End.{end_of}
 use Rattle.sb_trace.proofs.Runs.{one_run}
-use Rattle.sb_plain.specs.Start.{start_of}
-use Rattle.skybridge.specs.Output.{IsReport, first_state}
+use Rattle.sb_plain.specs.Start.{first_state}
+use Rattle.skybridge.specs.Output.{IsReport}
 
 one_stop : (state : State) (number : ℕ) (stop : BusStop) (first second : Outcome) → StopsWith state number stop first → StopsWith state number stop second → first ≡ second
 one_stop state number (FaultStop kind at) first second one other = one ∙ sym other

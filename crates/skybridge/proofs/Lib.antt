@@ -1,3 +1,4 @@
 pub mod Parts
 pub mod Schedule
 pub mod Determined
+pub mod Apart

@@ -1,9 +1,11 @@
 -- A front of a text that was written.
-use Rattle.std.proofs.Common.{ℕ, ◌++◌, List, Option, Some, None, Result, Ok, Err, length, take, ap, sym, ◌∙◌}
-use Rattle.std.specs.Prelude.{OnOk, OnErr, IfErr}
+use Rattle.std.proofs.Common.{◌≡◌, ℕ, ◌++◌, List, Option, Some, None, Result, Ok, Err, String, length, take, ap, sym, subst, ◌∙◌}
+use Rattle.std.specs.Prelude.{OnOk, OnErr, IfOk, IfErr, MatchResult, string_bytes}
 use Rattle.std.proofs.Math.Seq.{take-length}
 use Rattle.sb_port.specs.Port.{Rose, Appended}
 use Rattle.sb_port.specs.declared.transfer.WriteFault.{WriteFault}
+use Rattle.skybridge.specs.declared.top.Status.{Status}
+use Rattle.skybridge.specs.declared.top.Status.TheVariants.{LoadRefused, NoMemory}
 use Rattle.skybridge.specs.Output.{PartlyAppended, WritesLine}
 
 front_appended : (held held' : Option (List ℕ)) (text : List ℕ) (count : ℕ) → Appended held held' (take count text) → PartlyAppended held held' text
@@ -27,3 +29,12 @@ line_written held held' faults faults' line (Err fault) ok err rose = record {
   part = front_appended held held' line fault.written err;
   whole = λ quiet. absurd (quiet rose);
 }
+
+-- a refusal that did not run out of memory wrote its line
+pub line_of_refusal : {A E : Type 0} (held held' : Option (List ℕ)) (faults faults' : ℕ) (status : Status) (line : List ℕ) (made : Result (String A) E)
+    → IfOk made (λ text. string_bytes text ≡ line)
+    → MatchResult made (λ text. (status ≡ LoadRefused) × WritesLine held held' faults faults' (string_bytes text)) (λ _. (status ≡ NoMemory) × (held' ≡ held))
+    → status ≡ LoadRefused → WritesLine held held' faults faults' line
+line_of_refusal held held' faults faults' status line (Ok text) is written refused =
+    subst (λ (bytes : List ℕ). WritesLine held held' faults faults' bytes) is written.1
+line_of_refusal held held' faults faults' status line (Err failed) is written refused = absurd cc

@@ -7,6 +7,7 @@ use sb_port::{MemorySink, MemorySource};
 use std::alloc::Global;
 use std::test::Fail;
 
+/// Prints 7 and ends with status 7, in five instructions.
 const FIVE: [u8; 16] = [
     0xBF, 7, 0, 0, 0, 0xB8, 1, 0, 0, 0, 0x0F, 5, 0x31, 0xC0, 0x0F, 5,
 ];
@@ -15,33 +16,65 @@ const EIGHT_XORS: [u8; 16] = [
     0x31, 0xC0, 0x31, 0xC0, 0x31, 0xC0, 0x31, 0xC0, 0x31, 0xC0, 0x31, 0xC0, 0x31, 0xC0, 0x31, 0xC0,
 ];
 
-const FIVE_REPORT: &str = "skybridge report 1
+/// Behind a value in EAX: stores it at 800000, loads it from there, and prints it.
+const THROUGH_MEMORY: [u8; 21] = [
+    0x89, 4, 0x25, 0, 0, 0x80, 0, 0x8B, 0x3C, 0x25, 0, 0, 0x80, 0, 0xB8, 1, 0, 0, 0, 0x0F, 5,
+];
+
+const TWO_MEMORIES_REPORT: &str = "skybridge report 1
 0 step 400000
+1 step 400000
 0 step 400005
-0 print 7
+1 step 400005
 0 step 40000c
-0 exit 7
-thread 0 home 0 view 0 at 0 ended 7
-regs 0 rip 400010 flags 44 0 400010 0 0 3008000 0 0 7 0 0 0 246 0 0 0 0
-free 39
+1 step 40000c
+0 step 400013
+1 step 400013
+0 print 7
+1 print 9
+thread 0 home 0 view 0 at 0 running
+regs 0 rip 40001a flags 0 0 40001a 0 0 3008000 0 0 7 0 0 0 202 0 0 0 0
+thread 1 home 1 view 0 at 1 running
+regs 1 rip 40001a flags 0 0 40001a 0 0 3010000 0 0 9 0 0 0 202 0 0 0 0
+free 12
 keys 0
 end
 ";
 
-/// A bundle of one process and one core, with this many frames below 768 (their low byte), this text, and this many steps.
-fn bundle(alloc: Global, frames: u8, text: &[u8], steps: u8) -> Result<Vec<u8>, Fail>
+/// A bundle of one process and one core, with so many frames, this text, an entry so far behind its first byte, and so
+/// many steps.
+fn bundle(alloc: Global, frames: u32, text: &[u8], entry: u8, steps: u32) -> Result<Vec<u8>, Fail>
     requires { length text.now < 2 ^ 32 }
 {
     let mut bytes = Vec::new(alloc);
     bytes.extend_from_slice(b"SKYB\x01\x00\x01\x01")?;
-    bytes.extend_from_slice(&[frames, 2, 0, 0, 0, 0, 0, 0, steps, 0, 0, 0])?;
+    bytes.extend_from_slice(&frames.to_le_bytes())?;
+    bytes.extend_from_slice(&[0; 4])?;
+    bytes.extend_from_slice(&steps.to_le_bytes())?;
     bytes.extend_from_slice(&(text.len() as u32).to_le_bytes())?;
     bytes.extend_from_slice(&[0; 8])?;
     bytes.extend_from_slice(text)?;
-    bytes.extend_from_slice(&[0, 0, 0, 0, 0, 0, 0x40, 0, 0, 0, 0, 0])?;
+    bytes.extend_from_slice(&[0, 0, 0, 0, entry, 0, 0x40, 0, 0, 0, 0, 0])?;
     for _ in 0..steps {
         bytes.push(0)?;
     }
+    Ok(bytes)
+}
+
+/// A bundle of two processes with 8 bytes of data and a core each, which move 7 and 9 through the same address, step by
+/// step in turns.
+fn two_memories(alloc: Global) -> Result<Vec<u8>, Fail> {
+    let mut bytes = Vec::new(alloc);
+    bytes.extend_from_slice(b"SKYB\x01\x00\x02\x02\x40\x02\0\0\0\0\0\0\x0A\0\0\0")?;
+    for value in [7, 9] {
+        bytes.extend_from_slice(&[26, 0, 0, 0, 8, 0, 0, 0, 0, 0, 0, 0, 0xB8, value, 0, 0, 0])?;
+        bytes.extend_from_slice(&THROUGH_MEMORY)?;
+        bytes.extend_from_slice(&[0; 8])?;
+    }
+    for core in [0, 1] {
+        bytes.extend_from_slice(&[core, 0, 0, 0, 0, 0, 0x40, 0, 0, 0, 0, 0])?;
+    }
+    bytes.extend_from_slice(&[0, 1, 0, 1, 0, 1, 0, 1, 0, 1])?;
     Ok(bytes)
 }
 
@@ -61,61 +94,152 @@ fn outcome(
     Ok((status, Vec::from_slice(alloc, sink.held())?))
 }
 
+/// The same where nothing fails.
+fn quiet_outcome(alloc: Global, word: &str, bytes: Vec<u8>) -> Result<(Status, Vec<u8>), Fail> {
+    outcome(alloc, word, bytes, Vec::new(alloc), Vec::new(alloc))
+}
+
 #[test]
-fn accepted_bundles_are_replayed(rt: HostRuntime) -> Result<(), Fail> {
+fn threads_run_to_their_report(rt: HostRuntime) -> Result<(), Fail> {
     let alloc = rt.alloc();
-    let rows: [(&str, &[u8], u8, &str); 5] = [
-        ("prints 7 and ends with status 7", &FIVE, 5, FIVE_REPORT),
+    let rows: [(&str, &[u8], u32, &str); 6] = [
+        (
+            "prints 7 and ends with status 7",
+            &FIVE,
+            5,
+            "0 step 400000\n0 step 400005\n0 print 7\n0 step 40000c\n0 exit 7\nthread 0 home 0 view 0 at 0 ended 7\nregs 0 rip 400010 flags 44 0 400010 0 0 3008000 0 0 7 0 0 0 246 0 0 0 0\n",
+        ),
         (
             "a thread that has ended is idle",
             &FIVE,
             7,
-            "skybridge report 1\n0 step 400000\n0 step 400005\n0 print 7\n0 step 40000c\n0 exit 7\n0 idle\n0 idle\nthread 0 home 0 view 0 at 0 ended 7\nregs 0 rip 400010 flags 44 0 400010 0 0 3008000 0 0 7 0 0 0 246 0 0 0 0\nfree 39\nkeys 0\nend\n",
+            "0 step 400000\n0 step 400005\n0 print 7\n0 step 40000c\n0 exit 7\n0 idle\n0 idle\nthread 0 home 0 view 0 at 0 ended 7\nregs 0 rip 400010 flags 44 0 400010 0 0 3008000 0 0 7 0 0 0 246 0 0 0 0\n",
+        ),
+        (
+            "no entry of the schedule, no step",
+            &FIVE,
+            0,
+            "thread 0 home 0 view 0 at 0 running\nregs 0 rip 400000 flags 0 0 0 0 0 3008000 0 0 0 0 0 0 0 0 0 0 0\n",
         ),
         (
             "ends with status 0",
             &[0x31, 0xC0, 0x0F, 5],
             2,
-            "skybridge report 1\n0 step 400000\n0 exit 0\nthread 0 home 0 view 0 at 0 ended 0\nregs 0 rip 400004 flags 44 0 400004 0 0 3008000 0 0 0 0 0 0 246 0 0 0 0\nfree 39\nkeys 0\nend\n",
+            "0 step 400000\n0 exit 0\nthread 0 home 0 view 0 at 0 ended 0\nregs 0 rip 400004 flags 44 0 400004 0 0 3008000 0 0 0 0 0 0 246 0 0 0 0\n",
         ),
         (
             "runs into the filler behind its text",
             &EIGHT_XORS,
             9,
-            "skybridge report 1\n0 step 400000\n0 step 400002\n0 step 400004\n0 step 400006\n0 step 400008\n0 step 40000a\n0 step 40000c\n0 step 40000e\n0 fault undefined 400010\nthread 0 home 0 view 0 at 0 faulted undefined 400010\nregs 0 rip 400010 flags 44 0 0 0 0 3008000 0 0 0 0 0 0 0 0 0 0 0\nfree 39\nkeys 0\nend\n",
+            "0 step 400000\n0 step 400002\n0 step 400004\n0 step 400006\n0 step 400008\n0 step 40000a\n0 step 40000c\n0 step 40000e\n0 fault undefined 400010\nthread 0 home 0 view 0 at 0 faulted undefined 400010\nregs 0 rip 400010 flags 44 0 0 0 0 3008000 0 0 0 0 0 0 0 0 0 0 0\n",
         ),
         (
             "a number that is no call is answered 21",
             &[0xB8, 2, 0, 0, 0, 0x0F, 5],
             2,
-            "skybridge report 1\n0 step 400000\n0 sys 2 21\nthread 0 home 0 view 0 at 0 running\nregs 0 rip 400007 flags 0 15 400007 0 0 3008000 0 0 0 0 0 0 202 0 0 0 0\nfree 39\nkeys 0\nend\n",
+            "0 step 400000\n0 sys 2 21\nthread 0 home 0 view 0 at 0 running\nregs 0 rip 400007 flags 0 15 400007 0 0 3008000 0 0 0 0 0 0 202 0 0 0 0\n",
         ),
     ];
-    for (name, text, steps, report) in rows {
-        let bytes = bundle(alloc, 0x40, text, steps)?;
-        let (status, held) = outcome(alloc, "replay", bytes, Vec::new(alloc), Vec::new(alloc))?;
-        assert_eq!(rt; status, Status::Done, "{name}");
-        assert_eq!(rt; held.as_slice(), report.as_bytes(), "{name}");
+    for (name, text, steps, lines) in rows {
+        let report = format!(in alloc; "skybridge report 1\n{lines}free 39\nkeys 0\nend\n")?;
+        for word in ["replay", "plain"] {
+            let (status, held) = quiet_outcome(alloc, word, bundle(alloc, 576, text, 0, steps)?)?;
+            assert_eq!(rt; status, Status::Done, "{name}");
+            assert_eq!(rt; held.as_slice(), report.as_bytes(), "{name}");
+        }
     }
+    Ok(())
+}
+
+#[test]
+fn each_process_has_its_own_memory(rt: HostRuntime) -> Result<(), Fail> {
+    let alloc = rt.alloc();
+    let (status, held) = quiet_outcome(alloc, "replay", two_memories(alloc)?)?;
+    assert_eq!(rt; status, Status::Done);
+    assert_eq!(rt; held.as_slice(), TWO_MEMORIES_REPORT.as_bytes());
     Ok(())
 }
 
 #[test]
 fn refusals_write_one_line(rt: HostRuntime) -> Result<(), Fail> {
     let alloc = rt.alloc();
-    // Another number of frames is another form.
-    let bytes = bundle(alloc, 0x41, &FIVE, 5)?;
-    let (status, held) = outcome(alloc, "replay", bytes, Vec::new(alloc), Vec::new(alloc))?;
-    assert_eq!(rt; status, Status::Form);
-    assert_eq!(rt; held.as_slice(), b"form\n".as_slice());
-    // No other word is a command.
-    let bytes = bundle(alloc, 0x40, &FIVE, 5)?;
-    let (status, held) = outcome(alloc, "run", bytes, Vec::new(alloc), Vec::new(alloc))?;
-    assert_eq!(rt; status, Status::BadWords);
-    assert_eq!(rt; held.as_slice(), b"usage: skybridge --help\n".as_slice());
-    // The first call of the source fails.
-    let bytes = bundle(alloc, 0x40, &FIVE, 5)?;
-    let (status, held) = outcome(alloc, "replay", bytes, vec![in alloc; 1]?, Vec::new(alloc))?;
+    let five = bundle(alloc, 576, &FIVE, 0, 5)?;
+    let rows: [(&str, &str, Vec<u8>, Status, &str); 7] = [
+        (
+            "another word",
+            "run",
+            Vec::from_slice(alloc, &five)?,
+            Status::BadWords,
+            "usage: skybridge --help\n",
+        ),
+        (
+            "no bytes",
+            "replay",
+            Vec::new(alloc),
+            Status::BundleRefused,
+            "bundle Short 0\n",
+        ),
+        (
+            "no schedule",
+            "replay",
+            Vec::from_slice(alloc, &five[..five.len().saturating_sub(5)])?,
+            Status::BundleRefused,
+            "bundle Short 60\n",
+        ),
+        (
+            "the bytes of VMFUNC inside an instruction",
+            "replay",
+            bundle(alloc, 576, &[0xFF, 0x94, 0x24, 0x0F, 1, 0xD4, 0], 0, 0)?,
+            Status::LoadRefused,
+            "process 0 Form 400003\n",
+        ),
+        (
+            "an entry inside an instruction",
+            "replay",
+            bundle(alloc, 576, &FIVE, 1, 5)?,
+            Status::LoadRefused,
+            "entry 0 400001\n",
+        ),
+        (
+            "one frame too few",
+            "replay",
+            bundle(alloc, 536, &FIVE, 0, 5)?,
+            Status::LoadRefused,
+            "frames 25 24\n",
+        ),
+        (
+            "the same for the other word",
+            "plain",
+            bundle(alloc, 536, &FIVE, 0, 5)?,
+            Status::LoadRefused,
+            "frames 25 24\n",
+        ),
+    ];
+    for (name, word, bytes, wanted, line) in rows {
+        let (status, held) = quiet_outcome(alloc, word, bytes)?;
+        assert_eq!(rt; status, wanted, "{name}");
+        assert_eq!(rt; held.as_slice(), line.as_bytes(), "{name}");
+    }
+    Ok(())
+}
+
+#[test]
+fn exactly_enough_frames_are_enough(rt: HostRuntime) -> Result<(), Fail> {
+    let alloc = rt.alloc();
+    let (status, held) = quiet_outcome(alloc, "replay", bundle(alloc, 537, &FIVE, 0, 0)?)?;
+    assert_eq!(rt; status, Status::Done);
+    assert_eq!(rt;
+        held.as_slice(),
+        b"skybridge report 1\nthread 0 home 0 view 0 at 0 running\nregs 0 rip 400000 flags 0 0 0 0 0 3008000 0 0 0 0 0 0 0 0 0 0 0\nfree 0\nkeys 0\nend\n".as_slice()
+    );
+    Ok(())
+}
+
+#[test]
+fn a_fault_of_the_source_is_told(rt: HostRuntime) -> Result<(), Fail> {
+    let alloc = rt.alloc();
+    let five = bundle(alloc, 576, &FIVE, 0, 5)?;
+    let (status, held) = outcome(alloc, "replay", five, vec![in alloc; 1]?, Vec::new(alloc))?;
     assert_eq!(rt; status, Status::ReadFault);
     assert_eq!(rt; held.as_slice(), b"read fault\n".as_slice());
     Ok(())
@@ -125,17 +249,16 @@ fn refusals_write_one_line(rt: HostRuntime) -> Result<(), Fail> {
 fn a_fault_of_the_sink_leaves_a_front(rt: HostRuntime) -> Result<(), Fail> {
     let alloc = rt.alloc();
     // The sink takes 16 bytes a call, and its third call fails.
-    let bytes = bundle(alloc, 0x40, &FIVE, 5)?;
-    let (status, held) = outcome(alloc, "replay", bytes, Vec::new(alloc), vec![in alloc; 3]?)?;
+    let five = bundle(alloc, 576, &FIVE, 0, 5)?;
+    let (status, held) = outcome(alloc, "replay", five, Vec::new(alloc), vec![in alloc; 3]?)?;
     assert_eq!(rt; status, Status::WriteFault);
     assert_eq!(rt;
         held.as_slice(),
         b"skybridge report 1\n0 step 400000".as_slice()
     );
     // A refusal keeps its status where its line is not written whole.
-    let bytes = bundle(alloc, 0x41, &FIVE, 5)?;
-    let (status, held) = outcome(alloc, "replay", bytes, Vec::new(alloc), vec![in alloc; 1]?)?;
-    assert_eq!(rt; status, Status::Form);
+    let (status, held) = outcome(alloc, "replay", Vec::new(alloc), Vec::new(alloc), vec![in alloc; 1]?)?;
+    assert_eq!(rt; status, Status::BundleRefused);
     assert_eq!(rt; held.as_slice(), b"".as_slice());
     Ok(())
 }

@@ -1,0 +1,5 @@
+pub mod Targets
+pub mod Refusals
+pub mod Parts
+pub mod Known
+pub mod OneAnswer

@@ -1,0 +1,5 @@
+pub mod Text
+pub mod Need
+pub mod Loading
+pub mod RefusalText
+pub mod Checks

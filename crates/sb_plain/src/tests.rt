@@ -1,0 +1,193 @@
+//! Stores and loads of several threads over one small state.
+
+use crate::bus::PlainBus;
+use crate::instruction::{fetch_next, perform};
+use crate::{Pages, Plain};
+use sb_exec::{Bus, BusStop, Effect, FaultKind};
+use sb_insn::{Flags, Op, Regs};
+use sb_list::Listed;
+use sb_memory::Linear;
+use sb_trace::{EndKind, Page, PageName, Thread};
+use std::alloc::Global;
+use std::test::Fail;
+
+/// The first page of a process's initial data.
+const DATA: u64 = 0x80_0000;
+
+/// The first page of a process's heap.
+const HEAP: u64 = 0xC0_0000;
+
+/// Where the text begins.
+const TEXT: u64 = 0x40_0000;
+
+/// A page of these bytes with a filler behind them.
+fn page(alloc: Global, name: PageName, front: &[u8], filler: u8) -> Result<Page, Fail> {
+    let mut bytes = Vec::from_slice(alloc, front)?;
+    bytes.resize(4096, filler)?;
+    Ok(Page {
+        name,
+        executable: false,
+        bytes: Listed::new(bytes),
+    })
+}
+
+/// A thread at home in a process.
+fn thread(alloc: Global, home: u32) -> Thread {
+    Thread {
+        home,
+        regs: Regs {
+            general: [0; 16],
+            rip: TEXT,
+            flags: Flags {
+                cf: false,
+                pf: false,
+                zf: false,
+                sf: false,
+                of: false,
+            },
+        },
+        view: 0,
+        bindings: Listed::new(Vec::new(alloc)),
+        state: EndKind::Running,
+    }
+}
+
+/// Two processes with a page of data each: threads 0 and 1 are at home in the first, thread 2 in the second.
+fn state(alloc: Global) -> Result<Plain, Fail> {
+    let mut pages = Pages::new(alloc);
+    pages.push(page(alloc, PageName::Text(0, 0), &[0x31, 0xC0], 0xCC)?)?;
+    pages.push(page(alloc, PageName::Data(0, 0), &[], 0)?)?;
+    pages.push(page(alloc, PageName::Heap(0, 0), &[], 0)?)?;
+    pages.push(page(alloc, PageName::Data(1, 0), &[], 0)?)?;
+    pages.push(page(alloc, PageName::Stack(0, 0), &[], 0)?)?;
+    pages.push(page(alloc, PageName::Stack(0, 1), &[], 0)?)?;
+    let mut threads = Vec::new(alloc);
+    threads.push(thread(alloc, 0))?;
+    threads.push(thread(alloc, 0))?;
+    threads.push(thread(alloc, 1))?;
+    Ok(Plain {
+        pages,
+        threads,
+        free: 0,
+        keys: Vec::new(alloc),
+    })
+}
+
+/// The answer of a fault.
+fn fault<T>(kind: FaultKind, at: u64) -> Result<T, BusStop> {
+    Err(BusStop::Fault(kind, Linear(at)))
+}
+
+#[test]
+fn threads_of_one_process_share_its_pages(rt: HostRuntime) -> Result<(), Fail> {
+    let mut state = state(rt.alloc())?;
+    for (number, value) in [(0, 7), (2, 9)] {
+        let stored = PlainBus::new(&mut state, number, 0).store(Linear(DATA), 8, value);
+        assert_eq!(rt; stored, Ok(()));
+    }
+    let rows: [(&str, u32, u64); 3] = [
+        ("the thread that stored", 0, 7),
+        ("another thread of its process", 1, 7),
+        ("a thread of another process, with its own page", 2, 9),
+    ];
+    for (name, number, value) in rows {
+        let loaded = PlainBus::new(&mut state, number, 0).load(Linear(DATA), 8);
+        assert_eq!(rt; loaded, Ok(value), "{name}");
+    }
+    Ok(())
+}
+
+#[test]
+fn stores_reach_what_they_may_write(rt: HostRuntime) -> Result<(), Fail> {
+    let mut state = state(rt.alloc())?;
+    let rows: [(&str, u64, u8, Result<(), BusStop>); 9] = [
+        ("the heap", HEAP, 8, Ok(())),
+        ("the lowest page of the stack", 0x300_4000, 4, Ok(())),
+        ("across two pages of the stack", 0x300_4FFC, 8, Ok(())),
+        (
+            "past the last page of the stack that is there",
+            0x300_5FFC,
+            8,
+            fault(FaultKind::Memory, 0x300_6000),
+        ),
+        (
+            "below the stack",
+            0x300_3FFF,
+            1,
+            fault(FaultKind::Memory, 0x300_3FFF),
+        ),
+        (
+            "a save page that is not there",
+            0x300_0000,
+            1,
+            fault(FaultKind::Memory, 0x300_0000),
+        ),
+        (
+            "past the end of the data, at the first byte that fails",
+            DATA + 0xFFC,
+            8,
+            fault(FaultKind::Memory, DATA + 0x1000),
+        ),
+        ("text", TEXT, 1, fault(FaultKind::Memory, TEXT)),
+        (
+            "an address that is not canonical",
+            0x8000_0000_0000,
+            1,
+            fault(FaultKind::Canon, 0x8000_0000_0000),
+        ),
+    ];
+    for (name, at, size, answer) in rows {
+        let stored = PlainBus::new(&mut state, 0, 0).store(Linear(at), size, 0x0807_0605_0403_0201);
+        assert_eq!(rt; stored, answer, "{name}");
+    }
+    // A store that stops has written no byte.
+    let left: [(&str, u64, u64); 4] = [
+        ("the heap has all eight bytes", HEAP, 0x0807_0605_0403_0201),
+        ("the stack has the lowest four", 0x300_4000, 0x0403_0201),
+        (
+            "bytes on both sides of a border",
+            0x300_4FFD,
+            0x0008_0706_0504_0302,
+        ),
+        ("the end of the data is as before", DATA + 0xFF8, 0),
+    ];
+    for (name, at, value) in left {
+        let loaded = PlainBus::new(&mut state, 0, 0).load_for_write(Linear(at), 8);
+        assert_eq!(rt; loaded, Ok(value), "{name}");
+    }
+    Ok(())
+}
+
+#[test]
+fn text_is_fetched_and_not_read(rt: HostRuntime) -> Result<(), Fail> {
+    let mut state = state(rt.alloc())?;
+    let mut bus = PlainBus::new(&mut state, 0, 0);
+    assert_eq!(rt; bus.fetch(Linear(TEXT)), Ok(0x31));
+    assert_eq!(rt; bus.load(Linear(TEXT), 1), fault(FaultKind::Memory, TEXT));
+    assert_eq!(rt; bus.fetch(Linear(DATA)), fault(FaultKind::Memory, DATA));
+    Ok(())
+}
+
+#[test]
+fn instructions_are_fetched_and_performed(rt: HostRuntime) -> Result<(), Fail> {
+    let mut state = state(rt.alloc())?;
+    let mut regs = thread(rt.alloc(), 0).regs;
+    regs.general[0] = 5;
+    let insn = fetch_next(&mut state, 0, 0, TEXT).expect(&rt, "an instruction");
+    // XOR EAX, EAX
+    assert_eq!(rt; insn.op, Op::One(0x31));
+    assert_eq!(rt;
+        perform(&mut state, 0, 0, &insn, &mut regs),
+        Ok(Effect::Next)
+    );
+    assert_eq!(rt; (regs.general[0], regs.rip), (0, TEXT + 2));
+    // No instruction begins with the filler, and behind the text there is no page.
+    let rows = [
+        (TEXT + 2, fault(FaultKind::Undefined, TEXT + 2)),
+        (TEXT + 0x1000, fault(FaultKind::Memory, TEXT + 0x1000)),
+    ];
+    for (at, answer) in rows {
+        assert_eq!(rt; fetch_next(&mut state, 0, 0, at), answer);
+    }
+    Ok(())
+}
