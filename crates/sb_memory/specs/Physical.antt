@@ -30,10 +30,14 @@ pub record IsWordPlace (memory : Physical) (place : ℕ) : Type 0 where
   pub inside : IsPlace memory place
   pub aligned : place % 8 ≡ 0
 
--- what holds of each physical memory: every frame has its bytes, and a byte is below 256
-pub record IsPhysical (memory : Physical) : Type 0 where
-  pub size : length memory.bytes ≡ 4096 * frame_count memory
+-- there are few frames, and each has its bytes
+pub record HasSize (memory : Physical) : Type 0 where
   pub count : frame_count memory < 2 ^ 32
+  pub bytes : length memory.bytes ≡ 4096 * frame_count memory
+
+-- what holds of each physical memory
+pub record IsPhysical (memory : Physical) : Type 0 where
+  pub size : HasSize memory
   pub bytes : (place : ℕ) → get_or memory.bytes place 0 < 256
 
 -- memory of zeros that has all its frames

@@ -1,7 +1,7 @@
 //! Memory that has all its frames.
 
 ghost use Rattle.std.specs.Prelude.{◌≡◌, ℕ, ◌+◌, ◌*◌, ◌≤◌, ◌<◌, length, get_or, IfOk};
-ghost use Rattle.sb_memory.specs.Physical.{IsPhysical, IsPlace, IsWordPlace, HasAllFrames, frame_count, zeroed};
+ghost use Rattle.sb_memory.specs.Physical.{HasSize, IsPhysical, IsPlace, IsWordPlace, HasAllFrames, frame_count, zeroed};
 ghost use Rattle.sb_memory.specs.Reading.{with_bytes};
 ghost use Rattle.sb_memory.specs.Words.{word_at, put_word as word_put, put_bytes as bytes_put, clear_frame as frame_cleared};
 
@@ -59,7 +59,8 @@ impl Memory {
     /// Puts a word at a place that is a multiple of 8.
     pub fn set_word(&mut self, at: PhysAddr, word: u64)
         requires { IsWordPlace self.old at.0 }
-        ensures { self.new ≡ with_bytes self.old (word_put self.old.bytes at.0 word) }
+        ensures written { self.new ≡ with_bytes self.old (word_put self.old.bytes at.0 word) }
+        ensures size { HasSize self.new }
     {
         put_word(&mut self.bytes, at.0 as usize, word);
     }
@@ -67,7 +68,8 @@ impl Memory {
     /// Puts bytes at a place.
     pub fn set_bytes(&mut self, at: PhysAddr, bytes: &[u8])
         requires { at.0 + length bytes.now ≤ 4096 * frame_count self.old }
-        ensures { self.new ≡ with_bytes self.old (bytes_put self.old.bytes at.0 bytes.now) }
+        ensures written { self.new ≡ with_bytes self.old (bytes_put self.old.bytes at.0 bytes.now) }
+        ensures size { HasSize self.new }
     {
         put_bytes(&mut self.bytes, at.0 as usize, bytes);
     }
@@ -76,7 +78,8 @@ impl Memory {
     #[tactic(auto, unfolding(crate::specs::Words::clear_frame))]
     pub fn clear_frame(&mut self, frame: Frame)
         requires { frame.0 < frame_count self.old }
-        ensures { self.new ≡ with_bytes self.old (frame_cleared self.old.bytes frame.0) }
+        ensures written { self.new ≡ with_bytes self.old (frame_cleared self.old.bytes frame.0) }
+        ensures size { HasSize self.new }
     {
         put_zeros(&mut self.bytes, 4096 * frame.0 as usize, 4096);
     }

@@ -1,0 +1,4 @@
+pub mod Windows
+pub mod Leads
+pub mod Standing
+pub mod OnePage

@@ -1,0 +1,4 @@
+pub mod Direct
+pub mod Windows
+pub mod TableSet
+pub mod Standing

@@ -11,10 +11,14 @@
 //! ```
 #![tactic(auto)]
 
+mod direct;
 mod entry;
 mod step;
+mod table_set;
 mod tables;
 
+pub use direct::Direct;
 pub use sb_walks::{TableStop, WalkStop};
 pub use step::walk;
+pub use table_set::TableSet;
 pub use tables::Tables;
