@@ -38,7 +38,7 @@ by_window first second linear access true e same = refl
 by_window first second linear access false e same = ap (λ (entry : ℕ). page_walked entry linear access) (same (eqb-false _ _ e))
 
 -- it depends on the lowest entry for the address alone
-set_walked_same : (entries others : ℕ → ℕ) (linear : ℕ) (access : Access) → (IsInWindow linear → entries (linear / 4096) ≡ others (linear / 4096)) → set_walked entries linear access ≡ set_walked others linear access
+pub set_walked_same : (entries others : ℕ → ℕ) (linear : ℕ) (access : Access) → (IsInWindow linear → entries (linear / 4096) ≡ others (linear / 4096)) → set_walked entries linear access ≡ set_walked others linear access
 unfolding set_walked
 set_walked_same entries others linear access same =
     ap (λ (lowest : Result GuestPhys WalkStop). if not (is_canonical linear) then Err NonCanonical

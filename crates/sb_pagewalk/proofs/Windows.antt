@@ -17,7 +17,7 @@ unfolding next_table
 next_table_small table index = let h = page_table_small index in let k = page_table_small (512 + index) in grind (arith, common_steps)
 
 -- the region whose page table has a number
-unfoldable region_with : ℕ → ℕ
+unfoldable pub region_with : ℕ → ℕ
 region_with table =
     if table == 4 then 0
     else if table == 5 then 2
@@ -28,7 +28,8 @@ region_with table =
     else if table == 10 then 32
     else 896
 
-only_region : (region : ℕ) → page_table_of region ≢ 0 → region_with (page_table_of region) ≡ region
+-- it is the region that has the table
+pub only_region : (region : ℕ) → page_table_of region ≢ 0 → region_with (page_table_of region) ≡ region
 unfolding page_table_of region_with
 only_region region window = grind (arith, common_steps)
 

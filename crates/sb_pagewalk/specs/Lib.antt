@@ -2,3 +2,4 @@ pub mod Direct
 pub mod Windows
 pub mod TableSet
 pub mod Standing
+pub mod Building

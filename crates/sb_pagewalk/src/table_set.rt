@@ -1,13 +1,15 @@
 //! The page tables of a process.
 
-ghost use Rattle.std.specs.Prelude.{ℕ, ◌≡◌, ◌≢◌, ◌+◌, ◌*◌, ◌/◌, ◌%◌, ◌^◌, ◌<◌, IsErr};
+ghost use Rattle.std.specs.Prelude.{ℕ, ◌≡◌, ◌≢◌, ◌+◌, ◌*◌, ◌/◌, ◌%◌, ◌^◌, ◌<◌, length, IsErr};
+ghost use Rattle.sb_memory.specs.Physical.{HasSize};
 ghost use Rattle.sb_memory.specs.Changes.{SameOutside};
 ghost use Rattle.sb_memory.specs.Reading.{with_bytes};
 ghost use Rattle.sb_memory.specs.Words.{put_word};
 ghost use Rattle.sb_memory.specs.declared.address.Access.{Access};
 ghost use Rattle.sb_pagewalk.specs.Windows.{IsInWindow, page_table_of as page_table_number};
+ghost use Rattle.sb_pagewalk.specs.Building.{IsCleared, IsLinked, parent_of, slot_of};
 ghost use Rattle.sb_pagewalk.specs.Standing.{AreFrames, HasTables};
-ghost use Rattle.sb_pagewalk.specs.TableSet.{Maps, no_pages, page_place as lowest_place, page_walked, place_in, set_frames, table_frame, walked_in};
+ghost use Rattle.sb_pagewalk.specs.TableSet.{Maps, entry_to as link_entry, no_pages, page_place as lowest_place, page_walked, place_in, set_frames, table_frame, walked_in};
 
 use sb_memory::{Frame, Linear, Memory, Phys, PhysAddr};
 
@@ -18,6 +20,9 @@ pub struct TableSet {
     pub root: Frame,
     pub tables: [Frame; 11],
 }
+
+/// Present, writable and user: bits 0 to 2 of an entry.
+const ALL_RIGHTS: u64 = 7;
 
 /// The number of the page table of a 2 MiB region, which is a window.
 #[tactic(auto, using(crate::proofs::Windows::page_table_small), unfolding(crate::specs::Windows::page_table_of))]
@@ -38,7 +43,87 @@ fn page_table_of(region: u64) -> usize
     }
 }
 
+/// Where a table other than the root is entered: the number of the table above it, and the index there.
+#[tactic(auto, unfolding(crate::specs::Building::parent_of, crate::specs::Building::slot_of))]
+fn entered_at(table: usize) -> (usize, u64)
+    requires not_root { table ≢ 0 }
+    requires number { table < 12 }
+    ensures parent { result.0 ≡ parent_of table }
+    ensures slot { result.1 ≡ slot_of table }
+    ensures upper { result.0 < 4 }
+    ensures within { result.1 < 512 }
+{
+    match table {
+        1 => (0, 0),
+        2 => (1, 0),
+        3 => (1, 1),
+        4 => (2, 0),
+        5 => (2, 2),
+        6 => (2, 4),
+        7 => (2, 6),
+        8 => (2, 16),
+        9 => (2, 24),
+        10 => (2, 32),
+        _ => (3, 384),
+    }
+}
+
 impl TableSet {
+    /// Makes the tables in twelve different frames of the memory. No address is translated, and only bytes of these frames
+    /// change.
+    pub fn build(memory: &mut Memory, root: Frame, tables: [Frame; 11]) -> TableSet
+        requires { AreFrames (record { root = root; tables = tables }) memory.old }
+        ensures set { result ≡ record { root = root; tables = tables } }
+        ensures tables { HasTables result memory.new }
+        ensures empty { (linear : ℕ) (access : Access) → IsErr (walked_in memory.new result linear access) }
+        ensures maps { Maps memory.new result no_pages }
+        ensures same { SameOutside (set_frames result) memory.old memory.new }
+    {
+        let set = TableSet { root, tables };
+        set.clear(memory);
+        set.link(memory);
+        set
+    }
+
+    /// Puts zeros into all tables.
+    fn clear(&self, memory: &mut Memory)
+        requires eleven { length self.now.tables ≡ 11 }
+        requires frames { AreFrames self.now memory.old }
+        ensures cleared { IsCleared self.now memory.new 12 }
+        ensures size { HasSize memory.new }
+        ensures same { SameOutside (set_frames self.now) memory.old memory.new }
+    {
+        memory.clear_frame(self.root);
+        for table in 1..12 {
+            memory.clear_frame(self.frame(table));
+        }
+    }
+
+    /// Enters each table but the root in the one above it.
+    fn link(&self, memory: &mut Memory)
+        requires eleven { length self.now.tables ≡ 11 }
+        requires frames { AreFrames self.now memory.old }
+        requires size { HasSize memory.old }
+        requires cleared { IsCleared self.now memory.old 12 }
+        ensures linked { IsLinked self.now memory.new 12 }
+        ensures size { HasSize memory.new }
+        ensures same { SameOutside (set_frames self.now) memory.old memory.new }
+    {
+        for table in 1..12 {
+            let (parent, index) = entered_at(table);
+            memory.set_word(self.place(parent, index), self.entry_to(table));
+        }
+    }
+
+    /// The entry that leads to a table other than the root, with all rights.
+    fn entry_to(&self, table: usize) -> u64
+        requires not_root { table ≢ 0 }
+        requires number { table < 12 }
+        ensures { result ≡ link_entry self.now table }
+    {
+        4096 * u64::from(self.frame(table).0) + ALL_RIGHTS
+    }
+
     /// The frame of a table. Table 0 is the root.
     fn frame(&self, table: usize) -> Frame
         requires { table < 12 }
