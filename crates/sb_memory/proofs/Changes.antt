@@ -1,8 +1,8 @@
 -- Changes that stay within some frames.
-use Rattle.std.proofs.Common.{◌≡◌, ◌≢◌, ℕ, ◌+◌, ◌*◌, ◌/◌, ◌%◌, ◌<◌, ◌≤◌, ◌⊎◌, inl, inr, List, length, get_or, refl, ◌∙◌, sym, subst, arith}
+use Rattle.std.proofs.Common.{◌≡◌, ◌≢◌, ℕ, ◌+◌, ◌%◌, ◌<◌, ◌≤◌, ◌⊎◌, inl, inr, List, refl, ◌∙◌, sym, subst, arith}
 use Rattle.std.specs.List.{Contains}
 use Rattle.std.proofs.lemmas.Bool.{cases_lt}
-use Rattle.sb_memory.specs.Physical.{Physical, HasSize, frame_of, frame_count}
+use Rattle.sb_memory.specs.Physical.{Physical, HasSize, frame_of}
 use Rattle.sb_memory.specs.Reading.{with_bytes}
 use Rattle.sb_memory.specs.Words.{put_word, clear_frame}
 use Rattle.sb_memory.specs.Changes.{SameOutside}
@@ -17,7 +17,7 @@ pub same_outside_then : (frames : List ℕ) (old mid new : Physical) → SameOut
 same_outside_then frames old mid new first second = record {
   present = second.present ∙ first.present;
   size = second.size ∙ first.size;
-  bytes = λ place outside. second.bytes place outside ∙ first.bytes place outside
+  bytes = λ place outside. second.bytes place outside ∙ first.bytes place outside;
 }
 
 -- a place in another frame than a word lies beside it
@@ -34,7 +34,7 @@ same_outside_word frames memory at word aligned within = record {
   present = refl;
   size = length_put_word memory.bytes at word;
   bytes = λ place outside. byte_beside_word memory.bytes at word place
-    (beside_word at place aligned (λ same. outside (subst (Contains frames) (sym same) within)))
+      (beside_word at place aligned (λ same. outside (subst (Contains frames) (sym same) within)));
 }
 
 -- one of the frames is cleared
@@ -43,7 +43,7 @@ pub same_outside_cleared : (frames : List ℕ) (memory : Physical) (frame : ℕ)
 same_outside_cleared frames memory frame within = record {
   present = refl;
   size = length_clear_frame memory.bytes frame;
-  bytes = λ place outside. byte_beside_frame memory.bytes frame place (λ same. outside (subst (Contains frames) (sym same) within))
+  bytes = λ place outside. byte_beside_frame memory.bytes frame place (λ same. outside (subst (Contains frames) (sym same) within));
 }
 
 -- the size stays

@@ -1,10 +1,9 @@
 -- Each table is entered once, and a step of building does one more.
-use Rattle.std.proofs.Common.{◌≡◌, ◌≢◌, ℕ, zero, suc, ◌+◌, ◌*◌, ◌/◌, ◌%◌, ◌^◌, ◌<◌, ◌≤◌, ◌==◌, Bool, true, false, nat_lt, refl, ap, sym, ◌∙◌, inl, inr, arith}
-use Rattle.std.specs.Prelude.{if◌then◌else◌}
+use Rattle.std.proofs.Common.{◌≡◌, ◌≢◌, ℕ, zero, suc, ◌+◌, ◌*◌, ◌/◌, ◌%◌, ◌<◌, ◌≤◌, ◌∙◌, arith}
 use Rattle.std.proofs.lemmas.Grind.{common_steps}
 use Rattle.sb_pagewalk.specs.Windows.{page_table_of, next_table}
 use Rattle.sb_pagewalk.proofs.Windows.{region_with, only_region, page_table_small, page_table_lowest}
-use Rattle.sb_pagewalk.specs.Building.{parent_of, slot_of, among_first, IsCleared, IsLinked}
+use Rattle.sb_pagewalk.specs.Building.{parent_of, slot_of}
 
 -- what stands where a table is entered leads to it
 pub entered : (table : ℕ) → table ≢ 0 → table < 12 → next_table (parent_of table) (slot_of table) ≡ table

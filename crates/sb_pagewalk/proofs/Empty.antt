@@ -1,5 +1,5 @@
 -- A set that was just built translates no address.
-use Rattle.std.proofs.Common.{◌≡◌, ◌≢◌, ℕ, ◌+◌, ◌*◌, ◌/◌, ◌%◌, ◌^◌, ◌<◌, ◌≤◌, ◌==◌, Bool, true, false, nat_lt, Result, Ok, Err, refl, ap, sym, ◌∙◌, subst, arith}
+use Rattle.std.proofs.Common.{◌≡◌, ℕ, ◌*◌, ◌/◌, ◌%◌, ◌^◌, ◌==◌, Bool, true, false, nat_lt, Result, Err, refl, sym, ◌∙◌, subst, arith}
 use Rattle.std.specs.Prelude.{if◌then◌else◌, not, IsErr}
 use Rattle.sb_memory.specs.Physical.{Physical, HasSize}
 use Rattle.sb_memory.specs.declared.address.Access.{Access}
@@ -9,7 +9,7 @@ use Rattle.sb_walks.specs.declared.stop.WalkStop.TheVariants.{NonCanonical, NotP
 use Rattle.sb_walks.specs.Guest.{is_canonical, entry_judged}
 use Rattle.sb_pagewalk.specs.declared.table_set.TableSet.{TableSet}
 use Rattle.sb_pagewalk.specs.Windows.{IsInWindow, region_of, page_table_of}
-use Rattle.sb_pagewalk.specs.TableSet.{place_in, page_place, page_entry, page_walked, set_walked, walked_in, no_pages, Maps}
+use Rattle.sb_pagewalk.specs.TableSet.{page_entry, page_walked, set_walked, walked_in, no_pages, Maps}
 use Rattle.sb_pagewalk.specs.Standing.{AreFrames, HasTables}
 use Rattle.sb_pagewalk.specs.Building.{IsLinked}
 use Rattle.sb_pagewalk.proofs.Windows.{page_table_small, page_table_lowest}
@@ -39,9 +39,9 @@ pub linked_is_empty : (set : TableSet) (memory : Physical) → AreFrames set mem
 linked_is_empty set memory frames size linked =
     let tables = linked_all set memory frames linked in
     let no_entry : (linear : ℕ) → IsInWindow linear → page_entry memory set (linear / 4096) ≡ 0 = λ linear window.
-      let page : 4096 * (linear / 4096) / 4096 ≡ linear / 4096 = omega arith in
-      let place = same_page set (4096 * (linear / 4096)) linear page in
-      rw place (linked.lowest (page_table_of (region_of linear)) (linear / 4096 % 512) (page_table_lowest (region_of linear) window) (page_table_small (region_of linear)) (omega arith)) in
+    let page : 4096 * (linear / 4096) / 4096 ≡ linear / 4096 = omega arith in
+    let place = same_page set (4096 * (linear / 4096)) linear page in
+    rw place (linked.lowest (page_table_of (region_of linear)) (linear / 4096 % 512) (page_table_lowest (region_of linear) window) (page_table_small (region_of linear)) (omega arith)) in
     let maps : Maps memory set no_pages = λ linear access.
-      stands_maps set memory tables size linear access ∙ set_walked_same (page_entry memory set) no_pages linear access (no_entry linear) in
+    stands_maps set memory tables size linear access ∙ set_walked_same (page_entry memory set) no_pages linear access (no_entry linear) in
     record { tables = tables; maps = maps; empty = λ linear access. subst IsErr (sym (maps linear access)) (nothing_walked linear access) }

@@ -6,3 +6,4 @@ pub mod Building
 pub mod Clearing
 pub mod Linking
 pub mod Empty
+pub mod TestSet

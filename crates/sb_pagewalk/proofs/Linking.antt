@@ -1,10 +1,10 @@
 -- The tables of a set are entered in those above them, one after another.
-use Rattle.std.proofs.Common.{◌≡◌, ◌≢◌, ℕ, ◌+◌, ◌*◌, ◌/◌, ◌%◌, ◌^◌, ◌<◌, ◌≤◌, ◌==◌, Bool, true, false, nat_lt, length, refl, ap, sym, ◌∙◌, subst, inl, inr, arith}
+use Rattle.std.proofs.Common.{◌≡◌, ◌≢◌, ℕ, ◌+◌, ◌*◌, ◌^◌, ◌<◌, ◌≤◌, ◌==◌, Bool, true, false, length, refl, ap, sym, ◌∙◌, subst, arith}
 use Rattle.std.specs.Prelude.{if◌then◌else◌}
-use Rattle.std.proofs.lemmas.Bool.{cases_lt, eqb-true, eqb-false}
+use Rattle.std.proofs.lemmas.Bool.{eqb-true, eqb-false}
 use Rattle.std.proofs.lemmas.Grind.{common_steps}
 use Rattle.std.specs.List.{Contains}
-use Rattle.sb_memory.specs.Physical.{Physical, HasSize, frame_of, frame_count}
+use Rattle.sb_memory.specs.Physical.{Physical, HasSize, frame_of}
 use Rattle.sb_memory.specs.Reading.{with_bytes}
 use Rattle.sb_memory.specs.Words.{word_at, put_word}
 use Rattle.sb_memory.specs.Changes.{SameOutside}
@@ -44,7 +44,7 @@ others_first count table differ = grind (arith, common_steps)
 pub linked_none : (set : TableSet) (memory : Physical) → IsCleared set memory 12 → IsLinked set memory 1
 linked_none set memory cleared = record {
   upper = λ table index upper within. let none = none_first (next_table table index) in rw none (cleared.zero table index (omega arith) within);
-  lowest = λ table index lowest number within. cleared.zero table index number within
+  lowest = λ table index lowest number within. cleared.zero table index number within;
 }
 
 -- all tables are entered
@@ -52,7 +52,7 @@ pub linked_all : (set : TableSet) (memory : Physical) → AreFrames set memory �
 linked_all set memory frames linked = record {
   frames = frames;
   upper = λ table index upper within.
-    linked.upper table index upper within ∙ ap (entry_to set) (all_first (next_table table index) (next_table_small table index))
+      linked.upper table index upper within ∙ ap (entry_to set) (all_first (next_table table index) (next_table_small table index));
 }
 
 module _ (set : TableSet) (memory : Physical) (count : ℕ) (frames : AreFrames set memory) (size : HasSize memory) (first : 0 < count) (number : count < 12) where
@@ -81,10 +81,10 @@ module _ (set : TableSet) (memory : Physical) (count : ℕ) (frames : AreFrames 
   other_place_by table index upper within other false e =
       places_apart set memory table (parent_of count) index (slot_of count) frames (omega arith) (let h = parent_upper count in omega arith) within (slot_within count) (eqb-false table (parent_of count) e)
   other_place_by table index upper within other true e = λ same.
-    let one = eqb-true table (parent_of count) e in
-    let frame = ap (table_frame set) one in
-    let slot : index ≡ slot_of count = omega arith in
-    other (ap (λ (above : ℕ). next_table above index) one ∙ ap (next_table (parent_of count)) slot ∙ entered count (omega arith) number)
+      let one = eqb-true table (parent_of count) e in
+      let frame = ap (table_frame set) one in
+      let slot : index ≡ slot_of count = omega arith in
+      other (ap (λ (above : ℕ). next_table above index) one ∙ ap (next_table (parent_of count)) slot ∙ entered count (omega arith) number)
 
   -- an entry that leads to another table stands elsewhere
   other_place : (table index : ℕ) → table < 4 → index < 512 → next_table table index ≢ count → place_in set table index ≢ at
@@ -123,11 +123,11 @@ linked_more set old memory new count place tables here is size frames same first
     let linked : IsLinked set (with_bytes memory (put_word memory.bytes (place_in set (parent_of count) (slot_of count)) (entry_to set count))) (count + 1) =
     record {
       upper = λ table index upper within.
-        upper_after set memory count standing size_now first number before table index upper within (next_table table index == count) refl;
-      lowest = lowest_after set memory count standing size_now first number before
+          upper_after set memory count standing size_now first number before table index upper within (next_table table index == count) refl;
+      lowest = lowest_after set memory count standing size_now first number before;
     } in
     let within = slot_within count in
     let frame : frame_of (place_in set (parent_of count) (slot_of count)) ≡ table_frame set (parent_of count) = omega arith in
     let beside = same_outside_then (set_frames set) old memory _ same
-      (same_outside_word (set_frames set) memory (place_in set (parent_of count) (slot_of count)) (entry_to set count) (omega arith) (subst (Contains (set_frames set)) (sym frame) (table_among set (parent_of count) tables (let upper = parent_upper count in omega arith)))) in
+    (same_outside_word (set_frames set) memory (place_in set (parent_of count) (slot_of count)) (entry_to set count) (omega arith) (subst (Contains (set_frames set)) (sym frame) (table_among set (parent_of count) tables (let upper = parent_upper count in omega arith)))) in
     (subst (λ (m : Physical). IsLinked set m (count + 1)) (sym written) linked, subst (SameOutside (set_frames set) old) (sym written) beside)

@@ -1,9 +1,9 @@
 -- A lowest entry that is set changes the translation of its page alone.
-use Rattle.std.proofs.Common.{◌≡◌, ◌≢◌, ℕ, ◌+◌, ◌*◌, ◌/◌, ◌%◌, ◌^◌, ◌<◌, ◌≤◌, ◌==◌, subst, Bool, true, false, nat_lt, length, Result, Ok, Err, refl, ap, sym, ◌∙◌, arith}
+use Rattle.std.proofs.Common.{◌≡◌, ◌≢◌, ℕ, ◌*◌, ◌/◌, ◌%◌, ◌^◌, ◌<◌, ◌==◌, subst, Bool, true, false, nat_lt, Result, Err, refl, ap, sym, ◌∙◌, arith}
 use Rattle.std.specs.Prelude.{if◌then◌else◌, not}
 use Rattle.std.proofs.lemmas.Grind.{common_steps}
 use Rattle.std.proofs.lemmas.Bool.{eqb-false, eqb-true, lt-ltb, ne_eqb}
-use Rattle.sb_memory.specs.Physical.{Physical, HasSize, frame_count}
+use Rattle.sb_memory.specs.Physical.{Physical, HasSize}
 use Rattle.sb_memory.specs.Reading.{with_bytes}
 use Rattle.sb_memory.specs.Words.{word_at, put_word}
 use Rattle.sb_memory.proofs.Words.{length_put_word, word_read_back, word_elsewhere}
@@ -15,7 +15,7 @@ use Rattle.sb_walks.specs.Guest.{is_canonical}
 use Rattle.sb_pagewalk.specs.declared.table_set.TableSet.{TableSet}
 use Rattle.sb_pagewalk.specs.Windows.{IsInWindow, region_of, page_table_of}
 use Rattle.sb_pagewalk.specs.TableSet.{table_frame, place_in, page_place, page_entry, page_walked, set_walked, walked_in}
-use Rattle.sb_pagewalk.specs.Standing.{AreFrames, HasTables}
+use Rattle.sb_pagewalk.specs.Standing.{HasTables}
 use Rattle.sb_pagewalk.proofs.Windows.{page_table_small, page_table_lowest, page_tables_differ, windows_are_low}
 use Rattle.sb_pagewalk.proofs.Standing.{place_inside, places_apart, same_page, stands_maps}
 
@@ -42,9 +42,9 @@ pub set_walked_same : (entries others : ℕ → ℕ) (linear : ℕ) (access : Ac
 unfolding set_walked
 set_walked_same entries others linear access same =
     ap (λ (lowest : Result GuestPhys WalkStop). if not (is_canonical linear) then Err NonCanonical
-      else if not (nat_lt linear (2 ^ 39)) then Err (NotPresent 4)
-      else if not (nat_lt linear (2 ^ 31)) then Err (NotPresent 3)
-      else lowest)
+    else if not (nat_lt linear (2 ^ 39)) then Err (NotPresent 4)
+    else if not (nat_lt linear (2 ^ 31)) then Err (NotPresent 3)
+    else lowest)
     (by_window (entries (linear / 4096)) (others (linear / 4096)) linear access (page_table_of (region_of linear) == 0) refl same)
 
 -- ---- one entry is set
@@ -62,9 +62,9 @@ module _ (set : TableSet) (memory : Physical) (at entry : ℕ) (window : IsInWin
       record {
         frames = record { inside = tables.frames.inside; different = tables.frames.different };
         upper = λ table index upper within.
-          word_elsewhere memory.bytes (page_place set at) entry (place_in set table index) (omega arith) (omega arith)
-          (places_apart set memory table (page_table_of (region_of at)) index (at / 4096 % 512) tables.frames (omega arith) (page_table_small (region_of at)) within (omega arith) (omega arith))
-          ∙ tables.upper table index upper within
+            word_elsewhere memory.bytes (page_place set at) entry (place_in set table index) (omega arith) (omega arith)
+            (places_apart set memory table (page_table_of (region_of at)) index (at / 4096 % 512) tables.frames (omega arith) (page_table_small (region_of at)) within (omega arith) (omega arith))
+            ∙ tables.upper table index upper within;
       }
 
   entry_here : entry < 2 ^ 64 → (linear : ℕ) → linear / 4096 ≡ at / 4096 → page_entry changed set (linear / 4096) ≡ entry
@@ -81,10 +81,10 @@ module _ (set : TableSet) (memory : Physical) (at entry : ℕ) (window : IsInWin
       places_apart set memory (page_table_of (region_of other)) (page_table_of (region_of at)) (other / 4096 % 512) (at / 4096 % 512) tables.frames
       (page_table_small (region_of other)) (page_table_small (region_of at)) (omega arith) (omega arith) (eqb-false _ _ e)
   apart_by_table other inside differ true e = λ same.
-    let table = eqb-true (page_table_of (region_of other)) (page_table_of (region_of at)) e in
-    let frame = ap (table_frame set) table in
-    let region = page_tables_differ (region_of other) (region_of at) inside table in
-    differ (omega arith)
+      let table = eqb-true (page_table_of (region_of other)) (page_table_of (region_of at)) e in
+      let frame = ap (table_frame set) table in
+      let region = page_tables_differ (region_of other) (region_of at) inside table in
+      differ (omega arith)
 
   -- the lowest entries of two pages do not meet
   pages_apart : (other : ℕ) → IsInWindow other → other / 4096 ≢ at / 4096 → page_place set other ≢ page_place set at
@@ -128,5 +128,5 @@ one_page_set set old new at entry place written here size window tables fits =
     subst (λ (memory : Physical). OnePageSet set old memory at entry) (sym is) (record {
       tables = tables_after set old at entry window tables before;
       page = page_after set old at entry window tables before fits;
-      others = others_after set old at entry window tables before
+      others = others_after set old at entry window tables before;
     })

@@ -1,13 +1,12 @@
 -- Sets of tables that stand in a memory: their entries lie apart, and a walk goes through them.
-use Rattle.std.proofs.Common.{◌≡◌, ◌≢◌, ℕ, ◌+◌, ◌*◌, ◌/◌, ◌%◌, ◌^◌, ◌<◌, ◌≤◌, true, nat_lt, length, Result, Ok, refl, ap, sym, ◌∙◌, inl, inr, arith}
-use Rattle.std.proofs.lemmas.Bool.{lt-ltb, cases_lt}
+use Rattle.std.proofs.Common.{◌≡◌, ◌≢◌, ℕ, ◌*◌, ◌/◌, ◌%◌, ◌<◌, Ok, refl, ap, ◌∙◌, arith}
+use Rattle.std.proofs.lemmas.Bool.{lt-ltb}
 use Rattle.sb_memory.specs.Physical.{Physical, HasSize, IsWordPlace, frame_count}
 use Rattle.sb_memory.specs.Words.{word_at}
-use Rattle.sb_walks.specs.declared.stop.TableStop.{TableStop}
 use Rattle.sb_pagewalk.specs.declared.table_set.TableSet.{TableSet}
 use Rattle.sb_pagewalk.specs.Direct.{direct_entry}
-use Rattle.sb_pagewalk.specs.Windows.{IsInWindow, region_of, page_table_of}
-use Rattle.sb_pagewalk.specs.TableSet.{table_frame, place_in, page_place, page_entry, Maps}
+use Rattle.sb_pagewalk.specs.Windows.{region_of, page_table_of}
+use Rattle.sb_pagewalk.specs.TableSet.{place_in, page_place, page_entry, Maps}
 use Rattle.sb_pagewalk.specs.Standing.{AreFrames, HasTables}
 use Rattle.sb_pagewalk.proofs.Windows.{page_table_small}
 use Rattle.sb_pagewalk.proofs.Leads.{Leads, leads_walk}
@@ -46,12 +45,12 @@ has_leads : (set : TableSet) (memory : Physical) → HasTables set memory → Ha
 has_leads set memory tables size = record {
   small = λ table number. let inside = tables.frames.inside table number in let few = size.count in omega arith;
   upper = λ table index upper within.
-    entry_inside memory (place_in set table index) (place_inside set memory table index tables.frames (omega arith) within)
-    ∙ ap Ok (tables.upper table index upper within);
+      entry_inside memory (place_in set table index) (place_inside set memory table index tables.frames (omega arith) within)
+      ∙ ap Ok (tables.upper table index upper within);
   pages = λ linear window.
-    let page : linear / 4096 ≡ 4096 * (linear / 4096) / 4096 = omega arith in
-    entry_inside memory (page_place set linear) (place_inside set memory (page_table_of (region_of linear)) (linear / 4096 % 512) tables.frames (page_table_small (region_of linear)) (omega arith))
-    ∙ ap (λ (place : ℕ). Ok (word_at memory.bytes place)) (same_page set linear (4096 * (linear / 4096)) page)
+      let page : linear / 4096 ≡ 4096 * (linear / 4096) / 4096 = omega arith in
+      entry_inside memory (page_place set linear) (place_inside set memory (page_table_of (region_of linear)) (linear / 4096 % 512) tables.frames (page_table_small (region_of linear)) (omega arith))
+      ∙ ap (λ (place : ℕ). Ok (word_at memory.bytes place)) (same_page set linear (4096 * (linear / 4096)) page);
 }
 
 -- a set that stands in a memory translates each page by its lowest entry

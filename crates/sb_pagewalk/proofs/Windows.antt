@@ -2,7 +2,7 @@
 use Rattle.std.proofs.Common.{◌≡◌, ◌≢◌, ℕ, ◌+◌, ◌<◌, ◌≤◌, ◌==◌, ap, sym, ◌∙◌, arith}
 use Rattle.std.specs.Prelude.{if◌then◌else◌}
 use Rattle.std.proofs.lemmas.Grind.{common_steps}
-use Rattle.sb_pagewalk.specs.Windows.{page_table_of, next_table, region_of}
+use Rattle.sb_pagewalk.specs.Windows.{page_table_of, next_table}
 
 pub page_table_small : (region : ℕ) → page_table_of region < 12
 unfolding page_table_of

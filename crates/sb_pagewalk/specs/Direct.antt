@@ -2,7 +2,6 @@
 use Rattle.std.specs.Prelude.{ℕ, ◌*◌, nat_lt, Result, Ok, Err, if◌then◌else◌}
 use Rattle.sb_memory.specs.Physical.{Physical, frame_count}
 use Rattle.sb_memory.specs.Words.{word_at}
-use Rattle.sb_memory.specs.declared.address.EptStop.{EptStop}
 use Rattle.sb_memory.specs.declared.address.EptStop.TheVariants.{Outside}
 use Rattle.sb_walks.specs.declared.stop.TableStop.{TableStop}
 use Rattle.sb_walks.specs.declared.stop.TableStop.TheVariants.{Ept}

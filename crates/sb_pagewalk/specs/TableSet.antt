@@ -1,19 +1,18 @@
 -- A set of page tables: where its entries stand, what they say, and what a walk through them answers.
-use Rattle.std.specs.Prelude.{ℕ, ◌≡◌, ◌≢◌, ◌+◌, ◌*◌, ◌/◌, ◌%◌, ◌^◌, ◌<◌, ◌==◌, List, ◌∷◌, map, get_or, not, nat_lt, Result, Ok, Err, if◌then◌else◌}
+use Rattle.std.specs.Prelude.{ℕ, ◌≡◌, ◌+◌, ◌*◌, ◌/◌, ◌%◌, ◌^◌, ◌==◌, List, ◌∷◌, map, get_or, not, nat_lt, Result, Ok, Err, if◌then◌else◌}
 use Rattle.sb_memory.specs.Outcome.{and_then}
-use Rattle.sb_memory.specs.Physical.{Physical, frame_count}
+use Rattle.sb_memory.specs.Physical.{Physical}
 use Rattle.sb_memory.specs.Words.{word_at}
 use Rattle.sb_memory.specs.declared.address.Access.{Access}
 use Rattle.sb_memory.specs.declared.address.Frame.{Frame}
 use Rattle.sb_memory.specs.declared.address.GuestPhys.{GuestPhys}
-use Rattle.sb_walks.specs.declared.stop.TableStop.{TableStop}
 use Rattle.sb_walks.specs.declared.stop.WalkStop.{WalkStop}
 use Rattle.sb_walks.specs.declared.stop.WalkStop.TheVariants.{NonCanonical, NotPresent}
 use Rattle.sb_walks.specs.Entry.{entry_in}
 use Rattle.sb_walks.specs.Guest.{is_canonical, entry_judged, address_in, walked}
 use Rattle.sb_pagewalk.specs.declared.table_set.TableSet.{TableSet}
 use Rattle.sb_pagewalk.specs.Direct.{direct_entry}
-use Rattle.sb_pagewalk.specs.Windows.{region_of, page_table_of, next_table}
+use Rattle.sb_pagewalk.specs.Windows.{region_of, page_table_of}
 
 -- the numbers of the frames of a set: the root, then the tables in order
 abbrev pub set_frames : TableSet → List ℕ

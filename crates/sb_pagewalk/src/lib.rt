@@ -22,3 +22,6 @@ pub use sb_walks::{TableStop, WalkStop};
 pub use step::walk;
 pub use table_set::TableSet;
 pub use tables::Tables;
+
+#[cfg(test)]
+mod tests;

@@ -1,5 +1,3 @@
-use Rattle.sb_memory.proofs.Changes.{same_outside_then}
-use Rattle.sb_pagewalk.specs.TableSet.{set_frames}
 use Rattle.sb_pagewalk.proofs.Clearing.{frames_stay}
 use Rattle.sb_pagewalk.proofs.Empty.{linked_is_empty}
 use Rattle.sb_pagewalk.proofs.table_set.TableSet.build.Goals as goal

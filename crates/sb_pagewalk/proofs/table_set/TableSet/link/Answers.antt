@@ -1,9 +1,6 @@
-use Rattle.std.proofs.Common.{◌≡◌, ap, ◌∙◌, subst, arith}
-use Rattle.sb_memory.specs.Reading.{with_bytes}
-use Rattle.sb_memory.specs.Words.{put_word}
+use Rattle.std.proofs.Common.{arith}
 use Rattle.sb_memory.proofs.Changes.{same_outside_self}
-use Rattle.sb_pagewalk.specs.TableSet.{set_frames, place_in, entry_to}
-use Rattle.sb_pagewalk.specs.Building.{parent_of, slot_of}
+use Rattle.sb_pagewalk.specs.TableSet.{set_frames}
 use Rattle.sb_pagewalk.proofs.Standing.{word_place}
 use Rattle.sb_pagewalk.proofs.Clearing.{frames_stay}
 use Rattle.sb_pagewalk.proofs.Linking.{linked_none, linked_more}

@@ -1,4 +1,3 @@
-use Rattle.sb_memory.specs.Physical.{HasSize}
 use Rattle.sb_memory.specs.Changes.{SameOutside}
 use Rattle.sb_pagewalk.specs.TableSet.{set_frames}
 use Rattle.sb_pagewalk.specs.Building.{IsLinked}
