@@ -95,6 +95,11 @@ eights_apart at other first second different = elim (cases_lt other at) [
 pub word_elsewhere : (bytes : List ℕ) (at word other : ℕ) → at % 8 ≡ 0 → other % 8 ≡ 0 → other ≢ at → word_at (put_word bytes at word) other ≡ word_at bytes other
 word_elsewhere bytes at word other first second different = word_beside_word bytes at word other (eights_apart at other first second different)
 
+-- a word of the same bytes
+pub word_of_same_bytes : (left right : List ℕ) (place : ℕ) → ((k : ℕ) → k < 8 → get_or left (place + k) 0 ≡ get_or right (place + k) 0) → word_at left place ≡ word_at right place
+unfolding word_at
+word_of_same_bytes left right place same = little_from_same left right place place 8 same
+
 -- ---- a frame of zeros
 
 pub length_clear_frame : (bytes : List ℕ) (frame : ℕ) → length (clear_frame bytes frame) ≡ length bytes

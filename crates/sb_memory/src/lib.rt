@@ -4,6 +4,10 @@
 //! access; the refusals that walks through memory share; `Phys`, what every physical memory is; and `Memory`, which has all
 //! its frames. Not inside: paging.
 //!
+//! Code for any memory is generic over `Phys`. Its contract says which calls it makes, in their order, by the memory's account:
+//! what a memory notes of its calls, by a rule of its own. `Memory` notes nothing; a memory of copied frames notes the words
+//! that were read, so that they can be compared later.
+//!
 //! A linear address is what an instruction uses. Guest page tables lead from it to a guest-physical address, and the EPT
 //! leads from there to a physical one (SDM volume 3, chapters 4 and 28). A word is 8 bytes, the lowest first:
 //!

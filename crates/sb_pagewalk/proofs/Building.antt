@@ -2,7 +2,7 @@
 use Rattle.std.proofs.Common.{◌≡◌, ◌≢◌, ℕ, zero, suc, ◌+◌, ◌*◌, ◌/◌, ◌%◌, ◌<◌, ◌≤◌, ◌∙◌, arith}
 use Rattle.std.proofs.lemmas.Grind.{common_steps}
 use Rattle.sb_pagewalk.specs.Windows.{page_table_of, next_table}
-use Rattle.sb_pagewalk.proofs.Windows.{region_with, only_region, page_table_small, page_table_lowest}
+use Rattle.sb_pagewalk.proofs.Regions.{region_with, only_region, page_table_small, page_table_lowest}
 use Rattle.sb_pagewalk.specs.Building.{parent_of, slot_of}
 
 -- what stands where a table is entered leads to it

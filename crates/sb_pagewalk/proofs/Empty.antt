@@ -12,7 +12,7 @@ use Rattle.sb_pagewalk.specs.Windows.{IsInWindow, region_of, page_table_of}
 use Rattle.sb_pagewalk.specs.TableSet.{page_entry, page_walked, set_walked, walked_in, no_pages, Maps}
 use Rattle.sb_pagewalk.specs.Standing.{AreFrames, HasTables}
 use Rattle.sb_pagewalk.specs.Building.{IsLinked}
-use Rattle.sb_pagewalk.proofs.Windows.{page_table_small, page_table_lowest}
+use Rattle.sb_pagewalk.proofs.Regions.{page_table_small, page_table_lowest}
 use Rattle.sb_pagewalk.proofs.Standing.{same_page, stands_maps}
 use Rattle.sb_pagewalk.proofs.OnePage.{set_walked_same}
 use Rattle.sb_pagewalk.proofs.Linking.{linked_all}

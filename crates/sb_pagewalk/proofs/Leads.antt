@@ -13,7 +13,7 @@ use Rattle.sb_walks.specs.Entry.{frame_in, index_at, four_levels}
 use Rattle.sb_walks.specs.Guest.{is_canonical, entry_judged, walk_step, walk_levels, address_in, walked}
 use Rattle.sb_pagewalk.specs.declared.table_set.TableSet.{TableSet}
 use Rattle.sb_pagewalk.specs.Windows.{IsInWindow, region_of, page_table_of, next_table}
-use Rattle.sb_pagewalk.proofs.Windows.{next_table_small}
+use Rattle.sb_pagewalk.proofs.Regions.{next_table_small}
 use Rattle.sb_pagewalk.specs.TableSet.{table_frame, place_in, page_place, entry_to, cr3_of, set_walked}
 
 -- what is read at the places of a set: upper entries as they were built, and these lowest ones, by the number of the page

@@ -1,4 +1,4 @@
-pub mod Windows
+pub mod Regions
 pub mod Leads
 pub mod Standing
 pub mod OnePage
@@ -7,3 +7,4 @@ pub mod Clearing
 pub mod Linking
 pub mod Empty
 pub mod TestSet
+pub mod Untouched

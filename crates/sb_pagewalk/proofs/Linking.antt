@@ -15,7 +15,7 @@ use Rattle.sb_pagewalk.specs.Windows.{next_table}
 use Rattle.sb_pagewalk.specs.TableSet.{set_frames, table_frame, place_in, entry_to}
 use Rattle.sb_pagewalk.specs.Standing.{AreFrames, HasTables}
 use Rattle.sb_pagewalk.specs.Building.{parent_of, slot_of, among_first, IsCleared, IsLinked}
-use Rattle.sb_pagewalk.proofs.Windows.{next_table_small}
+use Rattle.sb_pagewalk.proofs.Regions.{next_table_small}
 use Rattle.sb_pagewalk.proofs.Standing.{place_inside, places_apart}
 use Rattle.sb_pagewalk.proofs.Building.{entered, entered_once}
 use Rattle.sb_pagewalk.proofs.Clearing.{frames_stay, table_among}

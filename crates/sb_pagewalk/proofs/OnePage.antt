@@ -16,7 +16,7 @@ use Rattle.sb_pagewalk.specs.declared.table_set.TableSet.{TableSet}
 use Rattle.sb_pagewalk.specs.Windows.{IsInWindow, region_of, page_table_of}
 use Rattle.sb_pagewalk.specs.TableSet.{table_frame, place_in, page_place, page_entry, page_walked, set_walked, walked_in}
 use Rattle.sb_pagewalk.specs.Standing.{HasTables}
-use Rattle.sb_pagewalk.proofs.Windows.{page_table_small, page_table_lowest, page_tables_differ, windows_are_low}
+use Rattle.sb_pagewalk.proofs.Regions.{page_table_small, page_table_lowest, page_tables_differ, windows_are_low}
 use Rattle.sb_pagewalk.proofs.Standing.{place_inside, places_apart, same_page, stands_maps}
 
 -- ---- what a set answers by its lowest entries

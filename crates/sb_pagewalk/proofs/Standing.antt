@@ -8,7 +8,7 @@ use Rattle.sb_pagewalk.specs.Direct.{direct_entry}
 use Rattle.sb_pagewalk.specs.Windows.{region_of, page_table_of}
 use Rattle.sb_pagewalk.specs.TableSet.{place_in, page_place, page_entry, Maps}
 use Rattle.sb_pagewalk.specs.Standing.{AreFrames, HasTables}
-use Rattle.sb_pagewalk.proofs.Windows.{page_table_small}
+use Rattle.sb_pagewalk.proofs.Regions.{page_table_small}
 use Rattle.sb_pagewalk.proofs.Leads.{Leads, leads_walk}
 
 -- an entry of a set lies in the memory

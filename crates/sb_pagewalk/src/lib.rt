@@ -13,11 +13,14 @@
 
 mod direct;
 mod entry;
+mod law;
 mod step;
 mod table_set;
 mod tables;
+mod windows;
 
 pub use direct::Direct;
+pub use law::sets_keep_apart;
 pub use sb_walks::{TableStop, WalkStop};
 pub use step::walk;
 pub use table_set::TableSet;

@@ -6,15 +6,19 @@ ghost use Rattle.sb_memory.specs.Changes.{SameOutside};
 ghost use Rattle.sb_memory.specs.Reading.{with_bytes};
 ghost use Rattle.sb_memory.specs.Words.{put_word};
 ghost use Rattle.sb_memory.specs.declared.address.Access.{Access};
-ghost use Rattle.sb_pagewalk.specs.Windows.{IsInWindow, page_table_of as page_table_number};
-ghost use Rattle.sb_pagewalk.specs.Building.{IsCleared, IsLinked, parent_of, slot_of};
+ghost use Rattle.sb_pagewalk.specs.Windows.{IsInWindow};
+ghost use Rattle.sb_pagewalk.specs.Building.{IsCleared, IsLinked};
 ghost use Rattle.sb_pagewalk.specs.Standing.{AreFrames, HasTables};
 ghost use Rattle.sb_pagewalk.specs.TableSet.{Maps, entry_to as link_entry, no_pages, page_place as lowest_place, page_walked, place_in, set_frames, table_frame, walked_in};
 
+use crate::windows::{entered_at, page_table_of};
 use sb_memory::{Frame, Linear, Memory, Phys, PhysAddr};
 
-/// The frames of a set of page tables: a root, one page-directory-pointer table, two page directories, and a page table for
-/// each of the eight windows.
+/// The frames of a set of page tables: a root, which is the PML4 table, and eleven tables.
+///
+/// The tables are numbered in this order: 0 the root; 1 the page-directory-pointer table; 2 and 3 the page directories of the
+/// first and the second GiB; 4 to 11 the page tables of the eight windows at 0, 400000, 800000, C00000, 2000000, 3000000,
+/// 4000000 and 70000000.
 #[derive(Clone, Copy, Debug, PartialEq, Eq)]
 pub struct TableSet {
     pub root: Frame,
@@ -23,50 +27,6 @@ pub struct TableSet {
 
 /// Present, writable and user: bits 0 to 2 of an entry.
 const ALL_RIGHTS: u64 = 7;
-
-/// The number of the page table of a 2 MiB region, which is a window.
-#[tactic(auto, using(crate::proofs::Windows::page_table_small), unfolding(crate::specs::Windows::page_table_of))]
-fn page_table_of(region: u64) -> usize
-    requires { page_table_number region ≢ 0 }
-    ensures number { result ≡ page_table_number region }
-    ensures below { result < 12 }
-{
-    match region {
-        0 => 4,
-        2 => 5,
-        4 => 6,
-        6 => 7,
-        16 => 8,
-        24 => 9,
-        32 => 10,
-        _ => 11,
-    }
-}
-
-/// Where a table other than the root is entered: the number of the table above it, and the index there.
-#[tactic(auto, unfolding(crate::specs::Building::parent_of, crate::specs::Building::slot_of))]
-fn entered_at(table: usize) -> (usize, u64)
-    requires not_root { table ≢ 0 }
-    requires number { table < 12 }
-    ensures parent { result.0 ≡ parent_of table }
-    ensures slot { result.1 ≡ slot_of table }
-    ensures upper { result.0 < 4 }
-    ensures within { result.1 < 512 }
-{
-    match table {
-        1 => (0, 0),
-        2 => (1, 0),
-        3 => (1, 1),
-        4 => (2, 0),
-        5 => (2, 2),
-        6 => (2, 4),
-        7 => (2, 6),
-        8 => (2, 16),
-        9 => (2, 24),
-        10 => (2, 32),
-        _ => (3, 384),
-    }
-}
 
 impl TableSet {
     /// Makes the tables in twelve different frames of the memory. No address is translated, and only bytes of these frames

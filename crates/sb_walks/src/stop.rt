@@ -1,4 +1,4 @@
-//! What stops a walk through the guest's page tables.
+//! What stops a walk.
 
 use sb_memory::{EptStop, Frame};
 
@@ -24,4 +24,13 @@ pub enum WalkStop {
     Large { level: u8 },
     /// An entry does not permit this access.
     Denied { level: u8 },
+}
+
+/// Why a linear address has no physical one.
+#[derive(Clone, Copy, Debug, PartialEq, Eq)]
+pub enum NestedStop {
+    /// The walk through the guest's page tables is refused.
+    Walk(WalkStop),
+    /// The EPT refuses the address to which that walk leads.
+    Page(EptStop),
 }

@@ -1,7 +1,7 @@
 -- What is set is the lowest entry for the address; the rest is what that does to a walk.
 use Rattle.std.proofs.Common.{◌/◌, ◌%◌, arith}
 use Rattle.sb_pagewalk.specs.Windows.{region_of, page_table_of}
-use Rattle.sb_pagewalk.proofs.Windows.{page_table_small}
+use Rattle.sb_pagewalk.proofs.Regions.{page_table_small}
 use Rattle.sb_pagewalk.proofs.Standing.{word_place}
 use Rattle.sb_pagewalk.proofs.OnePage.{one_page_set}
 use Rattle.sb_pagewalk.proofs.table_set.TableSet.set_page.Goals as goal
