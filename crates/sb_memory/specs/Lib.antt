@@ -1,1 +1,7 @@
 pub mod Outcome
+pub mod Physical
+pub mod Words
+pub mod Reading
+pub mod Changes
+pub mod Accounts
+pub mod TestMemory

@@ -1,0 +1,10 @@
+pub mod Regions
+pub mod Leads
+pub mod Standing
+pub mod OnePage
+pub mod Building
+pub mod Clearing
+pub mod Linking
+pub mod Empty
+pub mod TestSet
+pub mod Untouched

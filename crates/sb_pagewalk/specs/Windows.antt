@@ -1,0 +1,32 @@
+-- The windows of a process: the 2 MiB regions of its address space that have a page table.
+use Rattle.std.specs.Prelude.{ℕ, ◌≢◌, ◌+◌, ◌/◌, ◌^◌, ◌==◌, if◌then◌else◌}
+
+-- the number of the 2 MiB region of an address
+abbrev pub region_of : ℕ → ℕ
+region_of address = address / 2 ^ 21
+
+-- the number of the page table of a region, by the window that it is; 0 where it is none
+unfoldable pub page_table_of : ℕ → ℕ
+page_table_of region =
+    if region == region_of 0x0 then 4
+    else if region == region_of 0x400000 then 5
+    else if region == region_of 0x800000 then 6
+    else if region == region_of 0xC00000 then 7
+    else if region == region_of 0x2000000 then 8
+    else if region == region_of 0x3000000 then 9
+    else if region == region_of 0x4000000 then 10
+    else if region == region_of 0x70000000 then 11
+    else 0
+
+-- an address in a window
+abbrev pub IsInWindow : ℕ → Type 0
+IsInWindow address = page_table_of (region_of address) ≢ 0
+
+-- the number of the table to which an entry of a table above the lowest level leads; 0 where it leads nowhere. Table 0 is the
+-- PML4 table, 1 the page-directory-pointer table, 2 and 3 are the page directories of the first and the second GiB.
+unfoldable pub next_table : ℕ → ℕ → ℕ
+next_table table index =
+    if table == 0 then (if index == 0 then 1 else 0)
+    else if table == 1 then (if index == 0 then 2 else if index == 1 then 3 else 0)
+    else if table == 2 then page_table_of index
+    else page_table_of (512 + index)
