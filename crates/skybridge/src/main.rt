@@ -22,6 +22,7 @@ mod words;
 pub use replay::{Refusal, report_of};
 use sb_port::{ReadSource, WriteSink};
 use std::alloc::{AllocError, Global};
+use std::io::ErrorKind;
 use std::process::ExitCode;
 use std::rt::Env;
 use std::{env, io};
@@ -36,10 +37,20 @@ fn command_words(alloc: Global, rt: &(impl Env + AllocGlobal)) -> io::Result<Vec
     Ok(words)
 }
 
-fn main(rt: HostRuntime) -> io::Result<ExitCode> {
-    let words = command_words(rt.alloc(), &rt)?;
+/// The words, where words that are not UTF-8 are none at all: these are no command either.
+fn words_or_none(alloc: Global, rt: &(impl Env + AllocGlobal)) -> io::Result<Vec<String>> {
+    match command_words(alloc, rt) {
+        Err(error) if error.kind() == ErrorKind::InvalidData => Ok(Vec::new(alloc)),
+        words => words,
+    }
+}
+
+fn main(rt: HostRuntime) -> ExitCode {
+    let Ok(words) = words_or_none(rt.alloc(), &rt) else {
+        return ExitCode::from(Status::NoMemory as u8);
+    };
     let mut source = ReadSource::new(rt.reader());
     let mut sink = WriteSink::new(io::writer(&rt));
     let status = bridge(rt.alloc(), &words, &mut source, &mut sink);
-    Ok(ExitCode::from(status as u8))
+    ExitCode::from(status as u8)
 }
