@@ -139,8 +139,16 @@ fn refuses_the_first_thing_that_is_wrong_in_a_text(rt: HostRuntime) -> Result<()
         ),
         ("a jump to the text's end", &[0xEB, 0x00], Some(0x40_0000)),
         ("a jump to itself", &[0xEB, 0xFE], None),
-        ("a jump into an instruction", &[0xEB, 0x01, 0x31, 0xC0], Some(0x40_0000)),
-        ("a jump to 70000040, in the trampoline page", &[0xE9, 0x3B, 0x00, 0xC0, 0x6F], None),
+        (
+            "a jump into an instruction",
+            &[0xEB, 0x01, 0x31, 0xC0],
+            Some(0x40_0000),
+        ),
+        (
+            "a jump to 70000040, in the trampoline page",
+            &[0xE9, 0x3B, 0x00, 0xC0, 0x6F],
+            None,
+        ),
     ];
     for (name, text, at) in rows {
         let expected = match at {

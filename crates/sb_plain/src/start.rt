@@ -1,6 +1,6 @@
 //! The plain machine at its start: its pages and its threads.
 
-ghost use Rattle.std.specs.Prelude.{◌≡◌, ◌≢◌, ◌+◌, ◌*◌, ◌^◌, ◌<◌, ◌≤◌, ◌++◌, IfOk, OnOk, [], ◌∷◌, false, length, take, map};
+ghost use Rattle.std.specs.Prelude.{◌≡◌, ◌+◌, ◌*◌, ◌^◌, ◌<◌, ◌≤◌, ◌++◌, IfOk, OnOk, [], ◌∷◌, false, length, take, map};
 ghost use Rattle.sb_trace.specs.Start.{page_count as page_count_of, filled, page_of, zeros as zeros_of, text_pages, data_pages, heap_pages, process_pages, thread_pages, images_pages, threads_pages, start_registers as registers_at_start, start_threads as threads_at_start};
 ghost use Rattle.sb_plain.specs.Start.{image_of, entry_of, AllFit, start_of, first_state};
 ghost use Rattle.sb_bundle.specs.Limits.{IsBundle};
@@ -120,7 +120,12 @@ fn push_heap(alloc: Global, pages: &mut Pages, process: u32, count: u32) -> Resu
 }
 
 #[tactic(auto, unfolding(sb_trace::specs::Start::process_pages))]
-fn push_process(alloc: Global, pages: &mut Pages, process: u32, image: &Image) -> Result<(), AllocError>
+fn push_process(
+    alloc: Global,
+    pages: &mut Pages,
+    process: u32,
+    image: &Image,
+) -> Result<(), AllocError>
     requires text { length image.now.text < 2 ^ 32 }
     requires initial { length image.now.initial < 2 ^ 32 }
     ensures { OnOk result (pages.new ≡ pages.old ++ process_pages process (image_of image.now)) }
@@ -163,7 +168,11 @@ fn push_threads(alloc: Global, pages: &mut Pages, cores: &[CoreStart]) -> Result
 }
 
 /// The pages at the start: those of each process, and then those of each thread.
-pub fn start_pages(alloc: Global, images: &[Image], cores: &[CoreStart]) -> Result<Pages, AllocError>
+pub fn start_pages(
+    alloc: Global,
+    images: &[Image],
+    cores: &[CoreStart],
+) -> Result<Pages, AllocError>
     requires images { length images.now < 2 ^ 32 }
     requires fit { AllFit images.now }
     requires cores { length cores.now < 2 ^ 32 }

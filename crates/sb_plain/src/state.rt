@@ -1,6 +1,6 @@
 //! The state of the plain machine.
 
-ghost use Rattle.std.specs.Prelude.{◌≡◌, ◌<◌, ◌^◌, length};
+ghost use Rattle.std.specs.Prelude.{◌<◌, ◌^◌, length};
 
 use crate::pages::Pages;
 use sb_trace::Thread;

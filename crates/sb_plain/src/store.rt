@@ -1,6 +1,6 @@
 //! Numbers written to the memory of a thread in a view.
 
-ghost use Rattle.std.specs.Prelude.{◌≡◌, ◌≤◌, ℕ, Ok, Err, OnOk, OnErr, IfErr, length};
+ghost use Rattle.std.specs.Prelude.{◌≡◌, ◌≤◌, Ok, Err, OnOk, IfErr, length};
 ghost use Rattle.sb_memory.specs.declared.address.Access.TheVariants.{Write};
 ghost use Rattle.sb_exec.specs.Access.{bytes_from, byte_for, store_answer, where_stored};
 ghost use Rattle.sb_trace.specs.PlainMemory.{plain_byte, plain_stored, put_all};

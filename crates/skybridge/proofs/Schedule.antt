@@ -21,5 +21,5 @@ pub threads_enough : (bundle : Bundle) (state : State) (schedule : List ℕ) →
     → AllBelow (length bundle.cores) bundle.schedule → AllBelow (length state.threads) schedule
 threads_enough bundle state schedule starts is all =
     let counts : length state.threads ≡ length bundle.cores =
-        ap (λ (value : State). length value.threads) starts ∙ count_threads 0 (map entry_of bundle.cores) ∙ length-map bundle.cores entry_of in
+    ap (λ (value : State). length value.threads) starts ∙ count_threads 0 (map entry_of bundle.cores) ∙ length-map bundle.cores entry_of in
     subst (λ (count : ℕ). AllBelow count schedule) (sym counts) (subst (λ (entries : List ℕ). AllBelow (length bundle.cores) entries) (sym is) all)

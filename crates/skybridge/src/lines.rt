@@ -1,6 +1,6 @@
 //! The lines of the refusals that name a place.
 
-ghost use Rattle.std.specs.Prelude.{◌≡◌, ◌≢◌, IfOk, string_bytes};
+ghost use Rattle.std.specs.Prelude.{◌≡◌, IfOk, string_bytes};
 ghost use Rattle.skybridge.specs.Lines.{bundle_line as line_of_bundle, load_line as line_of_load};
 
 use sb_bundle::BundleRefusal;

@@ -257,7 +257,13 @@ fn a_fault_of_the_sink_leaves_a_front(rt: HostRuntime) -> Result<(), Fail> {
         b"skybridge report 1\n0 step 400000".as_slice()
     );
     // A refusal keeps its status where its line is not written whole.
-    let (status, held) = outcome(alloc, "replay", Vec::new(alloc), Vec::new(alloc), vec![in alloc; 1]?)?;
+    let (status, held) = outcome(
+        alloc,
+        "replay",
+        Vec::new(alloc),
+        Vec::new(alloc),
+        vec![in alloc; 1]?,
+    )?;
     assert_eq!(rt; status, Status::BundleRefused);
     assert_eq!(rt; held.as_slice(), b"".as_slice());
     Ok(())

@@ -3,7 +3,7 @@
 ghost use Rattle.std.specs.Prelude.{◌≡◌, ◌≤◌, ℕ, List, ◌↔◌, ◌⊎◌, MatchResult, string_bytes};
 ghost use Rattle.sb_port.specs.Port.{Rose};
 ghost use Rattle.sb_bundle.specs.declared.bundle.Bundle.{Bundle};
-ghost use Rattle.skybridge.specs.Input.{IsTooLong, IsNoBundle, IsNotLoadable, IsAccepted, SomeNoBundle, SomeNotLoadable, SomeAccepted};
+ghost use Rattle.skybridge.specs.Input.{IsTooLong, SomeNoBundle, SomeNotLoadable, SomeAccepted};
 ghost use Rattle.skybridge.specs.Output.{IsReport, IsTold, WhereTold, Reported, PartlyReported, RefusedBundle, RefusedLoad, WritesLine};
 ghost use Rattle.skybridge.specs.Words.{IsCommand, word_texts};
 ghost use Rattle.skybridge.specs.Lines.{usage_line, read_fault_line, too_long_line};
@@ -137,7 +137,11 @@ pub fn bridge<S: Source, K: Sink>(
             Ok(()) => Status::Done,
             Err(_) => Status::WriteFault,
         },
-        Err(Refusal::Bundle(why)) => refuse_by(sink, bundle_line(alloc, why), Status::BundleRefused),
+        Err(Refusal::Bundle(why)) => refuse_by(
+            sink,
+            bundle_line(alloc, why),
+            Status::BundleRefused,
+        ),
         Err(Refusal::Load(why)) => refuse_by(sink, load_line(alloc, why), Status::LoadRefused),
         Err(Refusal::Memory) => Status::NoMemory,
     }

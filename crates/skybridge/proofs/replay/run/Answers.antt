@@ -1,4 +1,4 @@
-use Rattle.std.proofs.Common.{◌<◌, ℕ, length, refl, rules, ◌∙◌, sym, subst, get_or}
+use Rattle.std.proofs.Common.{◌<◌, ℕ, length, rules, ◌∙◌, sym, subst, get_or}
 use Rattle.sb_trace.proofs.Runs.{run_more}
 use Rattle.sb_trace.specs.State.{State}
 use Rattle.sb_trace.specs.Step.{Steps}

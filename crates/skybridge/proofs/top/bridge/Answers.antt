@@ -31,12 +31,11 @@ returns-in-Err-Load-clause-no_bundle g c command told quiet =
     absurd (unloaded_spelled _ _ _ _ _ _ c.in-Ok.ensures.read c.deref.ensures.value c.in-Err-Load.field-0-is c.in-Err-Load.ensures told)
 
 pub returns-in-Err-Load-clause-load_refused : goal.returns-in-Err-Load-clause-load_refused
-returns-in-Err-Load-clause-load_refused g c refused =
-    (
-      c.in-Err-Load.why,
-      unloaded_told _ _ _ _ _ _ c.in-Ok.ensures.read c.deref.ensures.value c.in-Ok.ensures.within c.in-Err-Load.field-0-is c.in-Err-Load.ensures,
-      line_of_refusal _ _ _ _ _ _ c.load_line.result c.load_line.ensures c.refuse_by-in-Err-Load.ensures.written refused,
-    )
+returns-in-Err-Load-clause-load_refused g c refused = (
+  c.in-Err-Load.why,
+  unloaded_told _ _ _ _ _ _ c.in-Ok.ensures.read c.deref.ensures.value c.in-Ok.ensures.within c.in-Err-Load.field-0-is c.in-Err-Load.ensures,
+  line_of_refusal _ _ _ _ _ _ c.load_line.result c.load_line.ensures c.refuse_by-in-Err-Load.ensures.written refused,
+)
 
 pub returns-in-Err-Load-clause-complete : goal.returns-in-Err-Load-clause-complete
 returns-in-Err-Load-clause-complete g c command told quiet silent =
