@@ -6,6 +6,7 @@ pub record Physical : Type 0 where
   pub bytes : List ℕ
   pub present : List Bool
 
+-- the number of frames
 abbrev pub frame_count : Physical → ℕ
 frame_count memory = length memory.present
 

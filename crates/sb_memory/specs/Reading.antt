@@ -13,12 +13,15 @@ abbrev pub where_present : {A : Type 0} → Physical → ℕ → A → Result A 
 where_present memory place answer =
     if has_frame memory (frame_of place) then Ok answer else Err (missing (frame_of place))
 
+-- what a read of a byte answers
 abbrev pub byte_read : Physical → ℕ → Result ℕ Missing
 byte_read memory place = where_present memory place (slice_index memory.bytes place)
 
+-- what a read of a word answers
 abbrev pub word_read : Physical → ℕ → Result ℕ Missing
 word_read memory place = where_present memory place (word_at memory.bytes place)
 
+-- what a write of a byte or a word answers
 abbrev pub write_answer : Physical → ℕ → Result (Unit {0}) Missing
 write_answer memory place = where_present memory place tt
 

@@ -5,19 +5,23 @@ use Rattle.std.specs.Prelude.{ℕ, ◌+◌, ◌*◌, ◌/◌, ◌%◌, ◌^◌, 
 abbrev pub has_bit : ℕ → ℕ → Bool
 has_bit word bit = word / 2 ^ bit % 2 == 1
 
--- P, R/W, U/S, PS and XD of an entry
+-- P: the entry is in use
 abbrev pub is_present : ℕ → Bool
 is_present entry = has_bit entry 0
 
+-- R/W: writes are permitted
 abbrev pub is_writable : ℕ → Bool
 is_writable entry = has_bit entry 1
 
+-- U/S: user-mode accesses are permitted
 abbrev pub is_user : ℕ → Bool
 is_user entry = has_bit entry 2
 
+-- PS: at levels 3 and 2, the entry maps a large page
 abbrev pub has_page_size : ℕ → Bool
 has_page_size entry = has_bit entry 7
 
+-- XD: fetches are not permitted
 abbrev pub is_execute_disabled : ℕ → Bool
 is_execute_disabled entry = has_bit entry 63
 

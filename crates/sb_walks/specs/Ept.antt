@@ -12,16 +12,19 @@ use Rattle.sb_memory.specs.declared.address.EptStop.TheVariants as stop
 use Rattle.sb_walks.specs.Entry.{has_bit, has_page_size, frame_in, entry_place, four_levels}
 use Rattle.sb_walks.specs.Reads.{where_ok}
 
--- the rights of an entry
+-- reads are permitted
 abbrev pub is_readable : ℕ → Bool
 is_readable entry = has_bit entry 0
 
+-- writes are permitted
 abbrev pub is_writable : ℕ → Bool
 is_writable entry = has_bit entry 1
 
+-- fetches are permitted
 abbrev pub is_executable : ℕ → Bool
 is_executable entry = has_bit entry 2
 
+-- whether an entry permits an access
 abbrev pub ept_permits : Access → ℕ → Bool
 ept_permits Read entry = is_readable entry
 ept_permits Write entry = is_writable entry
