@@ -48,8 +48,8 @@ text_apart image (starts, loadable) (at, refused) =
     (λ wrong.
     ⊎_elim
     (λ undecoded. listed_apart image.text starts at loadable.listed undecoded)
-    (λ astray.
-    loadable.targets at (subst (λ (list : List ℕ). HasBadTargetAt image.text list at) (one_listed image.text astray.0 starts astray.1 loadable.listed) astray.2))
+    (λ bad_target.
+    loadable.targets at (subst (λ (list : List ℕ). HasBadTargetAt image.text list at) (one_listed image.text bad_target.0 starts bad_target.1 loadable.listed) bad_target.2))
     wrong)
     (λ there. loadable.no_pattern there.0 there.1)
     refused.0

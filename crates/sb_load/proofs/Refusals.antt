@@ -3,7 +3,7 @@ use Rattle.std.proofs.Common.{◌≡◌, ◌⊎◌, inl, inr, ℕ, ◌+◌, min,
 use Rattle.std.proofs.lemmas.Bool.{cases_eq}
 use Rattle.sb_rewrite.specs.Listing.{text_address, IsListing, IsUndecodedAt}
 use Rattle.sb_rewrite.proofs.OneListing.{one_listed, one_place, listed_apart}
-use Rattle.sb_load.specs.Text.{HasBadTargetAt, IsAstrayAt, IsPatternAt, IsLeast, IsFirstRefusal, IsLoadableText}
+use Rattle.sb_load.specs.Text.{HasBadTargetAt, IsBadTargetAt, IsPatternAt, IsLeast, IsFirstRefusal, IsLoadableText}
 use Rattle.sb_load.specs.Checks.{lesser}
 
 -- the lesser of the least of two kinds is the least of both
@@ -19,7 +19,7 @@ least_of_two First Second at (Some place) first second = (
 
 -- the text has no listing, or a start of it has a bad target
 IsWrongAt : List ℕ → ℕ → Type 0
-IsWrongAt text at = IsUndecodedAt text at ⊎ IsAstrayAt text at
+IsWrongAt text at = IsUndecodedAt text at ⊎ IsBadTargetAt text at
 
 -- in a text with no listing, one place is wrong
 wrong_undecoded : (text : List ℕ) (at : ℕ) → IsUndecodedAt text at → IsLeast (IsWrongAt text) (Some at)
@@ -27,7 +27,7 @@ unfolding IsWrongAt
 wrong_undecoded text at undecoded = (
   inl undecoded,
   λ other less. λ wrong.
-      ⊎_elim (λ one. omega (arith, one_place text other at one undecoded)) (λ astray. listed_apart text astray.0 at astray.1 undecoded) wrong,
+      ⊎_elim (λ one. omega (arith, one_place text other at one undecoded)) (λ bad_target. listed_apart text bad_target.0 at bad_target.1 undecoded) wrong,
 )
 
 -- in a text with a listing, what is wrong is a bad target
@@ -36,7 +36,7 @@ unfolding IsWrongAt
 wrong_in text starts at listed wrong =
     ⊎_elim
     (λ undecoded. absurd (listed_apart text starts at listed undecoded))
-    (λ astray. subst (λ (list : List ℕ). HasBadTargetAt text list at) (one_listed text astray.0 starts astray.1 listed) astray.2)
+    (λ bad_target. subst (λ (list : List ℕ). HasBadTargetAt text list at) (one_listed text bad_target.0 starts bad_target.1 listed) bad_target.2)
     wrong
 
 wrong_listed : (text starts : List ℕ) (at : ℕ) → IsListing text starts → IsLeast (HasBadTargetAt text starts) (Some at) → IsLeast (IsWrongAt text) (Some at)

@@ -23,8 +23,8 @@ abbrev pub HasBadTargetAt : List ℕ → List ℕ → ℕ → Type 0
 HasBadTargetAt text starts at = Contains starts at × (target : ℕ) × IsTargetAt text at target × ¬ MayLeadTo starts target
 
 -- the text has a listing, and a direct jump or call at this address leads elsewhere
-abbrev pub IsAstrayAt : List ℕ → ℕ → Type 0
-IsAstrayAt text at = (starts : List ℕ) × IsListing text starts × HasBadTargetAt text starts at
+abbrev pub IsBadTargetAt : List ℕ → ℕ → Type 0
+IsBadTargetAt text at = (starts : List ℕ) × IsListing text starts × HasBadTargetAt text starts at
 
 -- the bytes of VMFUNC begin at this address
 abbrev pub IsPatternAt : List ℕ → ℕ → Type 0
@@ -32,7 +32,7 @@ IsPatternAt text at = (place : ℕ) × HasPatternAt text place × (at ≡ text_a
 
 -- the text is refused for what stands at this address
 abbrev pub IsRefusedAt : List ℕ → ℕ → Type 0
-IsRefusedAt text at = (IsUndecodedAt text at ⊎ IsAstrayAt text at) ⊎ IsPatternAt text at
+IsRefusedAt text at = (IsUndecodedAt text at ⊎ IsBadTargetAt text at) ⊎ IsPatternAt text at
 
 -- the least address of which something holds, None where there is none
 abbrev pub IsLeast : (ℕ → Type 0) → Option ℕ → Type 0

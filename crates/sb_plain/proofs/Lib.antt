@@ -1,6 +1,5 @@
 pub mod ByThread
 pub mod Faults
-pub mod Loads
 pub mod Names
 pub mod Places
 pub mod Starting

@@ -26,7 +26,7 @@ pub fn byte(
 }
 
 /// The number of some bytes from an address upwards, its lowest byte first.
-#[tactic(auto, using(crate::proofs::Loads::loaded_none, crate::proofs::Loads::loaded_stop, crate::proofs::Loads::loaded_stop_later, crate::proofs::Loads::loaded_more, crate::proofs::Loads::number_fits, crate::proofs::Loads::number_below))]
+#[tactic(auto, using(sb_exec::proofs::Loads::loaded_none, sb_exec::proofs::Loads::loaded_stop, sb_exec::proofs::Loads::loaded_stop_later, sb_exec::proofs::Loads::loaded_more, sb_exec::proofs::Loads::number_fits, sb_exec::proofs::Loads::number_below))]
 pub fn load(
     state: &Plain,
     thread: u32,

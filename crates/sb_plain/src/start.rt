@@ -99,12 +99,17 @@ fn push_text(alloc: Global, pages: &mut Pages, process: u32, text: &[u8]) -> Res
     Ok(())
 }
 
-fn push_data(alloc: Global, pages: &mut Pages, process: u32, data: &[u8]) -> Result<(), AllocError>
-    requires { length data.now < 2 ^ 32 }
-    ensures { OnOk result (pages.new ≡ pages.old ++ data_pages process data.now) }
+fn push_data(
+    alloc: Global,
+    pages: &mut Pages,
+    process: u32,
+    contents: &[u8],
+) -> Result<(), AllocError>
+    requires { length contents.now < 2 ^ 32 }
+    ensures { OnOk result (pages.new ≡ pages.old ++ data_pages process contents.now) }
 {
-    for page in 0..page_count(data.len()) {
-        let bytes = page_bytes(alloc, 0, data, page)?;
+    for page in 0..page_count(contents.len()) {
+        let bytes = page_bytes(alloc, 0, contents, page)?;
         push_named(pages, PageName::Data(process, page as u32), bytes)?;
     }
     Ok(())

@@ -6,7 +6,7 @@ use Rattle.sb_plain.proofs.start.push_data.Goals as goal
 
 pub loop-page-preserved : goal.loop-page-preserved
 loop-page-preserved c =
-    let below : c.loop-page.page < page_count (length c.args.data.now) = search rules in
-    pages_more (filled_page (Data c.args.process) 0 c.args.data.now) c.loop-page.page (page_count (length c.args.data.now)) c.loop-page.pages _ _ below
+    let below : c.loop-page.page < page_count (length c.args.contents.now) = search rules in
+    pages_more (filled_page (Data c.args.process) 0 c.args.contents.now) c.loop-page.page (page_count (length c.args.contents.now)) c.loop-page.pages _ _ below
     (c.in_ok-push_named.ensures ∙ ap (λ (bytes : List ℕ). c.loop-page.pages ++ named (Data c.args.process c.loop-page.page) bytes ∷ []) c.in_ok-bytes.ensures)
     c.loop-page.invariant

@@ -6,4 +6,4 @@ use Rattle.sb_plain.proofs.start.push_data.Given as goal
 
 abbrev pub invariant-loop-page : goal.invariant-loop-page
 invariant-loop-page l =
-    l.pages ++ pages_from (filled_page (Data l.process) 0 l.data) l.page (page_count (length l.data) - l.page) ≡ l.initial.pages ++ data_pages l.process l.data
+    l.pages ++ pages_from (filled_page (Data l.process) 0 l.contents) l.page (page_count (length l.contents) - l.page) ≡ l.initial.pages ++ data_pages l.process l.contents
