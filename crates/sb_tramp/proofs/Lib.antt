@@ -1,0 +1,4 @@
+pub mod Order
+mod Valid
+mod Bytes
+mod Phases

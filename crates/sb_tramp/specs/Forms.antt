@@ -1,11 +1,9 @@
 -- The forms of the trampoline's instructions: their fields from left to right, as they are encoded.
-use Rattle.std.specs.Prelude.{ℕ, ◌-◌, Bool, true, false, Option, Some, None, ℤ, pos, negsuc}
+use Rattle.std.specs.Prelude.{ℕ, ◌-◌, true, false, Option, Some, None, ℤ, pos, negsuc}
 use Rattle.sb_insn.specs.declared.insn.Insn.{Insn}
 use Rattle.sb_insn.specs.declared.insn.Op.{Op}
-use Rattle.sb_insn.specs.declared.insn.Op.TheVariants.{One, Vmfunc}
-use Rattle.sb_insn.specs.declared.insn.Disp.{Disp}
+use Rattle.sb_insn.specs.declared.insn.Op.TheVariants.{One}
 use Rattle.sb_insn.specs.declared.insn.Disp.TheVariants as disp
-use Rattle.sb_insn.specs.declared.insn.Imm.{Imm}
 use Rattle.sb_insn.specs.declared.insn.Imm.TheVariants as imm
 
 -- the number -count, for a count of 1 and more

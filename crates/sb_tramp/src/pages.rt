@@ -107,6 +107,10 @@ fn put(into: &mut [u8], code: &[u8])
 }
 
 /// A law of the two pages: each row's bytes are its instruction, at its offset.
+#[tactic(
+    auto,
+    using(crate::proofs::Bytes::home_size, crate::proofs::Bytes::server_size)
+)]
 pub fn rows_stand()
     ensures home { EachStands home_rows }
     ensures home_size { HasPageSize home_rows }

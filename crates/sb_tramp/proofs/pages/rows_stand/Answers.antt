@@ -1,0 +1,12 @@
+use Rattle.sb_tramp.proofs.Bytes.{home_stands, server_stands}
+use Rattle.sb_tramp.proofs.Phases.{each_phase_stands}
+use Rattle.sb_tramp.proofs.pages.rows_stand.Goals as goal
+
+pub returns-clause-home : goal.returns-clause-home
+returns-clause-home c = home_stands
+
+pub returns-clause-server : goal.returns-clause-server
+returns-clause-server c = server_stands
+
+pub returns-clause-phases : goal.returns-clause-phases
+returns-clause-phases c = each_phase_stands
