@@ -1,11 +1,11 @@
 -- The bytes that are laid out of the rows.
 use Rattle.std.proofs.Common.{◌≡◌, ℕ, ◌-◌, true, ◌++◌, refl, sym, ap, ◌∙◌}
-use Rattle.sb_tramp.specs.Page.{page_size, filler, page_of, EachStands, HasPageSize}
+use Rattle.sb_tramp.specs.Page.{page_size, filler, page_of, EachStands, FilledElsewhere, HasPageSize}
 use Rattle.sb_tramp.specs.Home.{home_rows}
 use Rattle.sb_tramp.specs.Server.{server_rows}
 use Rattle.sb_tramp.proofs.Order.{in_order, code_from, code_and_filler, each_stands, page_size_of}
+use Rattle.sb_tramp.proofs.Filling.{filled_elsewhere}
 use Rattle.sb_tramp.proofs.Valid.{home_valid, server_valid}
-
 
 pub home_in_order : in_order 0 home_rows ≡ true
 home_in_order = refl
@@ -33,3 +33,9 @@ server_stands = each_stands server_rows server_in_order server_valid
 
 pub server_size : HasPageSize server_rows
 server_size = page_size_of server_rows server_in_order
+
+pub home_filled : FilledElsewhere home_rows
+home_filled = filled_elsewhere home_rows home_in_order
+
+pub server_filled : FilledElsewhere server_rows
+server_filled = filled_elsewhere server_rows server_in_order

@@ -1,4 +1,5 @@
 pub mod Order
+mod Filling
 mod Valid
 mod Bytes
 mod Phases

@@ -21,7 +21,7 @@ and_parts : (a b : Bool) → (a && b) ≡ true → (a ≡ true) × (b ≡ true)
 and_parts true b e = (refl, e)
 and_parts false b e = absurd cc
 
-in_order_parts : (offset : ℕ) (row : Row) (rows : List Row) → in_order offset (row ∷ rows) ≡ true → (offset ≤ row.offset) × (in_order (end_of row) rows ≡ true)
+pub in_order_parts : (offset : ℕ) (row : Row) (rows : List Row) → in_order offset (row ∷ rows) ≡ true → (offset ≤ row.offset) × (in_order (end_of row) rows ≡ true)
 in_order_parts offset row rows e =
     let parts = and_parts (leb offset row.offset) (in_order (end_of row) rows) e in
     (leb-true offset row.offset parts.0, parts.1)
@@ -34,7 +34,7 @@ length_filler count = length-replicate count 0xCC
 past : (gap at : ℕ) (bytes rest : List ℕ) → drop (gap + (length bytes + at)) (filler gap ++ (bytes ++ rest)) ≡ drop at rest
 past gap at bytes rest =
     subst (λ (n : ℕ). drop (n + (length bytes + at)) (filler gap ++ (bytes ++ rest)) ≡ drop (length bytes + at) (bytes ++ rest)) (length_filler gap)
-        (drop-append-add (filler gap) (bytes ++ rest) (length bytes + at))
+    (drop-append-add (filler gap) (bytes ++ rest) (length bytes + at))
     ∙ drop-append-add bytes rest at
 
 at_seam : (gap : ℕ) (bytes : List ℕ) → drop gap (filler gap ++ bytes) ≡ bytes
@@ -63,7 +63,7 @@ placed_first offset row rows e valid =
       stands = at_seam (row.offset - offset) (spelling row.insn ++ page_from (end_of row) rows);
       behind = parts.0;
       inside = ends_inside (end_of row) rows parts.1;
-      valid = valid
+      valid = valid;
     }
 
 placed_later : (offset : ℕ) (first row : Row) (rest : List ℕ) → offset ≤ first.offset → Placed (end_of first) rest row → Placed offset (filler (first.offset - offset) ++ (spelling first.insn ++ rest)) row
@@ -74,7 +74,7 @@ placed_later offset first row rest e placed =
       stands = ap (λ (n : ℕ). drop n (filler (first.offset - offset) ++ (spelling first.insn ++ rest))) far ∙ (past (first.offset - offset) (row.offset - end_of first) (spelling first.insn) rest ∙ placed.stands);
       behind = omega (arith, e, placed.behind);
       inside = placed.inside;
-      valid = placed.valid
+      valid = placed.valid;
     }
 
 placed : (rows : List Row) (offset k : ℕ) (row : Row) → in_order offset rows ≡ true → EachValid rows → k < length rows → slice_index_or rows k row ≡ row → Placed offset (page_from offset rows) row
@@ -89,7 +89,7 @@ pub each_stands : (rows : List Row) → in_order 0 rows ≡ true → EachValid r
 unfolding page_of
 each_stands rows e valid row found =
     let at = placed rows 0 found.0 row e valid found.1 found.2 in
-    record { begins = (at.valid, (at.rest, subst (λ (n : ℕ). drop n (page_from 0 rows) ≡ spelling row.insn ++ at.rest) (omega arith) at.stands)); inside = at.inside }
+    record { decodes = ((at.valid, (at.rest, subst (λ (n : ℕ). drop n (page_from 0 rows) ≡ spelling row.insn ++ at.rest) (omega arith) at.stands)), refl); inside = at.inside }
 
 -- ---- the last filler, apart
 

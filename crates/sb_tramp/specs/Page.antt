@@ -1,9 +1,9 @@
 -- A page of instructions: each stands at its offset, and every other byte is CC.
-use Rattle.std.specs.Prelude.{◌≡◌, ℕ, ◌+◌, ◌-◌, ◌≤◌, List, [], ◌∷◌, ◌++◌, length, drop, replicate}
+use Rattle.std.specs.Prelude.{◌≡◌, ℕ, ◌+◌, ◌-◌, ◌<◌, ◌≤◌, List, [], ◌∷◌, ◌++◌, length, drop, get_or, replicate, Ok}
 use Rattle.std.specs.List.{Contains}
 use Rattle.sb_insn.specs.declared.insn.Insn.{Insn}
 use Rattle.sb_insn.specs.Spelling.{spelling}
-use Rattle.sb_insn.specs.Grammar.{BeginsWith}
+use Rattle.sb_decode.specs.Decode.{Decodes}
 
 -- bytes in a page
 abbrev pub page_size : ℕ
@@ -37,14 +37,23 @@ page_of rows = page_from 0 rows
 
 -- ---- what is said of the two pages
 
--- the bytes of the page at the row's offset begin with the row's instruction, which ends inside the page
+-- the bytes of the page at the row's offset decode to the row's instruction, which ends inside the page
 pub record StandsIn (page : List ℕ) (row : Row) : Type 0 where
-  pub begins : BeginsWith (drop row.offset page) row.insn
+  pub decodes : Decodes (drop row.offset page) (Ok (row.insn, length (spelling row.insn)))
   pub inside : end_of row ≤ page_size
 
 -- each row stands in the page
 abbrev pub EachStands : List Row → Type 0
 EachStands rows = (row : Row) → Contains rows row → StandsIn (page_of rows) row
+
+-- the offset is one of the row's bytes
+abbrev pub Covers : Row → ℕ → Type 0
+Covers row offset = (row.offset ≤ offset) × (offset < end_of row)
+
+-- each byte that belongs to no row is CC
+abbrev pub FilledElsewhere : List Row → Type 0
+FilledElsewhere rows =
+    (offset : ℕ) → offset < page_size → ((row : Row) → Contains rows row → ¬ Covers row offset) → get_or (page_of rows) offset 0 ≡ 0xCC
 
 -- the page has the size of a page
 abbrev pub HasPageSize : List Row → Type 0

@@ -1,7 +1,7 @@
 //! The bytes of the two trampoline pages.
 
 ghost use Rattle.std.specs.Prelude.{◌≡◌, ◌≤◌, ◌-◌, ◌++◌, length};
-ghost use Rattle.sb_tramp.specs.Page.{page_size, filler, EachStands, HasPageSize};
+ghost use Rattle.sb_tramp.specs.Page.{page_size, filler, EachStands, FilledElsewhere, HasPageSize};
 ghost use Rattle.sb_tramp.specs.Home.{home_rows, home_page};
 ghost use Rattle.sb_tramp.specs.Server.{server_rows, server_page};
 ghost use Rattle.sb_tramp.specs.Landing.{EachPhaseStands};
@@ -106,15 +106,14 @@ fn put(into: &mut [u8], code: &[u8])
     rest.fill(FILLER);
 }
 
-/// A law of the two pages: each row's bytes are its instruction, at its offset.
-#[tactic(
-    auto,
-    using(crate::proofs::Bytes::home_size, crate::proofs::Bytes::server_size)
-)]
+/// A law of the two pages: at its offset each instruction is decoded, whatever stands behind it, and all other bytes are CC.
+#[tactic(auto, using(crate::proofs::Bytes::home_size, crate::proofs::Bytes::server_size))]
 pub fn rows_stand()
     ensures home { EachStands home_rows }
+    ensures home_filler { FilledElsewhere home_rows }
     ensures home_size { HasPageSize home_rows }
     ensures server { EachStands server_rows }
+    ensures server_filler { FilledElsewhere server_rows }
     ensures server_size { HasPageSize server_rows }
     ensures phases { EachPhaseStands }
 {}

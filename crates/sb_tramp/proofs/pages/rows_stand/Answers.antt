@@ -1,4 +1,4 @@
-use Rattle.sb_tramp.proofs.Bytes.{home_stands, server_stands}
+use Rattle.sb_tramp.proofs.Bytes.{home_stands, home_filled, server_stands, server_filled}
 use Rattle.sb_tramp.proofs.Phases.{each_phase_stands}
 use Rattle.sb_tramp.proofs.pages.rows_stand.Goals as goal
 
@@ -10,3 +10,9 @@ returns-clause-server c = server_stands
 
 pub returns-clause-phases : goal.returns-clause-phases
 returns-clause-phases c = each_phase_stands
+
+pub returns-clause-home_filler : goal.returns-clause-home_filler
+returns-clause-home_filler c = home_filled
+
+pub returns-clause-server_filler : goal.returns-clause-server_filler
+returns-clause-server_filler c = server_filled
