@@ -93,7 +93,8 @@ fn each_phase_decodes_with_its_length(rt: HostRuntime) -> Result<(), Fail> {
     put_server(&mut page);
     for phase in 0u8..25 {
         let LandingRow { offset, length } = landing_row(phase).expect(&rt, "a phase");
-        let (insn, decoded) = decode(&page[offset as usize..])?;
+        let bytes = page.get(offset as usize..).expect(&rt, "within the page");
+        let (insn, decoded) = decode(bytes)?;
         assert!(rt; insn.is_valid());
         assert_eq!(rt; decoded, length as usize, "{phase}");
     }
