@@ -8,7 +8,7 @@ use Rattle.sb_insn.specs.Spelling.{spelling}
 use Rattle.sb_tramp.specs.Page.{Row, end_of, page_size, filler, page_from, page_of, Covers, FilledElsewhere}
 use Rattle.sb_tramp.proofs.Order.{in_order, in_order_parts, length_filler}
 
-in_filler : (count index : ℕ) → index < count → get_or (filler count) index 0 ≡ 0xCC
+pub in_filler : (count index : ℕ) → index < count → get_or (filler count) index 0 ≡ 0xCC
 unfolding filler
 in_filler count index within = get_or-replicate count index 0xCC 0 within
 

@@ -3,3 +3,4 @@ mod Filling
 mod Valid
 mod Bytes
 mod Phases
+mod Switches

@@ -17,7 +17,7 @@ abbrev pub EachValid : List Row → Type 0
 EachValid [] = Unit {0}
 EachValid (row ∷ rows) = IsValid row.insn × EachValid rows
 
-and_parts : (a b : Bool) → (a && b) ≡ true → (a ≡ true) × (b ≡ true)
+pub and_parts : (a b : Bool) → (a && b) ≡ true → (a ≡ true) × (b ≡ true)
 and_parts true b e = (refl, e)
 and_parts false b e = absurd cc
 

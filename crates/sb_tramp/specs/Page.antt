@@ -4,6 +4,7 @@ use Rattle.std.specs.List.{Contains}
 use Rattle.sb_insn.specs.declared.insn.Insn.{Insn}
 use Rattle.sb_insn.specs.Spelling.{spelling}
 use Rattle.sb_decode.specs.Decode.{Decodes}
+use Rattle.sb_scan.specs.Pattern.{HasPatternAt}
 
 -- bytes in a page
 abbrev pub page_size : ℕ
@@ -58,3 +59,7 @@ FilledElsewhere rows =
 -- the page has the size of a page
 abbrev pub HasPageSize : List Row → Type 0
 HasPageSize rows = length (page_of rows) ≡ page_size
+
+-- the bytes of VMFUNC stand in the page at offset 40, and nowhere else
+abbrev pub SwitchesAlone : List ℕ → Type 0
+SwitchesAlone page = HasPatternAt page 0x40 × ((place : ℕ) → HasPatternAt page place → place ≡ 0x40)

@@ -1,7 +1,7 @@
 //! The bytes of the two trampoline pages.
 
 ghost use Rattle.std.specs.Prelude.{◌≡◌, ◌≤◌, ◌-◌, ◌++◌, length};
-ghost use Rattle.sb_tramp.specs.Page.{page_size, filler, EachStands, FilledElsewhere, HasPageSize};
+ghost use Rattle.sb_tramp.specs.Page.{page_size, filler, EachStands, FilledElsewhere, HasPageSize, SwitchesAlone};
 ghost use Rattle.sb_tramp.specs.Home.{home_rows, home_page};
 ghost use Rattle.sb_tramp.specs.Server.{server_rows, server_page};
 ghost use Rattle.sb_tramp.specs.Landing.{EachPhaseStands};
@@ -106,7 +106,10 @@ fn put(into: &mut [u8], code: &[u8])
     rest.fill(FILLER);
 }
 
-/// A law of the two pages: at its offset each instruction is decoded, whatever stands behind it, and all other bytes are CC.
+/// A law of the two pages.
+///
+/// At its offset each row's instruction is decoded, whatever stands behind it; all other bytes are CC; and the bytes of
+/// VMFUNC stand at offset 40 alone.
 #[tactic(auto, using(crate::proofs::Bytes::home_size, crate::proofs::Bytes::server_size))]
 pub fn rows_stand()
     ensures home { EachStands home_rows }
@@ -115,5 +118,7 @@ pub fn rows_stand()
     ensures server { EachStands server_rows }
     ensures server_filler { FilledElsewhere server_rows }
     ensures server_size { HasPageSize server_rows }
+    ensures home_switch { SwitchesAlone home_page }
+    ensures server_switch { SwitchesAlone server_page }
     ensures phases { EachPhaseStands }
 {}
