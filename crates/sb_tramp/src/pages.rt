@@ -108,8 +108,8 @@ fn put(into: &mut [u8], code: &[u8])
 
 /// A law of the two pages.
 ///
-/// At its offset each row's instruction is decoded, whatever stands behind it; all other bytes are CC; and the bytes of
-/// VMFUNC stand at offset 40 alone.
+/// Decoding at a row's offset gives the row's instruction; all other bytes are CC; and the bytes of VMFUNC stand at
+/// offset 40 alone.
 #[tactic(auto, using(crate::proofs::Bytes::home_size, crate::proofs::Bytes::server_size))]
 pub fn rows_stand()
     ensures home { EachStands home_rows }
