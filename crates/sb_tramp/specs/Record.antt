@@ -1,0 +1,7 @@
+-- The record page of a view: six words, and zeros behind them.
+use Rattle.std.specs.Prelude.{ℕ, List, [], ◌∷◌}
+use Rattle.sb_tramp.specs.declared.record_words.RecordWords.{RecordWords}
+
+-- the words at 0, 8, 10, 18, 20 and 28 of the page
+abbrev pub words_of : RecordWords → List ℕ
+words_of words = words.key ∷ words.base ∷ words.handler ∷ words.thread ∷ words.save ∷ words.home ∷ []
