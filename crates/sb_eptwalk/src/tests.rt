@@ -31,10 +31,11 @@ fn put(memory: &mut Memory, place: u64, word: u64) {
 /// Puts the four entries for the address.
 fn put_entries(memory: &mut Memory, entries: [u64; 4]) {
     let [fourth, third, second, first] = entries;
-    put(memory, 0x1008, fourth);
-    put(memory, 0x2010, third);
-    put(memory, 0x3018, second);
-    put(memory, 0x4020, first);
+    let [at_fourth, at_third, at_second, at_first] = PLACES;
+    put(memory, at_fourth, fourth);
+    put(memory, at_third, third);
+    put(memory, at_second, second);
+    put(memory, at_first, first);
 }
 
 /// The answer of a walk, if the word is an EPT pointer to a table in the memory.
@@ -106,7 +107,11 @@ fn judges_the_address(rt: HostRuntime) {
         ),
     ];
     for (shows, at, answer) in rows {
-        assert_eq!(rt; walk_from(&mut memory, EPTP, at, Access::Read), Some(answer), "{shows}");
+        assert_eq!(rt;
+            walk_from(&mut memory, EPTP, at, Access::Read),
+            Some(answer),
+            "{shows}"
+        );
     }
 }
 
@@ -238,7 +243,11 @@ fn the_first_refusal_is_the_answer(rt: HostRuntime) {
     ];
     for (shows, entries, access, answer) in rows {
         put_entries(&mut memory, entries);
-        assert_eq!(rt; walk_from(&mut memory, EPTP, AT, access), Some(answer), "{shows}");
+        assert_eq!(rt;
+            walk_from(&mut memory, EPTP, AT, access),
+            Some(answer),
+            "{shows}"
+        );
     }
 }
 
@@ -265,15 +274,131 @@ fn note(places: &mut [u64; 8], count: &mut usize, place: u64)
     }
 }
 
-impl Sparse<'_> {
-    /// Notes a call, which is refused if the frame of its place is the missing one.
-    fn refuse(&mut self, at: PhysAddr) -> Result<(), Missing> {
+impl Phys for Sparse<'_> {
+    ghost use Rattle.std.specs.Prelude.{ℕ, List, take};
+    ghost use Rattle.sb_memory.specs.TestMemory.{noted, without_frame};
+
+    ghost Account = { List ℕ };
+
+    ghost Kept = { ℕ × ℕ };
+
+    ghost meaning = { λ sparse. without_frame sparse.memory.now sparse.missing };
+
+    ghost account = { λ sparse. take sparse.count sparse.places };
+
+    ghost kept = { λ sparse. (sparse.memory.ghost_name, sparse.missing) };
+
+    ghost rule = { noted };
+
+    fn frames(&self) -> u32 {
+        self.memory.frames()
+    }
+
+    fn read_byte(&mut self, at: PhysAddr) -> Result<u8, Missing> {
         note(&mut self.places, &mut self.count, at.0);
         if at.0 / 4096 == u64::from(self.missing) {
             return Err(Missing {
                 frame: Frame(self.missing),
             });
         }
-        Ok(())
+        self.memory.read_byte(at)
+    }
+
+    fn read_word(&mut self, at: PhysAddr) -> Result<u64, Missing> {
+        note(&mut self.places, &mut self.count, at.0);
+        if at.0 / 4096 == u64::from(self.missing) {
+            return Err(Missing {
+                frame: Frame(self.missing),
+            });
+        }
+        self.memory.read_word(at)
+    }
+
+    fn write_byte(&mut self, at: PhysAddr, value: u8) -> Result<(), Missing> {
+        note(&mut self.places, &mut self.count, at.0);
+        if at.0 / 4096 == u64::from(self.missing) {
+            return Err(Missing {
+                frame: Frame(self.missing),
+            });
+        }
+        self.memory.write_byte(at, value)
+    }
+
+    fn write_word(&mut self, at: PhysAddr, value: u64) -> Result<(), Missing> {
+        note(&mut self.places, &mut self.count, at.0);
+        if at.0 / 4096 == u64::from(self.missing) {
+            return Err(Missing {
+                frame: Frame(self.missing),
+            });
+        }
+        self.memory.write_word(at, value)
+    }
+}
+
+/// The answer of a walk for the address in a memory that misses a frame, and the places of the entries that it read.
+fn walk_without(
+    memory: &mut Memory,
+    missing: u32,
+) -> (Option<Result<PhysAddr, EptStop>>, [u64; 8]) {
+    let mut sparse = Sparse {
+        memory,
+        missing,
+        places: [0; 8],
+        count: 0,
+    };
+    let answer = walk_from(&mut sparse, EPTP, AT, Access::Read);
+    (answer, sparse.places)
+}
+
+#[test]
+fn reads_no_entry_past_a_refusal(rt: HostRuntime) {
+    let mut memory = some_memory(rt.alloc(), 8).expect(&rt, "memory");
+    put_entries(&mut memory, [0x2007, 0x3007, 0x4007, 0x5037]);
+    let [fourth, third, second, first] = PLACES;
+    let missing = |frame| Some(Err(EptStop::Missing(Frame(frame))));
+    let rows = [
+        (
+            "no table is missing",
+            6,
+            Some(Ok(PhysAddr(0x5123))),
+            [fourth, third, second, first, 0, 0, 0, 0],
+        ),
+        (
+            "the page itself is not read",
+            5,
+            Some(Ok(PhysAddr(0x5123))),
+            [fourth, third, second, first, 0, 0, 0, 0],
+        ),
+        (
+            "the table of level 1",
+            4,
+            missing(4),
+            [fourth, third, second, first, 0, 0, 0, 0],
+        ),
+        (
+            "the table of level 2",
+            3,
+            missing(3),
+            [fourth, third, second, 0, 0, 0, 0, 0],
+        ),
+        (
+            "the table of level 3",
+            2,
+            missing(2),
+            [fourth, third, 0, 0, 0, 0, 0, 0],
+        ),
+        (
+            "the table of level 4",
+            1,
+            missing(1),
+            [fourth, 0, 0, 0, 0, 0, 0, 0],
+        ),
+    ];
+    for (shows, frame, answer, places) in rows {
+        assert_eq!(rt;
+            walk_without(&mut memory, frame),
+            (answer, places),
+            "{shows}"
+        );
     }
 }
