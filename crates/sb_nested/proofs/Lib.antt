@@ -1,2 +1,7 @@
 pub mod Entries
 pub mod Count
+pub mod Loads
+pub mod Stores
+pub mod Writing
+pub mod Page
+pub mod WholeWord

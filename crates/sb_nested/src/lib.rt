@@ -4,8 +4,9 @@
 //! through the EPT, and so does the address to which the guest's walk leads.
 //!
 //! Inside: `translate`, which is exactly the nested walk of the definitions in `sb_walks` over any physical memory, and says by
-//! the memory's account which words it reads, in which order, at most 24. Not inside: large pages, accessed and dirty flags,
-//! and caches of translations.
+//! the memory's account which words it reads, in which order, at most 24; and `NestedBus`, through which instructions fetch,
+//! load and store by that walk, with the account of each call. Not inside: large pages, accessed and dirty flags, and caches
+//! of translations.
 //!
 //! ```text
 //! // CR3 is 10000, which the EPT puts at frame 8, and both walks permit the access
@@ -13,10 +14,15 @@
 //! ```
 #![tactic(auto)]
 
+mod bus;
 mod law;
+mod look;
 mod nested;
+mod store;
 mod tables;
+mod whole;
 
+pub use bus::NestedBus;
 pub use law::at_most_24_words;
 pub use nested::translate;
 pub use sb_walks::NestedStop;
