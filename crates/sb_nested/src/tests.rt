@@ -1,10 +1,11 @@
-//! Walks through two trees of tables that stand in one memory.
+//! Walks, and a bus, through two trees of tables that stand in one memory.
 
-ghost use Rattle.std.specs.Prelude.{◌≡◌, ◌<◌, ◌≤◌, take};
+ghost use Rattle.std.specs.Prelude.{◌≡◌, ◌<◌, ◌≤◌, ◌==◌, ◌||◌, take};
 ghost use Rattle.sb_memory.specs.TestMemory.{noted_place};
 
-use crate::{NestedStop, translate};
+use crate::{NestedBus, NestedStop, translate};
 use sb_eptwalk::is_eptp;
+use sb_exec::{Bus, BusStop, FaultKind};
 use sb_memory::{Access, EptStop, Frame, Linear, Memory, Missing, Phys, PhysAddr};
 use sb_walks::{TableStop, WalkStop};
 use std::alloc::{AllocError, Global};
@@ -360,6 +361,168 @@ fn reads_each_entry_through_the_ept(rt: HostRuntime) {
         assert_eq!(rt;
             walk_without(&mut memory, frame),
             (Some(answer), places),
+            "{shows}"
+        );
+    }
+}
+
+/// A call of a bus, for tables of rows.
+#[derive(Clone, Copy)]
+enum Call {
+    Fetch,
+    Load(u8),
+    LoadForWrite(u8),
+    Store(u8, u64),
+}
+
+/// The number that a call gives, 0 for a store, if the size is one of a bus.
+fn make_call<B: Bus>(bus: &mut B, at: u64, call: Call) -> Option<Result<u64, BusStop>> {
+    let at = Linear(at);
+    match call {
+        Call::Fetch => Some(match bus.fetch(at) {
+            Ok(byte) => Ok(u64::from(byte)),
+            Err(stop) => Err(stop),
+        }),
+        Call::Load(size) if is_size(size) => Some(bus.load(at, size)),
+        Call::LoadForWrite(size) if is_size(size) => Some(bus.load_for_write(at, size)),
+        Call::Store(size, value) if is_size(size) => Some(match bus.store(at, size, value) {
+            Ok(()) => Ok(0),
+            Err(stop) => Err(stop),
+        }),
+        _ => None,
+    }
+}
+
+/// Whether an access may have so many bytes.
+fn is_size(size: u8) -> bool
+    ensures { result ≡ (size == 1) || (size == 4) || (size == 8) }
+{
+    size == 1 || size == 4 || size == 8
+}
+
+/// A call through both trees.
+fn call_on<P: Phys>(phys: &mut P, at: u64, what: Call) -> Option<Result<u64, BusStop>> {
+    if !is_eptp(EPTP) || phys.frames() < 2 {
+        return None;
+    }
+    make_call(&mut NestedBus::new(phys, EPTP, CR3), at, what)
+}
+
+#[test]
+fn instructions_see_memory_through_both_walks(rt: HostRuntime) {
+    let mut memory = some_memory(rt.alloc(), 16).expect(&rt, "memory");
+    put_trees(&mut memory);
+    let fault = |at| Err(BusStop::Fault(FaultKind::Memory, Linear(at)));
+    let rows = [
+        (
+            "a whole word",
+            0x80_8060_4120,
+            Call::Store(8, 0x8877_6655_4433_2211),
+            Ok(0),
+        ),
+        ("its third byte", 0x80_8060_4122, Call::Load(1), Ok(0x33)),
+        ("four bytes in it", AT, Call::Load(4), Ok(0x7766_5544)),
+        ("a byte to run", AT, Call::Fetch, Ok(0x44)),
+        (
+            "eight bytes of two words",
+            0x80_8060_4124,
+            Call::Store(8, 0x0102_0304_0506_0708),
+            Ok(0),
+        ),
+        (
+            "the first word now",
+            0x80_8060_4120,
+            Call::LoadForWrite(8),
+            Ok(0x0506_0708_4433_2211),
+        ),
+        (
+            "the second word now",
+            0x80_8060_4128,
+            Call::Load(8),
+            Ok(0x0102_0304),
+        ),
+        (
+            "a store over the end of the page",
+            0x80_8060_4FFD,
+            Call::Store(4, 7),
+            fault(0x80_8060_5000),
+        ),
+        (
+            "nothing of it is written",
+            0x80_8060_4FFD,
+            Call::Load(1),
+            Ok(0),
+        ),
+        (
+            "a whole word where no page is",
+            0x80_8060_5000,
+            Call::Store(8, 7),
+            fault(0x80_8060_5000),
+        ),
+        (
+            "not canonical",
+            0x8000_0000_0000,
+            Call::Load(8),
+            Err(BusStop::Fault(FaultKind::Canon, Linear(0x8000_0000_0000))),
+        ),
+    ];
+    for (shows, at, what, answer) in rows {
+        assert_eq!(rt; call_on(&mut memory, at, what), Some(answer), "{shows}");
+    }
+}
+
+/// The answer of a call in a memory that misses a frame.
+fn call_without(
+    memory: &mut Memory,
+    missing: u32,
+    at: u64,
+    what: Call,
+) -> Option<Result<u64, BusStop>> {
+    let mut sparse = Sparse {
+        memory,
+        missing,
+        places: [0; 8],
+        count: 0,
+    };
+    call_on(&mut sparse, at, what)
+}
+
+#[test]
+fn a_missing_frame_is_no_fault(rt: HostRuntime) {
+    let mut memory = some_memory(rt.alloc(), 16).expect(&rt, "memory");
+    put_trees(&mut memory);
+    let gone = |frame| Err(BusStop::Missing(Frame(frame)));
+    let rows = [
+        ("the page, a load", 12, AT, Call::Load(8), gone(12)),
+        ("the page, a fetch", 12, AT, Call::Fetch, gone(12)),
+        (
+            "the page, a whole word",
+            12,
+            0x80_8060_4120,
+            Call::Store(8, 7),
+            gone(12),
+        ),
+        (
+            "the page, eight bytes of two words",
+            12,
+            0x80_8060_4124,
+            Call::Store(8, 7),
+            gone(12),
+        ),
+        ("a table of the guest", 9, AT, Call::Store(1, 7), gone(9)),
+        ("a table of the EPT", 3, AT, Call::Store(4, 7), gone(3)),
+        (
+            "another frame",
+            15,
+            0x80_8060_4120,
+            Call::Store(8, 7),
+            Ok(0),
+        ),
+    ];
+    for (shows, frame, at, what, answer) in rows {
+        assert_eq!(rt;
+            call_without(&mut memory, frame, at, what),
+            Some(answer),
             "{shows}"
         );
     }
