@@ -5,3 +5,4 @@ pub mod Stores
 pub mod Writing
 pub mod Page
 pub mod WholeWord
+pub mod OneByOne

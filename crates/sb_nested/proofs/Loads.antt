@@ -61,31 +61,31 @@ unfolding calls_from
 calls_none calls answer at size e = rw e refl
 
 -- the lowest byte stops
-pub account_stop : {A Account : Type 0} (rule : PhysCall → Physical → Account → Account) (m : Physical) (calls : ℕ → List PhysCall) (answer : ℕ → Result A BusStop) (at size : ℕ) (stop : BusStop) (a : Account)
-    → 0 < size → answer at ≡ Err stop → after_reads rule m (calls_from calls answer at size) a ≡ after_reads rule m (calls at) a
+pub account_stop : {A Account : Type 0} (rule : PhysCall → Physical → Account → Account) (memory : Physical) (calls : ℕ → List PhysCall) (answer : ℕ → Result A BusStop) (at size : ℕ) (stop : BusStop) (account : Account)
+    → 0 < size → answer at ≡ Err stop → after_reads rule memory (calls_from calls answer at size) account ≡ after_reads rule memory (calls at) account
 unfolding calls_from
-account_stop rule m calls answer at zero stop a h e = absurd (omega arith)
-account_stop rule m calls answer at (suc n) stop a h e = rw (e, append-nil) refl
+account_stop rule memory calls answer at zero stop account h e = absurd (omega arith)
+account_stop rule memory calls answer at (suc n) stop account h e = rw (e, append-nil) refl
 
 -- there are further bytes
-pub account_more : {A Account : Type 0} (rule : PhysCall → Physical → Account → Account) (m : Physical) (calls : ℕ → List PhysCall) (answer : ℕ → Result A BusStop) (at size n : ℕ) (b : A) (a : Account)
+pub account_more : {A Account : Type 0} (rule : PhysCall → Physical → Account → Account) (memory : Physical) (calls : ℕ → List PhysCall) (answer : ℕ → Result A BusStop) (at size n : ℕ) (b : A) (account : Account)
     → size ≡ n + 1 → answer at ≡ Ok b
-    → after_reads rule m (calls_from calls answer at size) a ≡ after_reads rule m (calls_from calls answer ((at + 1) % 2 ^ 64) n) (after_reads rule m (calls at) a)
+    → after_reads rule memory (calls_from calls answer at size) account ≡ after_reads rule memory (calls_from calls answer ((at + 1) % 2 ^ 64) n) (after_reads rule memory (calls at) account)
 unfolding calls_from
-account_more rule m calls answer at zero n b a s e = absurd (omega arith)
-account_more rule m calls answer at (suc k) n b a s e = let same : k ≡ n = omega arith in rw (e, same, after_reads_append) refl
+account_more rule memory calls answer at zero n b account s e = absurd (omega arith)
+account_more rule memory calls answer at (suc k) n b account s e = let same : k ≡ n = omega arith in rw (e, same, after_reads_append) refl
 
 -- the same of loads
-pub load_calls_none : (v : View) (access : Access) (at size : ℕ) → size ≡ 0 → load_calls v access at size ≡ []
+pub load_calls_none : (core : View) (access : Access) (at size : ℕ) → size ≡ 0 → load_calls core access at size ≡ []
 unfolding load_calls
-load_calls_none v access at size e = calls_none _ _ at size e
+load_calls_none core access at size e = calls_none _ _ at size e
 
-pub load_account_stop : {Account : Type 0} (rule : PhysCall → Physical → Account → Account) (v : View) (access : Access) (at size : ℕ) (stop : BusStop) (a : Account) → 0 < size → view_byte v at access ≡ Err stop
-    → after_reads rule v.physical (load_calls v access at size) a ≡ after_reads rule v.physical (byte_calls v access at) a
+pub load_account_stop : {Account : Type 0} (rule : PhysCall → Physical → Account → Account) (core : View) (access : Access) (at size : ℕ) (stop : BusStop) (account : Account) → 0 < size → view_byte core at access ≡ Err stop
+    → after_reads rule core.physical (load_calls core access at size) account ≡ after_reads rule core.physical (byte_calls core access at) account
 unfolding load_calls
-load_account_stop rule v access at size stop a h e = account_stop rule v.physical _ _ at size stop a h e
+load_account_stop rule core access at size stop account h e = account_stop rule core.physical _ _ at size stop account h e
 
-pub load_account_more : {Account : Type 0} (rule : PhysCall → Physical → Account → Account) (v : View) (access : Access) (at size n b : ℕ) (a : Account) → size ≡ n + 1 → view_byte v at access ≡ Ok b
-    → after_reads rule v.physical (load_calls v access at size) a ≡ after_reads rule v.physical (load_calls v access ((at + 1) % 2 ^ 64) n) (after_reads rule v.physical (byte_calls v access at) a)
+pub load_account_more : {Account : Type 0} (rule : PhysCall → Physical → Account → Account) (core : View) (access : Access) (at size n b : ℕ) (account : Account) → size ≡ n + 1 → view_byte core at access ≡ Ok b
+    → after_reads rule core.physical (load_calls core access at size) account ≡ after_reads rule core.physical (load_calls core access ((at + 1) % 2 ^ 64) n) (after_reads rule core.physical (byte_calls core access at) account)
 unfolding load_calls
-load_account_more rule v access at size n b a s e = account_more rule v.physical _ _ at size n b a s e
+load_account_more rule core access at size n b account s e = account_more rule core.physical _ _ at size n b account s e

@@ -7,22 +7,22 @@ use Rattle.sb_memory.specs.Reading.{byte_written, word_written}
 use Rattle.sb_memory.specs.declared.address.PhysAddr.{PhysAddr}
 use Rattle.sb_nested.specs.Store.{AllHeld}
 
-present-where : (b : Bool) (m n : Physical) → n.present ≡ m.present → (cond b n m).present ≡ m.present
-present-where true m n e = e
-present-where false m n e = refl
+present-where : (b : Bool) (memory n : Physical) → n.present ≡ memory.present → (cond b n memory).present ≡ memory.present
+present-where true memory n e = e
+present-where false memory n e = refl
 
-held_by : (m n : Physical) (places : List PhysAddr) → n.present ≡ m.present → AllHeld m places → AllHeld n places
-held_by m n [] e h = tt
-held_by m n (place ∷ places) e h = ((rw e h.0.0, rw e h.0.1), held_by m n places e h.1)
+held_by : (memory n : Physical) (places : List PhysAddr) → n.present ≡ memory.present → AllHeld memory places → AllHeld n places
+held_by memory n [] e h = tt
+held_by memory n (place ∷ places) e h = ((rw e h.0.0, rw e h.0.1), held_by memory n places e h.1)
 
-pub held_after : (m : Physical) (at byte : ℕ) (places : List PhysAddr) → AllHeld m places → AllHeld (byte_written m at byte) places
-held_after m at byte places h = held_by m (byte_written m at byte) places (present-where (has_frame m (frame_of at)) m _ refl) h
+pub held_after : (memory : Physical) (at byte : ℕ) (places : List PhysAddr) → AllHeld memory places → AllHeld (byte_written memory at byte) places
+held_after memory at byte places h = held_by memory (byte_written memory at byte) places (present-where (has_frame memory (frame_of at)) memory _ refl) h
 
-pub frames_after : (m : Physical) (at byte : ℕ) → length (byte_written m at byte).present ≡ length m.present
-frames_after m at byte = ap length (present-where (has_frame m (frame_of at)) m _ refl)
+pub frames_after : (memory : Physical) (at byte : ℕ) → length (byte_written memory at byte).present ≡ length memory.present
+frames_after memory at byte = ap length (present-where (has_frame memory (frame_of at)) memory _ refl)
 
-pub frames_after_word : (m : Physical) (at word : ℕ) → length (word_written m at word).present ≡ length m.present
-frames_after_word m at word = ap length (present-where (has_frame m (frame_of at)) m _ refl)
+pub frames_after_word : (memory : Physical) (at word : ℕ) → length (word_written memory at word).present ≡ length memory.present
+frames_after_word memory at word = ap length (present-where (has_frame memory (frame_of at)) memory _ refl)
 
 -- no place
 pub places_none : {B : Type 0} (place : ℕ → Result B BusStop) (at : ℕ) (xs : List B) → length xs ≡ 0 → bytes_from place at (length xs) ≡ Ok xs

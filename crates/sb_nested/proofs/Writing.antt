@@ -17,17 +17,17 @@ twice (Ok a) = refl
 twice (Err e) = refl
 
 -- where the walk for writing leads, the byte is the one that is read
-behind : (m : Physical) (at : ℕ) (w r : Result PhysAddr NestedStop) → ((p : PhysAddr) → w ≡ Ok p → r ≡ Ok p) → and_then (byte_behind m at w) (λ _. byte_behind m at r) ≡ byte_behind m at w
-behind m at (Ok p) r h = rw (h p refl) (twice (byte_behind m at (Ok p)))
-behind m at (Err stop) r h = refl
+behind : (memory : Physical) (at : ℕ) (w r : Result PhysAddr NestedStop) → ((p : PhysAddr) → w ≡ Ok p → r ≡ Ok p) → and_then (byte_behind memory at w) (λ _. byte_behind memory at r) ≡ byte_behind memory at w
+behind memory at (Ok p) r h = rw (h p refl) (twice (byte_behind memory at (Ok p)))
+behind memory at (Err stop) r h = refl
 
-same_byte : (v : View) (at : ℕ) → byte_for_write (view_byte v) at ≡ byte_for (view_byte v) Write at
+same_byte : (core : View) (at : ℕ) → byte_for_write (view_byte core) at ≡ byte_for (view_byte core) Write at
 unfolding view_byte place_of
-same_byte v at = behind v.physical at (place_of v Write at) (place_of v Read at) (λ p. translated-read (mapped v.physical v.eptp) v.cr3 at p)
+same_byte core at = behind core.physical at (place_of core Write at) (place_of core Read at) (λ p. translated-read (mapped core.physical core.eptp) core.cr3 at p)
 
-pub loaded_for_write : (v : View) (at size : ℕ) → loaded_from (byte_for_write (view_byte v)) at size ≡ loaded_from (byte_for (view_byte v) Write) at size
-loaded_for_write v at size =
-    let same : byte_for_write (view_byte v) ≡ byte_for (view_byte v) Write = λ i a. same_byte v a i in
+pub loaded_for_write : (core : View) (at size : ℕ) → loaded_from (byte_for_write (view_byte core)) at size ≡ loaded_from (byte_for (view_byte core) Write) at size
+loaded_for_write core at size =
+    let same : byte_for_write (view_byte core) ≡ byte_for (view_byte core) Write = λ i a. same_byte core a i in
     ap (λ (byte : ℕ → Result ℕ BusStop). loaded_from byte at size) same
 
 -- the answer of a store is whether each byte leads somewhere
@@ -43,13 +43,13 @@ where_read : (b : Result ℕ BusStop) (p : PhysAddr) (xs : Result (List ℕ) Bus
 where_read (Ok b) p xs ys e = rest b p xs ys e
 where_read (Err stop) p xs ys e = refl
 
-where_led : (m : Physical) (at : ℕ) (r : Result PhysAddr NestedStop) (xs : Result (List ℕ) BusStop) (ys : Result (List PhysAddr) BusStop) → done xs ≡ done ys
-    → done (and_then (byte_behind m at r) (λ b. and_then xs (λ bs. Ok (b ∷ bs)))) ≡ done (and_then (where_there (byte_behind m at r) (place_answer at r)) (λ p. and_then ys (λ ps. Ok (p ∷ ps))))
-where_led m at (Ok p) xs ys e = where_read (byte_behind m at (Ok p)) p xs ys e
-where_led m at (Err stop) xs ys e = refl
+where_led : (memory : Physical) (at : ℕ) (r : Result PhysAddr NestedStop) (xs : Result (List ℕ) BusStop) (ys : Result (List PhysAddr) BusStop) → done xs ≡ done ys
+    → done (and_then (byte_behind memory at r) (λ b. and_then xs (λ bs. Ok (b ∷ bs)))) ≡ done (and_then (where_there (byte_behind memory at r) (place_answer at r)) (λ p. and_then ys (λ ps. Ok (p ∷ ps))))
+where_led memory at (Ok p) xs ys e = where_read (byte_behind memory at (Ok p)) p xs ys e
+where_led memory at (Err stop) xs ys e = refl
 
-pub store_answered : (v : View) (at size : ℕ) → store_answer (byte_for (view_byte v) Write) at size ≡ done (bytes_from (store_place v) at size)
+pub store_answered : (core : View) (at size : ℕ) → store_answer (byte_for (view_byte core) Write) at size ≡ done (bytes_from (store_place core) at size)
 unfolding store_answer bytes_from store_place view_byte
-store_answered v at zero = refl
-store_answered v at (suc n) =
-    where_led v.physical at (place_of v Write at) _ _ (store_answered v ((at + 1) % 2 ^ 64) n)
+store_answered core at zero = refl
+store_answered core at (suc n) =
+    where_led core.physical at (place_of core Write at) _ _ (store_answered core ((at + 1) % 2 ^ 64) n)

@@ -23,7 +23,7 @@ mod tables;
 mod whole;
 
 pub use bus::NestedBus;
-pub use law::at_most_24_words;
+pub use law::{at_most_24_words, whole_words_are_bytes};
 pub use nested::translate;
 pub use sb_walks::NestedStop;
 
