@@ -1,0 +1,68 @@
+//! The walk over four levels.
+
+ghost use Rattle.std.specs.Prelude.{◌≡◌, ◌<◌, ◌≤◌, ◌*◌, ◌%◌, ◌^◌, IfOk, IsTrue};
+ghost use Rattle.sb_memory.specs.Physical.{frame_count};
+ghost use Rattle.sb_memory.specs.Accounts.{ReadWord, after_words};
+ghost use Rattle.sb_walks.specs.Entry.{entry_place, frame_in};
+ghost use Rattle.sb_walks.specs.Ept.{ept_step, ept_walk_reads, ept_walked, is_eptp};
+
+use crate::entry::{frame_number, index, judge};
+use sb_memory::{Access, EptStop, GuestPhys, Phys, PhysAddr};
+
+/// One level: from the frame of a table to the frame to which the entry for the address leads.
+#[tactic(auto, unfolding(sb_walks::specs::Ept::ept_step))]
+fn step<P: Phys>(
+    phys: &mut P,
+    at: u64,
+    access: Access,
+    level: u8,
+    frame: u64,
+) -> Result<u64, EptStop>
+    requires level { level ≤ 4 }
+    requires inside { frame < frame_count (P.meaning phys.old) }
+    ensures answer { result ≡ ept_step (P.meaning phys.old) at access level frame }
+    ensures inside { IfOk result (λ next. next < frame_count (P.meaning phys.old)) }
+    ensures range { IfOk result (λ next. next < 2 ^ 32) }
+    ensures same { P.meaning phys.new ≡ P.meaning phys.old }
+    ensures account { P.account phys.new ≡ P.rule (ReadWord (entry_place frame level at)) (P.meaning phys.old) (P.account phys.old) }
+    ensures kept { P.kept phys.new ≡ P.kept phys.old }
+{
+    let frames = phys.frames();
+    let place = 4096 * frame + 8 * index(level, at);
+    match phys.read_word(PhysAddr(place)) {
+        Ok(entry) => judge(frames, access, level, entry),
+        Err(gap) => Err(EptStop::Missing(gap.frame)),
+    }
+}
+
+/// The physical address of a guest-physical one for an access, from the table to which an EPT pointer leads.
+///
+/// `TooWide` comes exactly where the address has more than 48 bits. Then, at each level from 4 to 1, the first that applies
+/// of: `Missing`, the memory does not have the frame of the table; `NotPresent`, the entry permits nothing; `Misconfigured`,
+/// write without read, or at level 1 another memory type than 6; `Large`, at level 3 or 2; `Outside`, the next frame lies past
+/// the end of memory; `Denied`, the entry does not permit the access.
+#[tactic(auto, unfolding(sb_walks::specs::Ept::ept_walked, sb_walks::specs::Ept::ept_walk_reads))]
+pub fn ept_walk<P: Phys>(
+    phys: &mut P,
+    eptp: u64,
+    at: GuestPhys,
+    access: Access,
+) -> Result<PhysAddr, EptStop>
+    requires eptp { IsTrue (is_eptp eptp) }
+    requires root { frame_in eptp < frame_count (P.meaning phys.old) }
+    ensures answer { result ≡ ept_walked (P.meaning phys.old) eptp at.0 access }
+    ensures inside { IfOk result (λ place. place.0 < 4096 * frame_count (P.meaning phys.old)) }
+    ensures offset { IfOk result (λ place. place.0 % 4096 ≡ at.0 % 4096) }
+    ensures same { P.meaning phys.new ≡ P.meaning phys.old }
+    ensures account { P.account phys.new ≡ after_words P.rule (P.meaning phys.old) (ept_walk_reads (P.meaning phys.old) eptp at.0 access) (P.account phys.old) }
+    ensures kept { P.kept phys.new ≡ P.kept phys.old }
+{
+    if at.0 >> 48 != 0 {
+        return Err(EptStop::TooWide);
+    }
+    let directory_pointers = step(phys, at.0, access, 4, frame_number(eptp))?;
+    let directory = step(phys, at.0, access, 3, directory_pointers)?;
+    let table = step(phys, at.0, access, 2, directory)?;
+    let page = step(phys, at.0, access, 1, table)?;
+    Ok(PhysAddr(4096 * page + (at.0 & 0xFFF)))
+}
