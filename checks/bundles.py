@@ -30,9 +30,11 @@ def little(number: int, size: int) -> bytes:
     return (number % (1 << 8 * size)).to_bytes(size, "little")
 
 
-def bundle(processes: List[Tuple[bytes, bytes]], cores: List[Tuple[int, int]], schedule: bytes) -> bytes:
+def bundle(
+    processes: List[Tuple[bytes, bytes]], cores: List[Tuple[int, int]], schedule: bytes, frames: int = FRAMES
+) -> bytes:
     """A bundle of processes, each a text and initial data, and of cores, each a process and an entry."""
-    counts = (len(cores), 1), (len(processes), 1), (FRAMES, 4), (0, 4), (len(schedule), 4)
+    counts = (len(cores), 1), (len(processes), 1), (frames, 4), (0, 4), (len(schedule), 4)
     parts = [b"SKYB", little(1, 2)] + [little(count, size) for count, size in counts]
     for text, data in processes:
         parts += [little(len(text), 4), little(len(data), 4), little(0, 4), text, data]
@@ -41,9 +43,9 @@ def bundle(processes: List[Tuple[bytes, bytes]], cores: List[Tuple[int, int]], s
     return b"".join(parts + [schedule])
 
 
-def replay(bundle_bytes: bytes) -> Tuple[int, List[str]]:
-    """The status of `replay` on the bundle, and the lines that it writes."""
-    done = subprocess.run([PROGRAM, "replay"], input=bundle_bytes, stdout=subprocess.PIPE)
+def replay(bundle_bytes: bytes, word: str = "replay") -> Tuple[int, List[str]]:
+    """The status of `replay`, or of another command, on the bundle, and the lines that it writes."""
+    done = subprocess.run([PROGRAM, word], input=bundle_bytes, stdout=subprocess.PIPE)
     return done.returncode, done.stdout.decode().splitlines()
 
 
