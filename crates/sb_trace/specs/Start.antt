@@ -1,17 +1,25 @@
 -- The state of the plain machine at its start (docs/FORMATS.md, "The start").
-use Rattle.std.specs.Prelude.{ℕ, zero, suc, ◌+◌, ◌-◌, ◌*◌, ◌/◌, false, List, [], ◌∷◌, ◌++◌, length, take, drop, replicate, slice_set}
-use Rattle.sb_insn.specs.declared.registers.Flags.{Flags}
+use Rattle.std.specs.Prelude.{ℕ, zero, suc, ◌+◌, ◌-◌, ◌*◌, ◌/◌, false, List, [], ◌∷◌, ◌++◌, length, take, drop, map, replicate, slice_set, None}
 use Rattle.sb_insn.specs.declared.registers.Regs.{Regs}
 use Rattle.sb_trace.specs.declared.end.EndKind.TheVariants.{Running}
 use Rattle.sb_trace.specs.declared.page.PageName.{PageName}
-use Rattle.sb_trace.specs.declared.page.PageName.TheVariants.{Text, Data, Heap, Save, Stack}
+use Rattle.sb_trace.specs.declared.page.PageName.TheVariants.{Text, Area, Data, Heap, Pool, Save, Stack, Record, Scratch, HomeTrampoline, ServerTrampoline}
 use Rattle.sb_trace.specs.declared.page.Page.{Page}
 use Rattle.sb_trace.specs.declared.state.Thread.{Thread}
-use Rattle.sb_trace.specs.State.{State}
+use Rattle.sb_tramp.specs.declared.record_words.RecordWords.{RecordWords}
+use Rattle.sb_tramp.specs.Record.{words_of}
+use Rattle.sb_tramp.specs.Home.{home_page}
+use Rattle.sb_tramp.specs.Server.{server_page}
+use Rattle.sb_trace.specs.State.{State, Process}
+use Rattle.sb_trace.specs.PageWords.{zeros, words_put}
+use Rattle.sb_trace.specs.Registers.{no_flags}
 
--- what a process is made of: its text, its initial data, and its number of heap pages
+-- what a process is made of: its rewritten text and its rewrite area, the starts of its text's instructions, its initial
+-- data, and its number of heap pages
 pub record ProcessImage : Type 0 where
   pub text : List ℕ
+  pub area : List ℕ
+  pub starts : List ℕ
   pub initial : List ℕ
   pub heap_pages : ℕ
 
@@ -37,9 +45,6 @@ page_of filler bytes page = filled filler (take 4096 (drop (4096 * page) bytes))
 abbrev pub named : PageName → List ℕ → Page
 named name bytes = record { name = name; executable = false; bytes = bytes }
 
-unfoldable pub zeros : List ℕ
-zeros = replicate 4096 0
-
 -- the pages from a first number on, so many
 abbrev pub pages_from : (ℕ → Page) → ℕ → ℕ → List Page
 pages_from page first zero = []
@@ -49,13 +54,9 @@ pages_from page first (suc count) = page first ∷ pages_from page (first + 1) c
 abbrev pub filled_page : (ℕ → PageName) → ℕ → List ℕ → ℕ → Page
 filled_page name filler bytes page = named (name page) (page_of filler bytes page)
 
--- text, whose last page is filled up with CC
-abbrev pub text_pages : ℕ → List ℕ → List Page
-text_pages process text = pages_from (filled_page (Text process) 0xCC text) 0 (page_count (length text))
-
--- initial data, whose last page is filled up with 0
-abbrev pub data_pages : ℕ → List ℕ → List Page
-data_pages process initial = pages_from (filled_page (Data process) 0 initial) 0 (page_count (length initial))
+-- bytes in pages of this name, of which the last is filled up
+abbrev pub filled_pages : (ℕ → PageName) → ℕ → List ℕ → List Page
+filled_pages name filler bytes = pages_from (filled_page name filler bytes) 0 (page_count (length bytes))
 
 -- a page of the heap, in write mode
 abbrev pub heap_page : ℕ → ℕ → Page
@@ -64,14 +65,34 @@ heap_page process page = named (Heap process page) zeros
 abbrev pub heap_pages : ℕ → ℕ → List Page
 heap_pages process count = pages_from (heap_page process) 0 count
 
+-- text and rewrite area, filled up with CC; initial data, filled up with 0; heap, and a pool page
 unfoldable pub process_pages : ℕ → ProcessImage → List Page
 process_pages process image =
-    text_pages process image.text ++ (data_pages process image.initial ++ heap_pages process image.heap_pages)
+    filled_pages (Text process) 0xCC image.text
+    ++ (filled_pages (Area process) 0xCC image.area
+    ++ (filled_pages (Data process) 0 image.initial ++ (heap_pages process image.heap_pages ++ named (Pool process) zeros ∷ [])))
 
--- a save page and four stack pages
-unfoldable pub thread_pages : ℕ → List Page
-thread_pages thread =
-    named (Save thread) zeros ∷ named (Stack thread 0) zeros ∷ named (Stack thread 1) zeros ∷ named (Stack thread 2) zeros ∷ named (Stack thread 3) zeros ∷ []
+-- where the save page of a thread is
+abbrev pub save_address : ℕ → ℕ
+save_address thread = 0x3000000 + thread * 0x8000
+
+-- what the record page of a home view says
+abbrev pub home_words : ℕ → ℕ → RecordWords
+home_words thread home = record { key = 0; base = 0; handler = 0; thread = thread; save = save_address thread; home = home }
+
+-- a record page: its words, and zeros behind them
+unfoldable pub record_bytes : RecordWords → List ℕ
+record_bytes words = words_put zeros 0 (words_of words)
+
+-- a save page, four stack pages, and the record and the scratch page of the home view
+unfoldable pub thread_pages : ℕ → ℕ → List Page
+thread_pages thread home =
+    named (Save thread) zeros ∷ named (Stack thread 0) zeros ∷ named (Stack thread 1) zeros ∷ named (Stack thread 2) zeros ∷ named (Stack thread 3) zeros
+    ∷ named (Record thread 0) (record_bytes (home_words thread home)) ∷ named (Scratch thread 0) zeros ∷ []
+
+-- the two pages of the trampoline, which all views share
+unfoldable pub trampoline_pages : List Page
+trampoline_pages = named HomeTrampoline home_page ∷ named ServerTrampoline server_page ∷ []
 
 -- the pages of processes in order, of which the first has this number
 abbrev pub images_pages : ℕ → List ProcessImage → List Page
@@ -80,12 +101,9 @@ images_pages process (image ∷ images) = process_pages process image ++ images_
 
 abbrev pub threads_pages : ℕ → List ThreadEntry → List Page
 threads_pages thread [] = []
-threads_pages thread (entry ∷ entries) = thread_pages thread ++ threads_pages (thread + 1) entries
+threads_pages thread (entry ∷ entries) = thread_pages thread entry.home ++ threads_pages (thread + 1) entries
 
 -- ---- threads
-
-abbrev pub no_flags : Flags
-no_flags = record { cf = false; pf = false; zf = false; sf = false; of = false }
 
 -- RSP is the end of the thread's stack, RDI its number, all else is 0
 unfoldable pub start_registers : ℕ → ℕ → Regs
@@ -110,10 +128,16 @@ start_threads thread (entry ∷ entries) = start_thread thread entry ∷ start_t
 
 -- ---- the state
 
+-- a process that is no server yet
+abbrev pub start_process : ProcessImage → Process
+start_process image = record { starts = image.starts; heap_pages = image.heap_pages; registration = None }
+
 abbrev pub start_state : List ProcessImage → List ThreadEntry → ℕ → List ℕ → State
 start_state images entries free keys = record {
-  pages = images_pages 0 images ++ threads_pages 0 entries;
+  pages = images_pages 0 images ++ (threads_pages 0 entries ++ trampoline_pages);
+  processes = map start_process images;
   threads = start_threads 0 entries;
+  flights = replicate (length entries) None;
   free = free;
   keys = keys;
 }

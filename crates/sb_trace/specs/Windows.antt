@@ -1,5 +1,5 @@
 -- Which page a thread sees at each linear address (docs/FORMATS.md, "The memory of a thread").
-use Rattle.std.specs.Prelude.{ℕ, ◌+◌, ◌-◌, ◌/◌, ◌%◌, ◌==◌, ◌&&◌, ◌||◌, Bool, false, nat_lt, nat_le, List, [], ◌∷◌, Option, Some, None, slice_get, if◌then◌else◌}
+use Rattle.std.specs.Prelude.{ℕ, ◌+◌, ◌-◌, ◌/◌, ◌%◌, ◌==◌, ◌&&◌, ◌||◌, Bool, false, nat_lt, nat_le, List, [], ◌∷◌, Option, Some, None, slice_get, unwrap_or, if◌then◌else◌}
 use Rattle.std.specs.Option.{option_map, option_and_then}
 use Rattle.sb_trace.specs.declared.page.PageName.{PageName}
 use Rattle.sb_trace.specs.declared.page.PageName.TheVariants.{Text, Area, Data, Heap, Pool, ServerStack, Save, Stack, Buffer, Record, Scratch, HomeTrampoline, ServerTrampoline}
@@ -20,6 +20,10 @@ server_of (binding ∷ bindings) index = if binding.index == index then Some bin
 -- view 0 shows a thread's home, each other view the server of that binding
 abbrev pub shown_by : ℕ → Thread → Option ℕ
 shown_by view thread = if view == 0 then Some thread.home else server_of thread.bindings view
+
+-- the process that a thread's present view shows: each view of a thread is its home or a binding
+abbrev pub present_of : Thread → ℕ
+present_of thread = unwrap_or (shown_by thread.view thread) thread.home
 
 unfoldable pub shown : List Thread → ℕ → ℕ → Option ℕ
 shown threads thread view = option_and_then (shown_by view) (slice_get threads thread)

@@ -1,6 +1,6 @@
 pub mod Order
 mod Filling
 mod Valid
-mod Bytes
+pub mod Bytes
 mod Phases
-mod Switches
+pub mod Switches

@@ -1,0 +1,22 @@
+-- Tests and options by their cases.
+use Rattle.std.proofs.Common.{◌≡◌, Bool, true, false, refl}
+use Rattle.std.specs.Prelude.{Option, Some, None, if◌then◌else◌}
+
+-- what is said of both ends of a test is said of its end
+pub claim_if : {A : Type 0} (Claim : A → Type 0) (test : Bool) (one other : A) → (test ≡ true → Claim one) → (test ≡ false → Claim other)
+    → Claim (if test then one else other)
+claim_if Claim true one other first second = first refl
+claim_if Claim false one other first second = second refl
+
+pub clash : (test : Bool) → test ≡ true → test ≡ false → ⊥
+clash test one other = cc
+
+pub none_some : {A : Type 0} (found : Option A) (value : A) → found ≡ None → found ≡ Some value → ⊥
+none_some found value none some = cc
+
+-- two values of one option are one
+pub same_found : {A : Type 0} (one other : A) (found : Option A) → found ≡ Some one → found ≡ Some other → one ≡ other
+same_found one other found first second = cc
+
+pub same_some : {A : Type 0} (one other : A) → Some one ≡ Some other → one ≡ other
+same_some one other same = cc

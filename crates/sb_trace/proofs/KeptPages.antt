@@ -1,0 +1,79 @@
+-- Each step keeps what holds of pages.
+use Rattle.std.proofs.Common.{◌≡◌, ◌∙◌, sym, subst, ℕ, zero, suc, ◌+◌, ◌*◌, ◌%◌, Bool, true, false, List, [], ◌∷◌, ◌==◌, length, refl, inl, inr}
+use Rattle.std.specs.Prelude.{if◌then◌else◌}
+use Rattle.std.proofs.lemmas.List.{length-replicate}
+use Rattle.sb_memory.specs.Words.{put_word}
+use Rattle.sb_memory.proofs.Words.{length_put_word}
+use Rattle.sb_tramp.specs.declared.record_words.RecordWords.{RecordWords}
+use Rattle.sb_tramp.specs.Record.{words_of}
+use Rattle.sb_trace.specs.declared.event.Event.{Event}
+use Rattle.sb_trace.specs.declared.event.Event.TheVariants.{Step as StepLine, Sys, Entered}
+use Rattle.sb_trace.specs.declared.page.Page.{Page}
+use Rattle.sb_trace.specs.declared.page.PageName.TheVariants.{Pool}
+use Rattle.sb_trace.specs.State.{State, thread_at}
+use Rattle.sb_trace.specs.PageWords.{zeros, words_put}
+use Rattle.sb_trace.specs.Windows.{present_of}
+use Rattle.sb_trace.specs.Start.{pages_from, record_bytes}
+use Rattle.sb_trace.specs.SystemCall.{stack_bytes, server_stack_page, buffer_page, binding_pages}
+use Rattle.sb_trace.specs.Sound.{ArePagesSound}
+use Rattle.sb_trace.specs.Changes.{OnlyPages, CallChanges, LineChanges, with_first_word}
+use Rattle.sb_trace.proofs.CodePages.{EachPage, IsDataPage, written_sound, pool_sound, added_sound}
+use Rattle.sb_trace.proofs.HeapCode.{mode_sound}
+
+-- ---- sizes of new pages
+
+pub zeros_size : length zeros ≡ 4096
+unfolding zeros
+zeros_size = length-replicate {A = ℕ} 4096 0
+
+words_size : (words bytes : List ℕ) (place : ℕ) → length (words_put bytes place words) ≡ length bytes
+words_size [] bytes place = refl
+words_size (word ∷ words) bytes place = words_size words (put_word bytes place word) (place + 8) ∙ length_put_word bytes place word
+
+pub record_size : (words : RecordWords) → length (record_bytes words) ≡ 4096
+unfolding record_bytes
+record_size words = words_size (words_of words) zeros 0 ∙ zeros_size
+
+size_if : (test : Bool) (one other : List ℕ) → length one ≡ 4096 → length other ≡ 4096 → length (if test then one else other) ≡ 4096
+size_if true one other first second = first
+size_if false one other first second = second
+
+stack_size : (page : ℕ) → length (stack_bytes page) ≡ 4096
+unfolding stack_bytes
+stack_size page = size_if (page % 4 == 3) (put_word zeros 0xFF8 0x70000000) zeros (length_put_word zeros 0xFF8 0x70000000 ∙ zeros_size) zeros_size
+
+-- ---- new pages
+
+pub each_from : (Claim : Page → Type 0) (page : ℕ → Page) (first count : ℕ) → ((number : ℕ) → Claim (page number)) → EachPage Claim (pages_from page first count)
+each_from Claim page first zero all = tt
+each_from Claim page first (suc count) all = (all first, each_from Claim page (first + 1) count all)
+
+stacks_are_data : (process count : ℕ) → EachPage IsDataPage (pages_from (server_stack_page process) 0 count)
+stacks_are_data process count = each_from IsDataPage (server_stack_page process) 0 count (λ page. (tt, stack_size page))
+
+view_is_data : (thread index : ℕ) (words : RecordWords) → EachPage IsDataPage (binding_pages thread index words)
+unfolding binding_pages
+view_is_data thread index words =
+    ((tt, record_size words), ((tt, zeros_size), each_from IsDataPage (buffer_page thread index) 0 4 (λ page. (tt, zeros_size))))
+
+-- ---- by line
+
+same_pages : (old : State) (pages : List Page) (new : State) → OnlyPages old pages new → ArePagesSound pages → ArePagesSound new.pages
+same_pages old pages new only sound = subst ArePagesSound (sym only.become) sound
+
+call_kept : (old : State) (core number answer : ℕ) (new : State) → CallChanges old core number answer new → ArePagesSound old.pages → ArePagesSound new.pages
+call_kept old core number answer new (inl (refused, only)) sound = same_pages old old.pages new only sound
+call_kept old core number answer new (inr (inl (done, call, adds))) sound =
+    subst ArePagesSound (sym adds.pages)
+    (added_sound (with_first_word old (Pool (present_of (thread_at old core))) adds.word) (pages_from (server_stack_page (present_of (thread_at old core))) 0 (4 * adds.stacks))
+    (stacks_are_data (present_of (thread_at old core)) (4 * adds.stacks)) (pool_sound old (present_of (thread_at old core)) adds.word sound))
+call_kept old core number answer new (inr (inr (inl (done, call, adds)))) sound =
+    subst ArePagesSound (sym adds.pages) (added_sound old.pages (binding_pages core adds.index adds.words) (view_is_data core adds.index adds.words) sound)
+call_kept old core number answer new (inr (inr (inr (done, call, changes)))) sound =
+    same_pages old _ new changes.only (mode_sound old (present_of (thread_at old core)) changes.page changes.executable changes.harmless sound)
+
+pub line_kept : (old : State) (core : ℕ) (event : Event) (new : State) → LineChanges old core event new → ArePagesSound old.pages → ArePagesSound new.pages
+line_kept old core (StepLine rip) new writes sound = written_sound old core (thread_at old core).view new writes sound
+line_kept old core (Entered index slot) new enters sound = same_pages old _ new enters.only (pool_sound old enters.server enters.word sound)
+line_kept old core (Sys number answer) new changes sound = call_kept old core number answer new changes sound
+line_kept old core _ new only sound = same_pages old old.pages new only sound

@@ -1,0 +1,207 @@
+-- What an instruction may change: only bytes of pages that its thread may write in its view.
+use Rattle.std.proofs.Common.{◌≡◌, ◌≢◌, ◌∙◌, sym, ap, subst, ℕ, zero, suc, ◌+◌, ◌/◌, ◌%◌, ◌^◌, Bool, true, false, List, [], ◌∷◌, refl, slice_set, Result, Ok, Err}
+use Rattle.std.specs.Prelude.{Option, Some, None, if◌then◌else◌}
+use Rattle.std.specs.Option.{option_map, option_and_then}
+use Rattle.std.proofs.lemmas.List.{length-set}
+use Rattle.sb_memory.specs.declared.address.Access.TheVariants.{Write}
+use Rattle.sb_memory.specs.Outcome.{and_then, done}
+use Rattle.sb_insn.specs.declared.registers.Regs.{Regs}
+use Rattle.sb_exec.specs.declared.stop.BusStop.{BusStop}
+use Rattle.sb_exec.specs.declared.stop.FaultKind.TheVariants.{Canon}
+use Rattle.sb_exec.specs.Access.{bytes_from, store_answer, byte_for}
+use Rattle.sb_exec.specs.Row.{Row}
+use Rattle.sb_exec.specs.Execution.{execution_of}
+use Rattle.sb_exec.proofs.Simulation.{rows_keep}
+use Rattle.sb_trace.specs.declared.page.PageName.{PageName}
+use Rattle.sb_trace.specs.declared.page.Page.{Page}
+use Rattle.sb_trace.specs.declared.page.Seen.{Seen}
+use Rattle.sb_trace.specs.PageName.{same_name, mode_of, permits}
+use Rattle.sb_trace.specs.State.{State, find_page, contents, with_contents, bytes_of}
+use Rattle.sb_trace.specs.Windows.{page_seen, seen, seen_as, name_at, shown}
+use Rattle.sb_trace.specs.PlainMemory.{Placed, placed, placed_at, put_byte, put_all, plain_stored, plain, plain_byte, byte_seen, is_canonical, fault_at}
+use Rattle.sb_trace.specs.Changes.{IsClosed, Shape, shape_of}
+use Rattle.sb_trace.proofs.Names.{name_same, name_other}
+use Rattle.sb_trace.proofs.Pages.{with_bytes, found_other, found_same}
+
+-- ---- one byte
+
+put_other : (state : State) (name other : PageName) (offset value : ℕ) → same_name name other ≡ false
+    → find_page (put_byte state name offset value).pages other ≡ find_page state.pages other
+unfolding put_byte with_contents contents
+put_other state name other offset value apart = found_other state.pages name other (slice_set (bytes_of (find_page state.pages name)) offset value) apart
+
+shape_by : (found : Option Page) (offset value : ℕ)
+    → option_map shape_of (option_map (with_bytes (slice_set (bytes_of found) offset value)) found) ≡ option_map shape_of found
+shape_by None offset value = refl
+shape_by (Some page) offset value = ap (λ (size : ℕ). Some (record { executable = page.executable; size = size })) (length-set page.bytes offset value)
+
+shape_if : (test : Bool) (state : State) (name other : PageName) (offset value : ℕ) → same_name name other ≡ test
+    → option_map shape_of (find_page (put_byte state name offset value).pages other) ≡ option_map shape_of (find_page state.pages other)
+unfolding put_byte with_contents contents
+shape_if true state name other offset value is =
+    subst (λ (n : PageName). option_map shape_of (find_page (put_byte state name offset value).pages n) ≡ option_map shape_of (find_page state.pages n))
+    (name_same name other is)
+    (ap (option_map shape_of) (found_same state.pages name (slice_set (bytes_of (find_page state.pages name)) offset value))
+    ∙ shape_by (find_page state.pages name) offset value)
+shape_if false state name other offset value is = ap (option_map shape_of) (put_other state name other offset value is)
+
+-- ---- what a store leaves beside bytes
+
+-- pages keep their shapes, and all but pages stays
+pub record KeepsShapes (first state : State) : Type 0 where
+  pub shapes : (name : PageName) → option_map shape_of (find_page state.pages name) ≡ option_map shape_of (find_page first.pages name)
+  pub processes : state.processes ≡ first.processes
+  pub threads : state.threads ≡ first.threads
+  pub flights : state.flights ≡ first.flights
+  pub free : state.free ≡ first.free
+  pub keys : state.keys ≡ first.keys
+
+put_keeps : (state : State) (name : PageName) (offset value : ℕ) → KeepsShapes state (put_byte state name offset value)
+unfolding put_byte with_contents
+put_keeps state name offset value = record {
+  shapes = λ other. shape_if (same_name name other) state name other offset value refl;
+  processes = refl;
+  threads = refl;
+  flights = refl;
+  free = refl;
+  keys = refl;
+}
+
+pub keeps_both : (first second third : State) → KeepsShapes first second → KeepsShapes second third → KeepsShapes first third
+keeps_both first second third one other = record {
+  shapes = λ name. other.shapes name ∙ one.shapes name;
+  processes = other.processes ∙ one.processes;
+  threads = other.threads ∙ one.threads;
+  flights = other.flights ∙ one.flights;
+  free = other.free ∙ one.free;
+  keys = other.keys ∙ one.keys;
+}
+
+all_keep : (state : State) (bytes : List Placed) → KeepsShapes state (put_all state bytes)
+all_keep state [] = record { shapes = λ name. refl; processes = refl; threads = refl; flights = refl; free = refl; keys = refl }
+all_keep state (byte ∷ others) =
+    keeps_both state (put_byte state byte.name byte.offset byte.value) (put_all (put_byte state byte.name byte.offset byte.value) others)
+    (put_keeps state byte.name byte.offset byte.value) (all_keep (put_byte state byte.name byte.offset byte.value) others)
+
+store_keeps : (thread view : ℕ) (state : State) (address size value : ℕ) → KeepsShapes state (plain_stored thread view state address size value)
+unfolding plain_stored
+store_keeps thread view state address size value = all_keep state (placed state thread view address size value)
+
+-- ---- what is seen
+
+seen_by : (name : PageName) (found found' : Option Page) → option_map shape_of found' ≡ option_map shape_of found
+    → option_map (seen_as name) found' ≡ option_map (seen_as name) found
+seen_by name None None same = refl
+seen_by name (Some page) None same = absurd cc
+seen_by name None (Some page') same = absurd cc
+seen_by name (Some page) (Some page') same =
+    let shapes : shape_of page' ≡ shape_of page = cc in
+    let equal : page'.executable ≡ page.executable = ap (λ (shape : Shape). shape.executable) shapes in
+    ap (λ (executable : Bool). Some (record { name = name; mode = mode_of name executable })) equal
+
+seen_named : (first state : State) (name : Option PageName) → KeepsShapes first state
+    → option_and_then (seen state.pages) name ≡ option_and_then (seen first.pages) name
+seen_named first state None keeps = refl
+seen_named first state (Some name) keeps = seen_by name (find_page first.pages name) (find_page state.pages name) (keeps.shapes name)
+
+pub seen_kept : (first state : State) (thread view page : ℕ) → KeepsShapes first state → page_seen state thread view page ≡ page_seen first thread view page
+unfolding page_seen
+seen_kept first state thread view page keeps =
+    rw keeps.threads (seen_named first state (option_and_then (name_at first.threads thread view page) (shown first.threads thread view)) keeps)
+
+-- ---- the pages of a store
+
+abbrev IsDone : {A : Type 0} → Result A BusStop → Type 0
+IsDone (Ok value) = Unit {0}
+IsDone (Err stop) = ⊥
+
+done_first : {A B : Type 0} (answer : Result A BusStop) (next : A → Result B BusStop) → IsDone (and_then answer next) → IsDone answer
+done_first (Ok value) next given = tt
+done_first (Err stop) next given = given
+
+done_rest : (byte : Result ℕ BusStop) (rest : Result (List ℕ) BusStop) → IsDone (and_then byte (λ lowest. and_then rest (λ others. Ok (lowest ∷ others)))) → IsDone rest
+done_rest (Ok lowest) rest given = done_first rest _ given
+done_rest (Err stop) rest given = absurd given
+
+done_bytes : (bytes : Result (List ℕ) BusStop) → done bytes ≡ Ok tt → IsDone bytes
+done_bytes (Ok list) given = tt
+done_bytes (Err stop) given = cc
+
+if_done : {A : Type 0} (test : Bool) (byte : ℕ) (stop : BusStop) → (test ≡ true → A) → IsDone (if test then Ok byte else Err stop) → A
+if_done true byte stop all given = all refl
+if_done false byte stop all given = absurd given
+
+-- a page with another name, or none
+abbrev IsOther : Option Seen → PageName → Type 0
+IsOther None name = Unit {0}
+IsOther (Some page) name = page.name ≢ name
+
+other_seen : (state : State) (name : PageName) (address : ℕ) (page : Option Seen) (canonical : Bool)
+    → ((found : Seen) → page ≡ Some found → permits found.mode Write ≡ true → found.name ≢ name)
+    → IsDone (if canonical then byte_seen state page address Write else Err (fault_at Canon address)) → IsOther page name
+other_seen state name address None canonical closed given = tt
+other_seen state name address (Some found) true closed given = if_done (permits found.mode Write) _ _ (closed found refl) given
+other_seen state name address (Some found) false closed given = absurd given
+
+other_at : (state : State) (thread view address : ℕ) (name : PageName) → IsClosed state thread view name
+    → IsDone (plain_byte thread view state address Write) → IsOther (page_seen state thread view (address / 4096)) name
+unfolding plain_byte
+other_at state thread view address name closed given =
+    other_seen state name address (page_seen state thread view (address / 4096)) (is_canonical address) (λ found. closed (address / 4096) found) given
+
+-- bytes that are put into other pages
+abbrev AllOther : List Placed → PageName → Type 0
+AllOther [] name = Unit {0}
+AllOther (byte ∷ bytes) name = (byte.name ≢ name) × AllOther bytes name
+
+other_placed : (page : Option Seen) (address value : ℕ) (others : List Placed) (name : PageName) → IsOther page name → AllOther others name
+    → AllOther (placed_at page address value others) name
+other_placed None address value others name one all = all
+other_placed (Some page) address value others name one all = (one, all)
+
+all_other : (state : State) (thread view address size value : ℕ) (name : PageName) → IsClosed state thread view name
+    → IsDone (bytes_from (byte_for (plain_byte thread view state) Write) address size) → AllOther (placed state thread view address size value) name
+unfolding bytes_from placed
+all_other state thread view address zero value name closed given = tt
+all_other state thread view address (suc count) value name closed given =
+    other_placed (page_seen state thread view (address / 4096)) address (value % 256)
+    (placed state thread view ((address + 1) % 2 ^ 64) count (value / 256)) name
+    (other_at state thread view address name closed (done_first (plain_byte thread view state address Write) _ given))
+    (all_other state thread view ((address + 1) % 2 ^ 64) count (value / 256) name closed (done_rest (plain_byte thread view state address Write) _ given))
+
+others_found : (state : State) (bytes : List Placed) (name : PageName) → AllOther bytes name → find_page (put_all state bytes).pages name ≡ find_page state.pages name
+others_found state [] name others = refl
+others_found state (byte ∷ bytes) name others =
+    others_found (put_byte state byte.name byte.offset byte.value) bytes name others.1
+    ∙ put_other state byte.name name byte.offset byte.value (name_other byte.name name others.0)
+
+store_closed : (state : State) (thread view address size value : ℕ) (name : PageName) → IsClosed state thread view name
+    → store_answer (byte_for (plain_byte thread view state) Write) address size ≡ Ok tt
+    → find_page (plain_stored thread view state address size value).pages name ≡ find_page state.pages name
+unfolding store_answer plain_stored
+store_closed state thread view address size value name closed permitted =
+    others_found state (placed state thread view address size value) name (all_other state thread view address size value name closed (done_bytes _ permitted))
+
+-- ---- an instruction
+
+-- closed pages are as at first
+pub record Written (first : State) (thread view : ℕ) (state : State) : Type 0 where
+  pub keeps : KeepsShapes first state
+  pub closed : (name : PageName) → IsClosed first thread view name → find_page state.pages name ≡ find_page first.pages name
+
+store_written : (first : State) (thread view : ℕ) (state : State) → Written first thread view state → (address size value : ℕ)
+    → store_answer (byte_for (plain_byte thread view state) Write) address size ≡ Ok tt → Written first thread view (plain_stored thread view state address size value)
+store_written first thread view state written address size value permitted = record {
+  keeps = keeps_both first state (plain_stored thread view state address size value) written.keeps (store_keeps thread view state address size value);
+  closed = λ name closed.
+      store_closed state thread view address size value name
+      (λ page found is. closed page found (sym (seen_kept first state thread view page written.keeps) ∙ is)) permitted
+      ∙ written.closed name closed;
+}
+
+not_written : (first : State) (thread view : ℕ) → Written first thread view first
+not_written first thread view = record { keeps = all_keep first []; closed = λ name closed. refl }
+
+pub execution_written : (thread view : ℕ) (row : Row) (regs : Regs) (state : State) → Written state thread view (execution_of (plain thread view) row regs state tt).meaning
+execution_written thread view row regs state =
+    rows_keep (Written state thread view) (plain thread view) (store_written state thread view) row regs state tt (not_written state thread view)

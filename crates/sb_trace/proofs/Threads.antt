@@ -1,0 +1,100 @@
+-- Threads and flights by number, where one is set.
+use Rattle.std.proofs.Common.{◌≡◌, ◌≢◌, ◌∙◌, ap, subst, ℕ, zero, suc, Bool, true, false, List, [], ◌∷◌, ◌==◌, refl, slice_set}
+use Rattle.std.specs.Prelude.{Option, Some, None, slice_get, unwrap_or, if◌then◌else◌}
+use Rattle.sb_trace.specs.declared.state.Binding.{Binding}
+use Rattle.sb_trace.specs.declared.state.Flight.{Flight}
+use Rattle.sb_trace.specs.declared.state.Thread.{Thread}
+use Rattle.sb_trace.specs.State.{State, thread_at, with_thread, no_thread, flight_at, with_flight}
+use Rattle.sb_trace.specs.Windows.{server_of}
+use Rattle.sb_trace.specs.KernelCall.{binding_in}
+use Rattle.sb_trace.specs.Sound.{HasView}
+use Rattle.sb_trace.specs.Changes.{OnlyThread}
+use Rattle.sb_trace.proofs.Names.{number}
+
+-- ---- lists
+
+set_other : {A : Type 0} (list : List A) (index other : ℕ) (value : A) → other ≢ index → slice_get (slice_set list index value) other ≡ slice_get list other
+set_other [] index other value apart = refl
+set_other (first ∷ list) zero zero value apart = absurd (apart refl)
+set_other (first ∷ list) zero (suc other) value apart = refl
+set_other (first ∷ list) (suc index) zero value apart = refl
+set_other (first ∷ list) (suc index) (suc other) value apart = set_other list index other value (λ same. apart (ap suc same))
+
+-- what is said of the value that is set, and of the one that was there, is said of the one that is there
+pub set_same : {A : Type 0} (Claim : A → Type 0) (list : List A) (index : ℕ) (value default : A) → Claim value → Claim (unwrap_or (slice_get list index) default)
+    → Claim (unwrap_or (slice_get (slice_set list index value) index) default)
+set_same Claim [] index value default new old = old
+set_same Claim (first ∷ list) zero value default new old = new
+set_same Claim (first ∷ list) (suc index) value default new old = set_same Claim list index value default new old
+
+-- ---- a thread
+
+pub thread_set : (Claim : Thread → Type 0) (state : State) (number : ℕ) (thread : Thread) → Claim thread → Claim (thread_at state number)
+    → Claim (thread_at (with_thread state number thread) number)
+unfolding thread_at
+thread_set Claim state number thread new old = set_same Claim state.threads number thread no_thread new old
+
+pub only_thread : (state : State) (number : ℕ) (thread : Thread) → thread.home ≡ (thread_at state number).home → OnlyThread state number (with_thread state number thread)
+only_thread state number thread home = record {
+  threads = λ other apart. set_other state.threads number other thread apart;
+  flights = λ other apart. refl;
+  home = thread_set (λ (one : Thread). one.home ≡ (thread_at state number).home) state number thread home refl;
+}
+
+pub only_flight : (state : State) (number : ℕ) (flight : Option Flight) → OnlyThread state number (with_flight state number flight)
+unfolding with_flight thread_at
+only_flight state number flight = record {
+  threads = λ other apart. refl;
+  flights = λ other apart. set_other state.flights number other flight apart;
+  home = refl;
+}
+
+pub only_both : (first : State) (number : ℕ) (second third : State) → OnlyThread first number second → OnlyThread second number third → OnlyThread first number third
+only_both first number second third one other = record {
+  threads = λ number' apart. other.threads number' apart ∙ one.threads number' apart;
+  flights = λ number' apart. other.flights number' apart ∙ one.flights number' apart;
+  home = other.home ∙ one.home;
+}
+
+-- threads and flights stay
+pub only_none : (old : State) (number : ℕ) (new : State) → new.threads ≡ old.threads → new.flights ≡ old.flights → OnlyThread old number new
+unfolding thread_at
+only_none old number new threads flights = record {
+  threads = λ other apart. ap (λ list. slice_get list other) threads;
+  flights = λ other apart. ap (λ list. slice_get list other) flights;
+  home = ap (λ list. (unwrap_or (slice_get list number) no_thread).home) threads;
+}
+
+-- ---- the others
+
+pub thread_other : (old : State) (number : ℕ) (new : State) (other : ℕ) → OnlyThread old number new → other ≢ number → thread_at new other ≡ thread_at old other
+unfolding thread_at
+thread_other old number new other only apart = ap (λ found. unwrap_or found no_thread) (only.threads other apart)
+
+pub flight_other : (old : State) (number : ℕ) (new : State) (other : ℕ) → OnlyThread old number new → other ≢ number → flight_at new other ≡ flight_at old other
+unfolding flight_at
+flight_other old number new other only apart = ap (λ found. unwrap_or found None) (only.flights other apart)
+
+-- ---- bindings
+
+bound_by : (test : Bool) (first binding : Binding) (found : Option Binding) (server : Option ℕ) (index : ℕ) → (first.index == index) ≡ test
+    → (found ≡ Some binding → (binding.index ≡ index) × (server ≡ Some binding.server))
+    → (if test then Some first else found) ≡ Some binding → (binding.index ≡ index) × ((if test then Some first.server else server) ≡ Some binding.server)
+bound_by true first binding found server index is more here =
+    let same : first ≡ binding = cc in
+    (subst (λ (one : Binding). one.index ≡ index) same (number first.index index is), ap (λ (one : Binding). Some one.server) same)
+bound_by false first binding found server index is more here = more here
+
+-- a binding that is found has its index, and its view shows its server
+pub bound_there : (bindings : List Binding) (index : ℕ) (binding : Binding) → binding_in bindings index ≡ Some binding
+    → (binding.index ≡ index) × (server_of bindings index ≡ Some binding.server)
+bound_there [] index binding here = absurd cc
+bound_there (first ∷ bindings) index binding here =
+    bound_by (first.index == index) first binding (binding_in bindings index) (server_of bindings index) index refl (bound_there bindings index binding) here
+
+view_by : (test : Bool) (home : ℕ) (server : Option ℕ) (process : ℕ) → server ≡ Some process → (one : ℕ) × ((if test then Some home else server) ≡ Some one)
+view_by true home server process is = (home, refl)
+view_by false home server process is = (process, is)
+
+pub view_bound : (thread : Thread) (process : ℕ) → server_of thread.bindings thread.view ≡ Some process → HasView thread
+view_bound thread process is = view_by (thread.view == 0) thread.home (server_of thread.bindings thread.view) process is

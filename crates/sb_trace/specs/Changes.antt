@@ -1,0 +1,118 @@
+-- What a step may change, by its line.
+use Rattle.std.specs.Prelude.{◌≡◌, ◌≢◌, ◌⊎◌, ℕ, ◌*◌, Bool, true, List, ◌++◌, length, None, Some, slice_get}
+use Rattle.std.specs.Option.{option_map}
+use Rattle.sb_memory.specs.declared.address.Access.TheVariants.{Write}
+use Rattle.sb_memory.specs.Words.{put_word}
+use Rattle.sb_tramp.specs.declared.record_words.RecordWords.{RecordWords}
+use Rattle.sb_trace.specs.declared.event.Event.{Event}
+use Rattle.sb_trace.specs.declared.event.Event.TheVariants.{Step as StepLine, Sys, Entered}
+use Rattle.sb_trace.specs.declared.page.PageName.{PageName}
+use Rattle.sb_trace.specs.declared.page.PageName.TheVariants.{Heap, Pool}
+use Rattle.sb_trace.specs.declared.page.Page.{Page}
+use Rattle.sb_trace.specs.declared.page.Seen.{Seen}
+use Rattle.sb_trace.specs.PageName.{permits}
+use Rattle.sb_trace.specs.State.{State, find_page, contents, replaced, thread_at}
+use Rattle.sb_trace.specs.Windows.{page_seen, present_of, server_of}
+use Rattle.sb_trace.specs.Start.{pages_from}
+use Rattle.sb_trace.specs.Pattern.{heap_pattern}
+use Rattle.sb_trace.specs.SystemCall.{server_stack_page, binding_pages, with_mode}
+
+-- ---- threads
+
+-- Only this thread's registers, view, bindings, state and flight may change: the other threads stay, and its home stays.
+pub record OnlyThread (old : State) (number : ℕ) (new : State) : Type 0 where
+  pub threads : (other : ℕ) → other ≢ number → slice_get new.threads other ≡ slice_get old.threads other
+  pub flights : (other : ℕ) → other ≢ number → slice_get new.flights other ≡ slice_get old.flights other
+  pub home : (thread_at new number).home ≡ (thread_at old number).home
+
+-- ---- all but threads
+
+-- the pages become these, and processes, free frames and key words stay
+pub record OnlyPages (old : State) (pages : List Page) (new : State) : Type 0 where
+  pub become : new.pages ≡ pages
+  pub processes : new.processes ≡ old.processes
+  pub free : new.free ≡ old.free
+  pub keys : new.keys ≡ old.keys
+
+-- no page changes
+abbrev pub OnlyThreads : State → State → Type 0
+OnlyThreads old new = OnlyPages old old.pages new
+
+-- ---- an instruction
+
+-- no page that the thread may write in the view has this name
+abbrev pub IsClosed : State → ℕ → ℕ → PageName → Type 0
+IsClosed state thread view name =
+    (page : ℕ) (seen : Seen) → page_seen state thread view page ≡ Some seen → permits seen.mode Write ≡ true → seen.name ≢ name
+
+-- a page but for its bytes, of which it says how many
+pub record Shape : Type 0 where
+  pub executable : Bool
+  pub size : ℕ
+
+abbrev pub shape_of : Page → Shape
+shape_of page = record { executable = page.executable; size = length page.bytes }
+
+-- Only bytes of pages change that the thread may write in the view. No page comes or goes, and each keeps its mode.
+pub record WritesOpen (old : State) (thread view : ℕ) (new : State) : Type 0 where
+  pub closed : (name : PageName) → IsClosed old thread view name → find_page new.pages name ≡ find_page old.pages name
+  pub shapes : (name : PageName) → option_map shape_of (find_page new.pages name) ≡ option_map shape_of (find_page old.pages name)
+  pub processes : new.processes ≡ old.processes
+  pub free : new.free ≡ old.free
+  pub keys : new.keys ≡ old.keys
+
+-- ---- the kernel
+
+-- the pages with a word put first into this page
+abbrev pub with_first_word : State → PageName → ℕ → List Page
+with_first_word state name word = replaced state.pages name (put_word (contents state name) 0 word)
+
+-- an entered server's pool word changes
+pub record EntersServer (old : State) (number index : ℕ) (new : State) : Type 0 where
+  pub server : ℕ
+  pub word : ℕ
+  pub bound : server_of (thread_at old number).bindings index ≡ Some server
+  pub only : OnlyPages old (with_first_word old (Pool server) word) new
+
+-- pages of server stacks are added to the process that the thread's view shows, and its pool word is set
+pub record AddsStacks (old : State) (process : ℕ) (new : State) : Type 0 where
+  pub word : ℕ
+  pub stacks : ℕ
+  pub pages : new.pages ≡ with_first_word old (Pool process) word ++ pages_from (server_stack_page process) 0 (4 * stacks)
+  pub keys : new.keys ≡ old.keys
+
+-- the six pages of a view are added: its record and scratch page, and four buffer pages
+pub record AddsView (old : State) (number : ℕ) (new : State) : Type 0 where
+  pub index : ℕ
+  pub words : RecordWords
+  pub pages : new.pages ≡ old.pages ++ binding_pages number index words
+  pub processes : new.processes ≡ old.processes
+
+-- the mode of one heap page changes; to executable only where that lets VMFUNC's bytes be fetched nowhere
+pub record ChangesMode (old : State) (process : ℕ) (new : State) : Type 0 where
+  pub page : ℕ
+  pub executable : Bool
+  pub harmless : executable ≡ true → heap_pattern old process page ≡ None
+  pub only : OnlyPages old (with_mode old.pages (Heap process page) executable) new
+
+-- a system call that is refused changes no page; of those that are answered 0, three do
+abbrev pub CallChanges : State → ℕ → ℕ → ℕ → State → Type 0
+CallChanges old core number answer new =
+    ((answer ≢ 0) × OnlyThreads old new)
+    ⊎ ((answer ≡ 0) × (number ≡ 2) × AddsStacks old (present_of (thread_at old core)) new)
+    ⊎ ((answer ≡ 0) × (number ≡ 3) × AddsView old core new)
+    ⊎ ((answer ≡ 0) × (number ≡ 4) × ChangesMode old (present_of (thread_at old core)) new)
+
+-- ---- a step
+
+-- by its line: an instruction, an entry, a system call; all else, as faults, prints, exits, refused calls, returns and
+-- landing lines, changes no page
+abbrev pub LineChanges : State → ℕ → Event → State → Type 0
+LineChanges old core (StepLine rip) new = WritesOpen old core (thread_at old core).view new
+LineChanges old core (Entered index slot) new = EntersServer old core index new
+LineChanges old core (Sys number answer) new = CallChanges old core number answer new
+LineChanges old core _ new = OnlyThreads old new
+
+pub record StepChanges (old : State) (core : ℕ) (event : Event) (new : State) : Type 0 where
+  pub thread : OnlyThread old core new
+  pub rest : LineChanges old core event new

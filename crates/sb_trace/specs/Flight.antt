@@ -1,0 +1,107 @@
+-- The landing of a call, phase by phase (docs/FORMATS.md, "The landing"). At one phase the call is decided: then the
+-- kernel's call is done, in one step. Before, the thread stays as it was at the VMFUNC.
+use Rattle.std.specs.Prelude.{ℕ, ◌+◌, ◌==◌, ◌&&◌, ◌||◌, not, nat_le, Bool, true, false, Option, Some, None, if◌then◌else◌}
+use Rattle.std.specs.Option.{option_map}
+use Rattle.sb_trace.specs.declared.event.Event.TheVariants.{Landing}
+use Rattle.sb_trace.specs.declared.state.Binding.{Binding}
+use Rattle.sb_trace.specs.declared.state.Decision.{Decision}
+use Rattle.sb_trace.specs.declared.state.Decision.TheVariants as decision
+use Rattle.sb_trace.specs.declared.state.Flight.{Flight}
+use Rattle.sb_trace.specs.declared.state.Thread.{Thread}
+use Rattle.sb_trace.specs.State.{State, thread_at, with_flight}
+use Rattle.sb_trace.specs.Registers.{eax, ecx, rsi}
+use Rattle.sb_trace.specs.Home.{Outcome}
+use Rattle.sb_trace.specs.KernelCall.{binding_in, pool_word, kernel_call}
+
+-- ---- what a phase looks at
+
+-- the binding of the flight
+abbrev pub flight_binding : Thread → Flight → Option Binding
+flight_binding thread flight = binding_in thread.bindings flight.index
+
+abbrev pub is_key : Option Binding → ℕ → Bool
+is_key None word = false
+is_key (Some binding) word = word == binding.key
+
+-- the pool word of the binding's server
+abbrev pub bound_pool : State → Option Binding → ℕ
+bound_pool state None = 0
+bound_pool state (Some binding) = pool_word state binding.server
+
+-- ---- a phase
+
+-- phase 2 loads the mask
+abbrev pub loaded : ℕ → Flight → Flight
+loaded pool flight = record flight { mask = if flight.phase == 2 then pool else flight.mask }
+
+-- whether this phase decides the call, and how: phase 0 where the key is wrong, phase 2 where no stack is free, and phase 8
+-- where the pool word is still the mask, so that its exchange succeeds
+unfoldable pub decided_at : ℕ → Bool → ℕ → ℕ → Option Decision
+decided_at phase key_fits pool mask =
+    if phase == 0 then if key_fits then None else Some decision.WrongKey
+    else if phase == 2 then if pool == 0 then Some decision.PoolEmpty else None
+    else if phase == 8 then if pool == mask then Some decision.Entered else None
+    else None
+
+abbrev pub is_wrong_key : Option Decision → Bool
+is_wrong_key (Some decision.WrongKey) = true
+is_wrong_key _ = false
+
+abbrev pub is_entered : Option Decision → Bool
+is_entered (Some decision.Entered) = true
+is_entered _ = false
+
+-- the phase behind this one; None where the landing ends
+unfoldable pub phase_after : ℕ → Option Decision → ℕ → Option ℕ
+phase_after phase decided mask =
+    if phase == 1 then Some (if is_wrong_key decided then 17 else 2)
+    else if phase == 4 then Some (if mask == 0 then 19 else 5)
+    else if phase == 9 then Some (if is_entered decided then 10 else 2)
+    else if (phase == 16) || nat_le 24 phase then None
+    else if phase == 18 then Some 20
+    else Some (phase + 1)
+
+abbrev pub at_phase : Flight → ℕ → Flight
+at_phase flight phase = record flight { phase = phase }
+
+-- the flight behind its phase
+abbrev pub advanced : Flight → Option Flight
+advanced flight = option_map (at_phase flight) (phase_after flight.phase flight.decided flight.mask)
+
+-- a phase that decides the call does the kernel's call; each other one lands
+abbrev pub landed : State → ℕ → Flight → Option Decision → Outcome
+landed state number flight None = (Landing flight.phase, with_flight state number (advanced flight))
+landed state number flight (Some decided) =
+    ((kernel_call state number).0, with_flight (kernel_call state number).1 number (advanced (record flight { decided = Some decided })))
+
+-- with the binding of the flight
+abbrev pub flown_by : State → ℕ → Thread → Flight → Option Binding → Outcome
+flown_by state number thread flight binding =
+    landed state number (loaded (bound_pool state binding) flight)
+    (decided_at flight.phase (is_key binding (rsi thread.regs)) (bound_pool state binding) flight.mask)
+
+-- a step of a thread in flight
+unfoldable pub flown : State → ℕ → Flight → Outcome
+flown state number flight = flown_by state number (thread_at state number) flight (flight_binding (thread_at state number) flight)
+
+-- ---- the VMFUNC
+
+-- the phase of the line at which a flight begins
+abbrev pub switch_phase : ℕ
+switch_phase = 25
+
+abbrev pub first_flight : ℕ → Flight
+first_flight index = record { index = index; phase = 0; mask = 0; decided = None }
+
+-- the binding into which VMFUNC leads: leaf 0, and its index
+abbrev pub called_binding : Thread → Option Binding
+called_binding thread =
+    if (eax thread.regs == 0) && not (ecx thread.regs == 0) then binding_in thread.bindings (ecx thread.regs) else None
+
+abbrev pub switched_into : State → ℕ → Option Binding → Outcome
+switched_into state number None = kernel_call state number
+switched_into state number (Some binding) = (Landing switch_phase, with_flight state number (Some (first_flight binding.index)))
+
+-- VMFUNC with a landing: a flight begins where it leads into a server; else the kernel's call is done at once
+unfoldable pub switched : State → ℕ → Outcome
+switched state number = switched_into state number (called_binding (thread_at state number))

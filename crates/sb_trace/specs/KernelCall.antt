@@ -1,0 +1,101 @@
+-- A call or a return through VMFUNC as one step of a kernel (docs/FORMATS.md, "A call in one step").
+use Rattle.std.specs.Prelude.{ℕ, ◌+◌, ◌-◌, ◌*◌, ◌^◌, ◌==◌, List, [], ◌∷◌, Option, Some, None, if◌then◌else◌, slice_set}
+use Rattle.std.specs.Int.{w64, trailing_zeros}
+use Rattle.sb_insn.specs.declared.registers.Regs.{Regs}
+use Rattle.sb_exec.specs.declared.stop.FaultKind.TheVariants as kind
+use Rattle.sb_trace.specs.declared.event.Event.{Event}
+use Rattle.sb_trace.specs.declared.event.Event.TheVariants.{Entered, WrongKey, PoolEmpty, Unbound, BadLeaf, Return, Turn}
+use Rattle.sb_trace.specs.declared.page.PageName.TheVariants.{Pool}
+use Rattle.sb_trace.specs.declared.state.Binding.{Binding}
+use Rattle.sb_trace.specs.declared.state.Registration.{Registration}
+use Rattle.sb_trace.specs.declared.state.Thread.{Thread}
+use Rattle.sb_trace.specs.State.{State, thread_at, with_view, registration_at}
+use Rattle.sb_trace.specs.PageWords.{word_in, with_word}
+use Rattle.sb_trace.specs.Registers.{eax, ecx, rsi, zero_flags}
+use Rattle.sb_trace.specs.Home.{Outcome, home_address, faulted}
+
+-- ---- what a call looks at
+
+-- the binding with this index
+abbrev pub binding_in : List Binding → ℕ → Option Binding
+binding_in [] index = None
+binding_in (binding ∷ bindings) index = if binding.index == index then Some binding else binding_in bindings index
+
+-- the pool word of a process: a bit is set for each server stack that is free
+abbrev pub pool_word : State → ℕ → ℕ
+pool_word state process = word_in state (Pool process) 0
+
+abbrev pub handler_in : Option Registration → ℕ
+handler_in None = 0
+handler_in (Some registration) = registration.handler
+
+-- ---- refusals and ways home
+
+-- R9 has the status, RAX, RCX and R10 are 0, and the thread goes on at home
+unfoldable pub refused_regs : Regs → ℕ → Regs
+refused_regs regs status = record {
+  general = slice_set (slice_set (slice_set (slice_set regs.general 9 status) 0 0) 1 0) 10 0;
+  rip = home_address;
+  flags = zero_flags;
+}
+
+-- a refused call, with its line: the thread is in its home view
+abbrev pub refused : State → ℕ → Thread → Event → ℕ → Outcome
+refused state number thread line status = (line, with_view state number 0 (refused_regs thread.regs status))
+
+-- no view is switched: in a server's view that is a fault at the VMFUNC
+abbrev pub not_switched : State → ℕ → Thread → Event → ℕ → Outcome
+not_switched state number thread line status =
+    if thread.view == 0 then refused state number thread line status else faulted state number kind.Switch thread.regs.rip
+
+-- index 0 leads home
+abbrev pub returned_home : State → ℕ → Thread → Outcome
+returned_home state number thread =
+    (if thread.view == 0 then Turn else Return, with_view state number 0 (record thread.regs { rip = home_address }))
+
+-- ---- entry
+
+-- the lowest bit of a word that is set
+abbrev pub lowest_bit : ℕ → ℕ
+lowest_bit word = trailing_zeros w64 word
+
+-- RSP is the top word of the server stack of this number, and RAX, RCX and R10 are 0
+unfoldable pub entered_regs : Regs → ℕ → ℕ → Regs
+entered_regs regs stack handler = record {
+  general = slice_set (slice_set (slice_set (slice_set regs.general 4 (0x4003FF8 + stack * 0x4000)) 0 0) 1 0) 10 0;
+  rip = handler;
+  flags = zero_flags;
+}
+
+-- the server's lowest free stack is taken, and the thread stands at the handler in the view of the binding
+abbrev pub entered : State → ℕ → Thread → Binding → ℕ → State
+entered state number thread binding word =
+    with_view (with_word state (Pool binding.server) 0 (word - 2 ^ lowest_bit word)) number binding.index
+    (entered_regs thread.regs (lowest_bit word) (handler_in (registration_at state binding.server)))
+
+-- with the pool word of the server
+abbrev pub taken : State → ℕ → Thread → Binding → ℕ → Outcome
+taken state number thread binding word =
+    if word == 0 then refused state number thread (PoolEmpty binding.index) 2
+    else (Entered binding.index (lowest_bit word), entered state number thread binding word)
+
+-- ---- the call
+
+-- through the binding of this index, if there is one
+abbrev pub called_through : State → ℕ → Thread → ℕ → Option Binding → Outcome
+called_through state number thread index None = not_switched state number thread (Unbound index) 3
+called_through state number thread index (Some binding) =
+    if rsi thread.regs == binding.key then taken state number thread binding (pool_word state binding.server)
+    else refused state number thread (WrongKey binding.index) 1
+
+abbrev pub switched_by : State → ℕ → Thread → ℕ → ℕ → Outcome
+switched_by state number thread leaf index =
+    if leaf == 0
+    then if index == 0 then returned_home state number thread
+    else called_through state number thread index (binding_in thread.bindings index)
+    else not_switched state number thread (BadLeaf index) 5
+
+-- VMFUNC of the thread of this number, with the leaf in EAX, the index in ECX and the key in RSI
+unfoldable pub kernel_call : State → ℕ → Outcome
+kernel_call state number =
+    switched_by state number (thread_at state number) (eax (thread_at state number).regs) (ecx (thread_at state number).regs)

@@ -1,0 +1,98 @@
+-- The laws of runs of the plain machine (docs/LAWS.md).
+use Rattle.std.specs.Prelude.{◌≡◌, ℕ, ◌%◌, ◌^◌, List, map, Option, Some, None}
+use Rattle.std.specs.List.{AllByRecursion}
+use Rattle.sb_scan.specs.Pattern.{pattern, HasNoPattern}
+use Rattle.sb_exec.specs.Fetching.{Stands, fetch_of}
+use Rattle.sb_trace.specs.declared.event.Event.{Event}
+use Rattle.sb_trace.specs.declared.event.Event.TheVariants.{Landing, WrongKey, PoolEmpty, Entered}
+use Rattle.sb_trace.specs.declared.event.Line.{Line}
+use Rattle.sb_trace.specs.declared.state.Decision.{Decision}
+use Rattle.sb_trace.specs.declared.state.Decision.TheVariants as decision
+use Rattle.sb_trace.specs.declared.state.Flight.{Flight}
+use Rattle.sb_trace.specs.State.{State, thread_at, flight_at}
+use Rattle.sb_trace.specs.Registers.{rsi}
+use Rattle.sb_trace.specs.Flight.{flight_binding, is_key, bound_pool, decided_at}
+use Rattle.sb_trace.specs.Windows.{shown}
+use Rattle.sb_trace.specs.PlainMemory.{plain}
+use Rattle.sb_trace.specs.Start.{ProcessImage, ThreadEntry, start_state}
+use Rattle.sb_trace.specs.Run.{RunBy}
+use Rattle.sb_trace.specs.Step.{Steps}
+use Rattle.sb_trace.specs.OneStep.{StepsOnce, StepsAlike, without_flights, without_landings, core_of}
+use Rattle.sb_trace.specs.Sound.{IsSound, switch_address}
+use Rattle.sb_trace.specs.Changes.{StepChanges}
+
+-- ---- sound states
+
+abbrev pub HasCleanCode : ProcessImage → Type 0
+HasCleanCode image = HasNoPattern image.text × HasNoPattern image.area
+
+-- images whose texts and rewrite areas hold VMFUNC's bytes nowhere start a sound state
+abbrev pub StartIsSound : Type 0
+StartIsSound =
+    (images : List ProcessImage) (entries : List ThreadEntry) (free : ℕ) (keys : List ℕ)
+    → AllByRecursion HasCleanCode images → IsSound (start_state images entries free keys)
+
+abbrev pub StepsKeepSound : Type 0
+StepsKeepSound = (old : State) (core : ℕ) (event : Event) (new : State) → IsSound old → Steps old core event new → IsSound new
+
+abbrev pub RunsKeepSound : Type 0
+RunsKeepSound = (old : State) (cores : List ℕ) (lines : List Line) (new : State) → IsSound old → RunBy Steps old cores lines new → IsSound new
+
+-- ---- the laws
+
+-- from each state and list of cores there is one run of a machine
+abbrev pub HasOneRun : (State → ℕ → Event → State → Type 0) → Type 0
+HasOneRun step =
+    (old new another : State) (cores : List ℕ) (lines others : List Line) → RunBy step old cores lines new → RunBy step old cores others another
+    → (lines ≡ others) × (new ≡ another)
+
+-- a step of a landing leaves the machine that calls in one step where it is, and each other step is one of its steps
+abbrev pub StepsDrop : Type 0
+StepsDrop = (old : State) (core : ℕ) (event : Event) (new : State) → IsSound old → Steps old core event new → StepsAlike old core event new
+
+-- Without the landing lines and their entries of the schedule, a run is one of the machine that calls in one step.
+abbrev pub LandingsDrop : Type 0
+LandingsDrop =
+    (old : State) (cores : List ℕ) (lines : List Line) (new : State) → IsSound old → RunBy Steps old cores lines new
+    → RunBy StepsOnce (without_flights old) (map core_of (without_landings lines)) (without_landings lines) (without_flights new)
+
+-- the decision of a flight's phase, if it decides
+abbrev pub decision_at : State → ℕ → Flight → Option Decision
+decision_at state number flight =
+    decided_at flight.phase (is_key (flight_binding (thread_at state number) flight) (rsi (thread_at state number).regs))
+    (bound_pool state (flight_binding (thread_at state number) flight)) flight.mask
+
+-- the line of a decision
+abbrev pub IsLineOf : Decision → ℕ → Event → Type 0
+IsLineOf decision.WrongKey index event = event ≡ WrongKey index
+IsLineOf decision.PoolEmpty index event = event ≡ PoolEmpty index
+IsLineOf decision.Entered index event = (slot : ℕ) × (event ≡ Entered index slot)
+
+abbrev pub IsFlightLine : ℕ → Option Decision → ℕ → Event → Type 0
+IsFlightLine phase None index event = event ≡ Landing phase
+IsFlightLine phase (Some decided) index event = IsLineOf decided index event
+
+-- A step in flight has the landing line of its phase, or that of the decision.
+abbrev pub FlightLines : Type 0
+FlightLines =
+    (old : State) (core : ℕ) (event : Event) (new : State) (flight : Flight) → IsSound old → Steps old core event new → flight_at old core ≡ Some flight
+    → IsFlightLine flight.phase (decision_at old core flight) flight.index event
+
+-- what a step may change
+abbrev pub StepsChange : Type 0
+StepsChange = (old : State) (core : ℕ) (event : Event) (new : State) → Steps old core event new → StepChanges old core event new
+
+-- VMFUNC's bytes stand at three consecutive addresses, each of which may be fetched, at one address only, in every view of
+-- every thread
+abbrev pub HasOneSwitch : State → Type 0
+HasOneSwitch state =
+    (thread view address : ℕ) → Stands (fetch_of (plain thread view) state) address pattern → address % 2 ^ 64 ≡ switch_address
+
+abbrev pub OnePattern : Type 0
+OnePattern = (state : State) → IsSound state → HasOneSwitch state
+
+-- and there they do stand, in each view that shows a process
+abbrev pub SwitchStands : Type 0
+SwitchStands =
+    (state : State) (thread view process address : ℕ) → IsSound state → shown state.threads thread view ≡ Some process
+    → address % 2 ^ 64 ≡ switch_address → Stands (fetch_of (plain thread view) state) address pattern

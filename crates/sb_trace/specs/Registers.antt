@@ -1,0 +1,28 @@
+-- Registers by name (SDM volume 2, section 2.2.1), and the values that the kernel puts into them.
+use Rattle.std.specs.Prelude.{ℕ, ◌%◌, ◌^◌, true, false, slice_index}
+use Rattle.sb_insn.specs.declared.registers.Flags.{Flags}
+use Rattle.sb_insn.specs.declared.registers.Regs.{Regs}
+
+abbrev pub rax : Regs → ℕ
+rax regs = slice_index regs.general 0
+
+abbrev pub rsi : Regs → ℕ
+rsi regs = slice_index regs.general 6
+
+abbrev pub rdi : Regs → ℕ
+rdi regs = slice_index regs.general 7
+
+-- the lower 32 bits of RAX: the leaf of VMFUNC (SDM volume 3, section 25.5.6)
+abbrev pub eax : Regs → ℕ
+eax regs = slice_index regs.general 0 % 2 ^ 32
+
+-- the lower 32 bits of RCX: the index of EPTP switching
+abbrev pub ecx : Regs → ℕ
+ecx regs = slice_index regs.general 1 % 2 ^ 32
+
+abbrev pub no_flags : Flags
+no_flags = record { cf = false; pf = false; zf = false; sf = false; of = false }
+
+-- the flags of a logical instruction whose result is 0
+abbrev pub zero_flags : Flags
+zero_flags = record { cf = false; pf = true; zf = true; sf = false; of = false }

@@ -1,0 +1,48 @@
+//! The laws of runs of the plain machine: functions without a body, each of which states one (docs/LAWS.md).
+
+ghost use Rattle.sb_trace.specs.Laws.{StartIsSound, StepsKeepSound, RunsKeepSound, LandingsDrop, StepsDrop, HasOneRun, FlightLines, StepsChange, OnePattern, SwitchStands};
+ghost use Rattle.sb_trace.specs.OneStep.{StepsOnce};
+ghost use Rattle.sb_trace.specs.Step.{Steps};
+
+/// What holds of pages, views and flights (`IsSound`) holds at the start of images whose texts and rewrite areas hold
+/// VMFUNC's bytes nowhere.
+pub fn start_is_sound()
+    ensures { StartIsSound }
+{}
+
+/// Each step keeps a state sound, and so does each run.
+pub fn steps_keep_sound()
+    ensures step { StepsKeepSound }
+    ensures run { RunsKeepSound }
+{}
+
+/// A run from a sound state, its landing lines and their entries of the schedule left out, is a run of the machine that
+/// calls in one step: the other lines in their order, and the last state without its flights.
+///
+/// `step` says it of one step. `one` and `once` say that each of the two machines has one run from a state.
+pub fn landings_can_be_dropped()
+    ensures run { LandingsDrop }
+    ensures step { StepsDrop }
+    ensures one { HasOneRun Steps }
+    ensures once { HasOneRun StepsOnce }
+{}
+
+/// A step of a thread in flight has the landing line of its phase, or, where the phase decides, the line of the decision.
+pub fn flights_decide()
+    ensures { FlightLines }
+{}
+
+/// What a step may change, by its line.
+///
+/// An instruction changes only bytes of pages that its thread may write in its view; an entry only the pool word of the
+/// server; of system calls, registration, binding and a change of mode only what they are for; and all else no page.
+/// Of threads, a step changes only the one that makes it.
+pub fn steps_change()
+    ensures { StepsChange }
+{}
+
+/// In every view of every thread, VMFUNC's bytes may be fetched at `70000040`, and at no other address.
+pub fn one_pattern()
+    ensures only { OnePattern }
+    ensures there { SwitchStands }
+{}
