@@ -1,0 +1,25 @@
+-- EPTP switching by a thread's list (SDM volume 3, section 25.5.5.3).
+use Rattle.std.specs.Prelude.{ℕ, ◌==◌, nat_lt, not, ◌&&◌, List, [], ◌∷◌, Result, Ok, Err, if◌then◌else◌}
+use Rattle.sb_memory.specs.Physical.{Physical}
+use Rattle.sb_memory.specs.Reading.{word_read}
+use Rattle.sb_memory.specs.declared.address.Missing.{Missing}
+use Rattle.sb_walks.specs.Entry.{entry_in}
+use Rattle.sb_walks.specs.Ept.{is_eptp}
+use Rattle.sb_root.specs.declared.eptp_switch.Switch.{Switch}
+use Rattle.sb_root.specs.declared.eptp_switch.Switch.TheVariants.{To, Unbound, BadLeaf}
+
+-- what an entry of the list says
+abbrev pub entry_switched : Result ℕ Missing → Result Switch Missing
+entry_switched (Ok entry) = Ok (if is_eptp entry then To entry else Unbound)
+entry_switched (Err gap) = Err gap
+
+-- the leaf function 0 by an index of the list that stands in a frame
+unfoldable pub switched : Physical → ℕ → ℕ → ℕ → Result Switch Missing
+switched memory list eax ecx =
+    if not (eax == 0) then Ok BadLeaf
+    else if not (nat_lt ecx 512) then Ok Unbound
+    else entry_switched (word_read memory (entry_in list ecx))
+
+-- the places of the words that are read for it
+unfoldable pub switch_reads : ℕ → ℕ → ℕ → List ℕ
+switch_reads list eax ecx = if (eax == 0) && nat_lt ecx 512 then entry_in list ecx ∷ [] else []

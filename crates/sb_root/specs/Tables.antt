@@ -1,0 +1,105 @@
+-- The tables of an EPT. The base and each view have four of their own: of levels 4, 3 and 2, and of level 1 for the first
+-- 2 MiB. The tables of level 1 for the other fifteen times 2 MiB are the base's, and all share them.
+use Rattle.std.specs.Prelude.{ℕ, ◌≡◌, ◌≢◌, ◌+◌, ◌/◌, ◌%◌, ◌<◌, ◌≤◌, ◌==◌, ◌&&◌, Bool, IsTrue, List, ◌∷◌, nat_lt, nat_le, get_or, if◌then◌else◌}
+use Rattle.std.specs.List.{range_with_len}
+use Rattle.sb_memory.specs.Physical.{Physical, HasSize, HasAllFrames, frame_count}
+use Rattle.sb_memory.specs.Words.{word_at}
+use Rattle.sb_walks.specs.Entry.{entry_in}
+use Rattle.sb_root.specs.declared.tables.EptTables.{EptTables}
+use Rattle.sb_root.specs.declared.view.View.{View}
+use Rattle.sb_root.specs.Entry.{eptp_to, link_to, leaf_to, is_rights}
+
+-- the tables of the base: frames 5, 6, 7 and 32
+abbrev pub base_tables : EptTables
+base_tables = record { root = record { 0 = 5 }; pointers = record { 0 = 6 }; directory = record { 0 = 7 }; first = record { 0 = 32 } }
+
+abbrev pub base_eptp : ℕ
+base_eptp = eptp_to 5
+
+-- the frame of the table of level 1 for a 2 MiB region other than the first
+abbrev pub shared_table : ℕ → ℕ
+shared_table region = 32 + region
+
+-- these tables, for the second to the sixteenth region
+unfoldable pub shared_frames : List ℕ
+shared_frames = range_with_len 33 15
+
+-- the frames that the base is built in
+abbrev pub base_frames : List ℕ
+base_frames = 5 ∷ 6 ∷ 7 ∷ 32 ∷ shared_frames
+
+-- the entries of a frame are these, by their index
+pub record IsPage (memory : Physical) (frame : ℕ) (entries : ℕ → ℕ) : Type 0 where
+  pub entry : (index : ℕ) → index < 512 → word_at memory.bytes (entry_in frame index) ≡ entries index
+
+-- these words, and zeros behind them
+abbrev pub from_start : List ℕ → ℕ → ℕ
+from_start words index = get_or words index 0
+
+-- the entries of a table of level 4 or 3: the first leads to the next table
+abbrev pub upper_entries : ℕ → ℕ → ℕ
+upper_entries next index = if index == 0 then link_to next else 0
+
+-- the entries of a table of level 2: the first leads to the table for the first 2 MiB, the next fifteen to the shared ones
+abbrev pub directory_entries : ℕ → ℕ → ℕ
+directory_entries first index =
+    if index == 0 then link_to first else if nat_lt index 16 then link_to (shared_table index) else 0
+
+-- frames 16 to 31: the roots of the processes' page tables
+abbrev pub is_root_frame : ℕ → Bool
+is_root_frame frame = nat_le 16 frame && nat_lt frame 32
+
+-- the lowest entries of the base for the first 2 MiB, by the number of the page: the home trampoline page, in frame 1, and
+-- the root frames
+unfoldable pub base_entries : ℕ → ℕ
+base_entries page =
+    if page == 1 then leaf_to 1 4
+    else if is_root_frame page then leaf_to page 1
+    else 0
+
+-- the frame of the trampoline page of a view: the server's or the home one
+abbrev pub trampoline_frame : Bool → ℕ
+trampoline_frame server = if server then 4 else 1
+
+-- the lowest entries of a view for the first 2 MiB: the base's but for four pages
+unfoldable pub view_entries : View → ℕ → ℕ
+view_entries view page =
+    if page == view.home_root.0 then leaf_to view.target_root.0 1
+    else if page == 1 then leaf_to (trampoline_frame view.server) 4
+    else if page == 2 then leaf_to view.record_page.0 1
+    else if page == 3 then leaf_to view.scratch_page.0 3
+    else base_entries page
+
+-- four tables stand in a memory, the lowest with these entries
+pub record HasTables (memory : Physical) (tables : EptTables) (entries : ℕ → ℕ) : Type 0 where
+  pub root : IsPage memory tables.root.0 (upper_entries tables.pointers.0)
+  pub pointers : IsPage memory tables.pointers.0 (upper_entries tables.directory.0)
+  pub directory : IsPage memory tables.directory.0 (directory_entries tables.first.0)
+  pub first : IsPage memory tables.first.0 entries
+  pub inside : (tables.root.0 < frame_count memory) × (tables.pointers.0 < frame_count memory) × (tables.directory.0 < frame_count memory) × (tables.first.0 < frame_count memory)
+
+-- the place of the lowest entry for a page behind the first 2 MiB
+abbrev pub shared_place : ℕ → ℕ
+shared_place page = entry_in (shared_table (page / 512)) (page % 512)
+
+-- what such an entry permits
+abbrev pub rights_in : Physical → ℕ → ℕ
+rights_in memory page = word_at memory.bytes (shared_place page) % 8
+
+-- it leads to the page's own frame of the memory, or nowhere
+pub record IsExposed (memory : Physical) (page : ℕ) : Type 0 where
+  pub possible : IsTrue (is_rights (rights_in memory page))
+  pub entry : word_at memory.bytes (shared_place page) ≡ leaf_to page (rights_in memory page)
+  pub inside : rights_in memory page ≢ 0 → page < frame_count memory
+
+-- a memory of 513 to 8,192 frames that has them all
+pub record IsRootMemory (memory : Physical) : Type 0 where
+  pub size : HasSize memory
+  pub all : HasAllFrames memory
+  pub least : 513 ≤ frame_count memory
+  pub most : frame_count memory ≤ 8192
+
+-- the base stands in a memory
+pub record HasBase (memory : Physical) : Type 0 where
+  pub tables : HasTables memory base_tables base_entries
+  pub shared : (page : ℕ) → 512 ≤ page → page < 8192 → IsExposed memory page

@@ -1,0 +1,74 @@
+//! The tables of an EPT.
+
+ghost use Rattle.std.specs.Prelude.{ℕ, ◌≡◌, ◌≢◌, ◌+◌, ◌<◌, [], ◌∷◌, length, get_or};
+ghost use Rattle.sb_memory.specs.Physical.{HasSize, frame_count};
+ghost use Rattle.sb_memory.specs.Changes.{SameOutside};
+ghost use Rattle.sb_root.specs.Entry.{link_to};
+ghost use Rattle.sb_root.specs.Tables.{IsPage, upper_entries, directory_entries as directory_entry};
+
+use crate::entry::link;
+use crate::page::put_page;
+use sb_memory::{Frame, Memory};
+
+/// The tables of an EPT that are its own, by their frames. Levels run from 4, the PML4 table, to 1.
+///
+/// The tables of level 1 for all but the first 2 MiB are the base's, and every EPT leads to them. So a page behind the first
+/// 2 MiB is mapped in all views by one entry.
+#[derive(Clone, Copy, Debug, PartialEq, Eq)]
+pub struct EptTables {
+    /// Level 4.
+    pub root: Frame,
+    /// Level 3.
+    pub pointers: Frame,
+    /// Level 2.
+    pub directory: Frame,
+    /// Level 1, for the first 2 MiB.
+    pub first: Frame,
+}
+
+/// The tables of the base.
+pub const BASE: EptTables = EptTables {
+    root: Frame(5),
+    pointers: Frame(6),
+    directory: Frame(7),
+    first: Frame(32),
+};
+
+/// How many times 2 MiB the largest memory has.
+pub const REGIONS: usize = 16;
+
+/// The frame of the base's table of level 1 for a region of 2 MiB.
+pub fn region_table(region: usize) -> Frame
+    requires { region < 16 }
+    ensures { result.0 ≡ 32 + region }
+{
+    Frame(BASE.first.0 + region as u32)
+}
+
+impl EptTables {
+    /// Writes the tables of levels 4, 3 and 2.
+    pub fn put_upper(&self, memory: &mut Memory)
+        requires inside { (self.now.root.0 < frame_count memory.old) × (self.now.pointers.0 < frame_count memory.old) × (self.now.directory.0 < frame_count memory.old) }
+        requires different { (self.now.root.0 ≢ self.now.pointers.0) × (self.now.root.0 ≢ self.now.directory.0) × (self.now.pointers.0 ≢ self.now.directory.0) }
+        ensures root { IsPage memory.new self.now.root.0 (upper_entries self.now.pointers.0) }
+        ensures pointers { IsPage memory.new self.now.pointers.0 (upper_entries self.now.directory.0) }
+        ensures directory { IsPage memory.new self.now.directory.0 (directory_entry self.now.first.0) }
+        ensures size { HasSize memory.new }
+        ensures same { SameOutside (self.now.root.0 ∷ self.now.pointers.0 ∷ self.now.directory.0 ∷ []) memory.old memory.new }
+    {
+        put_page(memory, self.root, &[link(self.pointers)]);
+        put_page(memory, self.pointers, &[link(self.directory)]);
+        put_page(memory, self.directory, &self.directory_entries());
+    }
+
+    /// The first entries of the table of level 2, one for each region.
+    fn directory_entries(&self) -> [u64; 16]
+        ensures { (index : ℕ) → get_or result index 0 ≡ directory_entry self.now.first.0 index }
+    {
+        let mut entries = [link(self.first); REGIONS];
+        for region in 1..REGIONS {
+            entries[region] = link(region_table(region));
+        }
+        entries
+    }
+}

@@ -1,0 +1,131 @@
+//! Views: EPTs that equal the base but for four pages.
+
+ghost use Rattle.std.specs.Prelude.{ℕ, ◌≡◌, ◌≢◌, ◌<◌, ◌≤◌, length, get_or};
+ghost use Rattle.sb_memory.specs.Physical.{HasSize, frame_count};
+ghost use Rattle.sb_memory.specs.Changes.{SameOutside};
+ghost use Rattle.sb_tramp.specs.Record.{words_of};
+ghost use Rattle.sb_root.specs.Tables.{HasTables, IsPage, base_entries as base_page, from_start, view_entries};
+ghost use Rattle.sb_root.specs.Root.{AreDifferent, entry_of_view, view_frames};
+ghost use Rattle.sb_root.specs.Calls.{IsZeroed};
+
+use crate::entry::{EXECUTE, READ, READ_WRITE, eptp, leaf};
+use crate::page::put_page;
+use crate::tables::EptTables;
+use sb_memory::{Frame, Memory};
+use sb_tramp::RecordWords;
+
+/// How many frames a view takes.
+pub const VIEW_FRAMES: u32 = 6;
+/// How many pages at the start of the guest-physical addresses the base and views map by entries of their own.
+const LOW_PAGES: usize = 32;
+
+/// The guest-physical page of the trampoline. It is also the frame of the home trampoline page.
+const TRAMPOLINE: u32 = 1;
+/// The guest-physical page of the view's record.
+const RECORD: u32 = 2;
+/// The guest-physical page of the view's scratch page.
+const SCRATCH: u32 = 3;
+/// The frame of the home trampoline page.
+const HOME_TRAMPOLINE: Frame = Frame(1);
+/// The frame of the server trampoline page.
+const SERVER_TRAMPOLINE: Frame = Frame(4);
+
+/// A view of a thread, by its frames and by what it shows.
+#[derive(Clone, Copy, Debug, PartialEq, Eq)]
+pub struct View {
+    pub tables: EptTables,
+    /// Read at guest-physical 2000.
+    pub record_page: Frame,
+    /// Read and written at guest-physical 3000.
+    pub scratch_page: Frame,
+    /// The page of the thread's CR3.
+    pub home_root: Frame,
+    /// Where the page of CR3 leads: the root of the page tables of the process that the view shows.
+    pub target_root: Frame,
+    /// Whether guest-physical 1000 is the server trampoline page, and not the home one.
+    pub server: bool,
+    /// Whether its pointer stands in the thread's list. The frames of a view whose entry was cleared are still taken.
+    pub listed: bool,
+}
+
+impl View {
+    /// The entry of the thread's list: the EPT pointer of the view, or 0 where it was cleared.
+    pub fn list_entry(&self) -> u64
+        ensures { result ≡ entry_of_view self.now }
+    {
+        if self.listed {
+            eptp(self.tables.root)
+        } else {
+            0
+        }
+    }
+
+    /// Writes the tables, the record page and the scratch page.
+    pub fn put(&self, memory: &mut Memory, words: &RecordWords)
+        requires inside { (part : ℕ) → part < 6 → get_or (view_frames self.now) part 0 < frame_count memory.old }
+        requires different { AreDifferent (view_frames self.now) }
+        requires home { self.now.home_root.0 < 32 }
+        ensures tables { HasTables memory.new self.now.tables (view_entries self.now) }
+        ensures words { IsPage memory.new self.now.record_page.0 (from_start (words_of words.now)) }
+        ensures scratch { IsZeroed memory.new self.now.scratch_page.0 }
+        ensures size { HasSize memory.new }
+        ensures same { SameOutside (view_frames self.now) memory.old memory.new }
+    {
+        self.tables.put_upper(memory);
+        put_page(memory, self.tables.first, &self.low_entries());
+        put_page(memory, self.record_page, &words.in_order());
+        memory.clear_frame(self.scratch_page);
+    }
+
+    /// The lowest entries of the pages that the view maps by entries of its own.
+    fn low_entries(&self) -> [u64; 32]
+        requires { self.now.home_root.0 < 32 }
+        ensures { (page : ℕ) → get_or result page 0 ≡ view_entries self.now page }
+    {
+        let mut entries = [0; LOW_PAGES];
+        for page in 0..LOW_PAGES {
+            entries[page] = self.low_entry(page as u32);
+        }
+        entries
+    }
+
+    /// The lowest entry of a page: the base's but for four pages.
+    #[tactic(auto, unfolding(crate::specs::Tables::view_entries))]
+    fn low_entry(&self, page: u32) -> u64
+        ensures { result ≡ view_entries self.now page }
+    {
+        if page == self.home_root.0 {
+            return leaf(self.target_root, READ);
+        }
+        match page {
+            TRAMPOLINE if self.server => leaf(SERVER_TRAMPOLINE, EXECUTE),
+            TRAMPOLINE => leaf(HOME_TRAMPOLINE, EXECUTE),
+            RECORD => leaf(self.record_page, READ),
+            SCRATCH => leaf(self.scratch_page, READ_WRITE),
+            _ => base_entry(page),
+        }
+    }
+}
+
+/// The lowest entries of the pages that the base maps by entries of its own.
+pub fn base_entries() -> [u64; 32]
+    ensures { (page : ℕ) → get_or result page 0 ≡ base_page page }
+{
+    let mut entries = [0; LOW_PAGES];
+    for page in 0..LOW_PAGES {
+        entries[page] = base_entry(page as u32);
+    }
+    entries
+}
+
+/// The lowest entry of a page of the base: the home trampoline page, and the roots of page tables.
+#[tactic(auto, unfolding(crate::specs::Tables::base_entries))]
+fn base_entry(page: u32) -> u64
+    ensures { result ≡ base_page page }
+{
+    match page {
+        TRAMPOLINE => leaf(HOME_TRAMPOLINE, EXECUTE),
+        16..=31 => leaf(Frame(page), READ),
+        _ => 0,
+    }
+}
