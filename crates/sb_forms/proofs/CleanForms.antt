@@ -1,0 +1,346 @@
+-- The bytes of VMFUNC stand in no form.
+use Rattle.std.proofs.Common.{◌≡◌, ℕ, ◌+◌, ◌*◌, ◌/◌, ◌%◌, ◌^◌, Bool, true, false, List, [], ◌∷◌, ◌++◌, length, Option, Some, None, refl, sym, ap, ◌∙◌, arith, subst, inl, inr, length-append, FitsSigned, ℤ, pos}
+use Rattle.std.specs.Prelude.{◌&&◌, ◌==◌, not, if◌then◌else◌}
+use Rattle.std.specs.Int.{w8, w32, w64, cast_unsigned}
+use Rattle.std.specs.Option.{option_to_list}
+use Rattle.std.proofs.Math.Facts.{sfits_to_z, Fits-of_z}
+use Rattle.std.proofs.lemmas.Bool.{or_from, and_parts, and_left, and_right, not-true, not-false, both_ways, cond_both, cond-true, ne_eqb}
+use Rattle.std.proofs.lemmas.Grind.{flat_map-append}
+use Rattle.sb_insn.specs.declared.insn.Insn.{Insn}
+use Rattle.sb_insn.specs.declared.insn.Imm.{Imm}
+use Rattle.sb_insn.specs.declared.insn.Imm.TheVariants as imm
+use Rattle.sb_insn.specs.declared.opcode_map.Instruction.{Instruction}
+use Rattle.sb_insn.specs.Spelling.{number, disp_bytes, imm_bytes, spelling}
+use Rattle.sb_insn.specs.Fields.{has_sib, is_sib_field}
+use Rattle.sb_insn.specs.Grammar.{FitsImm, IsValid}
+use Rattle.sb_insn.specs.Listing.{instruction_of}
+use Rattle.sb_forms.specs.declared.helper.Helper.{Helper}
+use Rattle.sb_forms.specs.declared.slots.Site.{Site}
+use Rattle.sb_forms.specs.declared.answer.Form.{Form}
+use Rattle.sb_forms.specs.Holding.{begins_with, holds_pattern}
+use Rattle.sb_forms.specs.Rex.{with_x_b_exchanged}
+use Rattle.sb_forms.specs.Registers.{number_of, first_helper, second_helper}
+use Rattle.sb_forms.specs.Pieces.{first_saved, second_saved, scratch_word, upper_half, save, restore, save_half, load_number, add_number, is_lowered, lowered, raise, constant, low_half, high_half, is_sib_0f, exchanged, address, jump, jump_through}
+use Rattle.sb_forms.specs.Mains.{at_helper, with_displacement, with_helper, with_constant, on_register, behind_main, load_target, load_word}
+use Rattle.sb_forms.specs.Table.{spelled, Replacement, Keep, InPlace, Unmovable, moved, is_vmfunc, is_modrm, begins_with_01_d4, begins_at_modrm, completes_pattern, nop, add_from_rm, has_memory, is_call, is_jump, jump_form, wide_constant_form, address_and_constant_form, address_form, constant_form, form_by, slot_form, slot_form_of, is_exchangeable, held_form, replacement, bytes_of, site_of, form_of}
+use Rattle.sb_forms.specs.Answers.{IsSite, IsSmall, IsCleanForm}
+use Rattle.sb_forms.proofs.Held.{not_held}
+use Rattle.sb_forms.proofs.Operands.{no_sib_0f, no_memory}
+use Rattle.sb_forms.proofs.Quiet.{last_one, IsQuiet, AreQuiet, MayFollow, skip, in_place_clean, slot_clean}
+use Rattle.sb_forms.proofs.Fronts.{valid_rex, valid_op, exchanged_rex, front_holds, front_quiet}
+use Rattle.sb_forms.proofs.QuietPieces.{save_first, save_second, save_word, save_low, save_high, restore_first, restore_second, jump_through_word, constant_quiet, address_quiet, jump_quiet}
+use Rattle.sb_forms.proofs.QuietMains.{any_start, nothing_holds, on_memory_quiet, on_register_holds, behind_quiet, with_helper_quiet, load_target_quiet, load_word_quiet, displaced_quiet}
+
+-- ---- lists of quiet instructions
+
+both_quiet : (first second : List Insn) → AreQuiet first → AreQuiet second → AreQuiet (first ++ second)
+both_quiet [] second a b = b
+both_quiet (insn ∷ first) second a b = (a.0, both_quiet first second a.1 b)
+
+-- ---- a slot that goes back
+
+moved_clean : (site : Site) (pre : List Insn) (main : Insn) (post : List Insn) → IsSite site → AreQuiet pre → MayFollow (spelled pre) (spelling main) → AreQuiet post → IsSmall (bytes_of (moved site pre main post))
+    → (insn : Insn) → IsCleanForm insn (bytes_of (moved site pre main post))
+moved_clean site pre main post place before work behind small insn =
+    let from = site.slot + length (spelled pre) + length (spelling main) + length (spelled post) in
+    let back = jump from site.next in
+    let whole = small.whole in
+    let parts : length (spelled (post ++ back ∷ [])) ≡ length (spelled post) + length (spelled (back ∷ [])) =
+    ap (λ (bytes : List ℕ). length bytes) (flat_map-append spelling post (back ∷ [])) ∙ length-append (spelled post) (spelled (back ∷ [])) in
+    let quiet : IsQuiet (spelling back) = jump_quiet from site.next (omega (arith, whole, parts, place.slot, place.behind)) (omega (arith, place.next)) in
+    slot_clean pre main (post ++ back ∷ []) before work (both_quiet post (back ∷ []) behind (quiet, tt))
+
+-- ---- the instruction is valid, and holds the pattern
+
+-- the bytes behind the opcode
+abbrev pub behind_opcode : Insn → List ℕ
+behind_opcode insn = option_to_list insn.modrm ++ (option_to_list insn.sib ++ (disp_bytes insn.disp ++ imm_bytes insn.imm))
+
+-- In another instruction than VMFUNC the pattern stands behind the opcode.
+pub behind_holds : (insn : Insn) → IsValid insn → is_vmfunc insn.op ≡ false → holds_pattern (spelling insn) ≡ holds_pattern (behind_opcode insn)
+behind_holds insn valid other = front_holds insn.lock insn.rex insn.op (behind_opcode insn) (valid_rex insn.rex valid.rex) (valid_op insn.op insn.lock insn.rex insn.modrm other valid.modrm)
+
+register_holds : (modrm : Option ℕ) (rest : List ℕ) → has_memory modrm ≡ false → holds_pattern (option_to_list modrm ++ rest) ≡ holds_pattern rest
+register_holds None rest e = refl
+register_holds (Some modrm) rest e = skip modrm rest (λ is. both_ways (has_memory (Some modrm)) e (ap (λ (m : ℕ). has_memory (Some m)) is))
+
+-- without a memory operand it stands in the immediate
+pub imm_holds : (insn : Insn) → IsValid insn → is_vmfunc insn.op ≡ false → has_memory insn.modrm ≡ false → holds_pattern (spelling insn) ≡ holds_pattern (imm_bytes insn.imm)
+imm_holds insn valid other e =
+    let none = no_memory insn.modrm insn.sib insn.disp e valid.sib valid.disp in
+    behind_holds insn valid other
+    ∙ register_holds insn.modrm (option_to_list insn.sib ++ (disp_bytes insn.disp ++ imm_bytes insn.imm)) e
+    ∙ ap (λ sib. holds_pattern (option_to_list sib ++ (disp_bytes insn.disp ++ imm_bytes insn.imm))) none.0
+    ∙ ap (λ d. holds_pattern (disp_bytes d ++ imm_bytes insn.imm)) none.1
+
+-- ---- in place
+
+nops_quiet : AreQuiet (nop ∷ nop ∷ nop ∷ [])
+unfolding holds_pattern
+nops_quiet = let one : IsQuiet (spelling nop) = record { none = refl; two = refl; one = refl } in (one, (one, (one, tt)))
+
+add_quiet : AreQuiet (add_from_rm ∷ [])
+unfolding holds_pattern
+add_quiet = (record { none = refl; two = refl; one = refl }, tt)
+
+sib_start : (modrm sib : Option ℕ) (rest : List ℕ) → is_sib_0f sib ≡ true → is_sib_field modrm sib ≡ true → begins_with last_one (option_to_list modrm ++ rest) ≡ false
+unfolding has_sib
+sib_start modrm None rest e stands = absurd cc
+sib_start None (Some sib) rest e stands = absurd cc
+sib_start (Some modrm) (Some sib) rest e stands = and_left (modrm == 0xD4) true (ne_eqb modrm 0xD4 (λ is. both_ways (has_sib modrm) (ap (λ (m : ℕ). has_sib m) is) stands))
+
+exchanged_quiet : (insn : Insn) → IsValid insn → is_vmfunc insn.op ≡ false → is_sib_0f insn.sib ≡ true → holds_pattern (spelling (exchanged insn)) ≡ false → IsQuiet (spelling (exchanged insn))
+unfolding exchanged
+exchanged_quiet insn valid other e none =
+    let rest = option_to_list insn.modrm ++ 0x39 ∷ (disp_bytes insn.disp ++ imm_bytes insn.imm) in
+    let known = valid_op insn.op insn.lock insn.rex insn.modrm other valid.modrm in
+    let range = exchanged_rex insn.rex in
+    front_quiet
+    insn.lock
+    (with_x_b_exchanged insn.rex)
+    insn.op
+    rest
+    range
+    known
+    (any_start insn.op rest (sib_start insn.modrm insn.sib (0x39 ∷ (disp_bytes insn.disp ++ imm_bytes insn.imm)) e valid.sib))
+    (sym (front_holds insn.lock (with_x_b_exchanged insn.rex) insn.op rest range known) ∙ none)
+
+-- ---- moved
+
+-- what is said of a replacement
+abbrev IsGood : Insn → Replacement → Type 0
+IsGood insn form = IsSmall (bytes_of form) → IsCleanForm insn (bytes_of form)
+
+jump_good : (instruction : Instruction) (insn : Insn) (site : Site) → IsValid insn → IsSite site → IsGood insn (jump_form instruction insn site)
+unfolding jump_form
+jump_good instruction insn site valid place small =
+    let helper = first_helper instruction.form insn in
+    slot_clean
+    (save helper first_saved ∷ address helper insn site.next)
+    (load_target helper)
+    (save helper scratch_word ∷ restore helper first_saved ∷ jump_through scratch_word ∷ [])
+    (save_first helper, address_quiet helper insn site.next valid place.next)
+    (inl (load_target_quiet helper))
+    (save_word helper, (restore_first helper, (jump_through_word, tt)))
+
+low_fits : (value : ℤ) → FitsSigned w32 (low_half value)
+unfolding low_half
+low_fits value = sfits_to_z {w = w32} {n = cast_unsigned w64 value % 2 ^ 32} (omega arith)
+
+high_fits : (value : ℤ) → FitsSigned w64 value → FitsSigned w32 (high_half value)
+unfolding high_half
+high_fits value fits =
+    let below = Fits-of_z {w = w64} {z = value} fits in
+    sfits_to_z {w = w32} {n = cast_unsigned w64 value / 2 ^ 32} (omega (arith, below.fits))
+
+wide_good : (instruction : Instruction) (insn : Insn) (site : Site) (value : ℤ) → IsSite site → FitsSigned w64 value → IsGood insn (wide_constant_form instruction insn site value)
+unfolding wide_constant_form
+wide_good instruction insn site value place fits small =
+    let helper = first_helper instruction.form insn in
+    let low = constant helper (low_half value) in
+    let high = constant helper (high_half value) in
+    let first : AreQuiet (save helper first_saved ∷ low) = (save_first helper, constant_quiet helper (low_half value) (low_fits value)) in
+    let kept = both_quiet (save helper first_saved ∷ low) (save_half helper scratch_word ∷ []) first (save_low helper, tt) in
+    let again = both_quiet (save helper first_saved ∷ low ++ save_half helper scratch_word ∷ []) high kept (constant_quiet helper (high_half value) (high_fits value fits)) in
+    moved_clean
+    site
+    (save helper first_saved ∷ low ++ save_half helper scratch_word ∷ [] ++ high ++ save_half helper upper_half ∷ [])
+    (load_word insn)
+    (restore helper first_saved ∷ [])
+    place
+    (both_quiet (save helper first_saved ∷ low ++ save_half helper scratch_word ∷ [] ++ high) (save_half helper upper_half ∷ []) again (save_high helper, tt))
+    (inl (load_word_quiet insn))
+    (restore_first helper, tt)
+    small
+    insn
+
+address_and_constant_good : (instruction : Instruction) (insn : Insn) (site : Site) (value : ℤ) → IsValid insn → IsSite site → FitsSigned w32 value → IsGood insn (address_and_constant_form instruction insn site value)
+unfolding address_and_constant_form
+address_and_constant_good instruction insn site value valid place fits small =
+    let helper = first_helper instruction.form insn in
+    let second = second_helper instruction.form insn in
+    moved_clean
+    site
+    (save helper first_saved ∷ save second second_saved ∷ address helper insn site.next ++ constant second value)
+    (with_constant instruction.mnemonic insn (at_helper helper) second)
+    (behind_main instruction.mnemonic insn second ++ restore helper first_saved ∷ restore second second_saved ∷ [])
+    place
+    (save_first helper, (save_second second, both_quiet (address helper insn site.next) (constant second value) (address_quiet helper insn site.next valid place.next) (constant_quiet second value fits)))
+    (inl (on_memory_quiet instruction.mnemonic insn helper second))
+    (both_quiet (behind_main instruction.mnemonic insn second) (restore helper first_saved ∷ restore second second_saved ∷ []) (behind_quiet instruction.mnemonic insn second) (restore_first helper, (restore_second second, tt)))
+    small
+    insn
+
+address_good : (instruction : Instruction) (insn : Insn) (site : Site) → IsValid insn → is_vmfunc insn.op ≡ false → IsSite site → holds_pattern (imm_bytes insn.imm) ≡ false → IsGood insn (address_form instruction insn site)
+unfolding address_form
+address_good instruction insn site valid other place none small =
+    let helper = first_helper instruction.form insn in
+    moved_clean
+    site
+    (save helper first_saved ∷ address helper insn site.next)
+    (with_helper helper insn)
+    (restore helper first_saved ∷ [])
+    place
+    (save_first helper, address_quiet helper insn site.next valid place.next)
+    (inl (with_helper_quiet helper insn (valid_rex insn.rex valid.rex) (valid_op insn.op insn.lock insn.rex insn.modrm other valid.modrm) none))
+    (restore_first helper, tt)
+    small
+    insn
+
+-- a lowered constant is raised last, which ends with 00
+lowered_end : (helper : Helper) (value : ℤ) → is_lowered value ≡ true → (front : List ℕ) × (spelled (save helper first_saved ∷ constant helper value) ≡ front ++ 0 ∷ [])
+unfolding save constant raise load_number add_number
+lowered_end helper value e =
+    let first = spelling (save helper first_saved) ++ (spelling (load_number helper (lowered value)) ++ 0x48 ∷ 0x8D ∷ (0x80 + 9 * number_of helper) ∷ 0 ∷ 1 ∷ 0 ∷ []) in (
+      first,
+      ap (λ (last : List Insn). spelled (save helper first_saved ∷ load_number helper (lowered value) ∷ last)) (cond-true (is_lowered value) (add_number helper (pos 0x100) ∷ []) [] e),
+    )
+
+constant_good : (instruction : Instruction) (insn : Insn) (site : Site) (value : ℤ) → IsSite site → FitsSigned w32 value → is_lowered value ≡ true → IsGood insn (constant_form instruction insn site value)
+unfolding constant_form
+constant_good instruction insn site value place fits lowers small =
+    let helper = first_helper instruction.form insn in
+    moved_clean
+    site
+    (save helper first_saved ∷ constant helper value)
+    (on_register instruction.mnemonic instruction.form insn helper)
+    (behind_main instruction.mnemonic insn helper ++ restore helper first_saved ∷ [])
+    place
+    (save_first helper, constant_quiet helper value fits)
+    (inr (on_register_holds instruction.mnemonic instruction.form insn helper, lowered_end helper value lowers))
+    (both_quiet (behind_main instruction.mnemonic insn helper) (restore helper first_saved ∷ []) (behind_quiet instruction.mnemonic insn helper) (restore_first helper, tt))
+    small
+    insn
+
+-- ---- which form applies
+
+-- no pattern stands in one byte
+pub byte_holds : (byte : ℕ) → holds_pattern (byte ∷ []) ≡ false
+unfolding holds_pattern
+byte_holds byte = or_from ((byte == 0x0F) && false) false (and_right (byte == 0x0F) false refl) refl
+
+-- a valid instruction that is not VMFUNC, and holds the pattern
+pub record IsHeld (insn : Insn) : Type 0 where
+  pub valid : IsValid insn
+  pub other : is_vmfunc insn.op ≡ false
+  pub held : holds_pattern (spelling insn) ≡ true
+
+-- an immediate without a memory operand holds it
+imm_lowered : (insn : Insn) (value : ℤ) → IsHeld insn → insn.imm ≡ imm.I32 value → has_memory insn.modrm ≡ false → is_lowered value ≡ true
+imm_lowered insn value held is alone =
+    sym (ap (λ i. holds_pattern (imm_bytes i)) is) ∙ sym (imm_holds insn held.valid held.other alone) ∙ held.held
+
+by_good : (instruction : Instruction) (insn : Insn) (site : Site) (immediate : Imm) → IsHeld insn → IsSite site → insn.imm ≡ immediate → FitsImm immediate → IsGood insn (form_by instruction insn site immediate)
+by_good instruction insn site (imm.I64 value) held place is fits = wide_good instruction insn site value place fits
+by_good instruction insn site (imm.I32 value) held place is fits =
+    cond_both
+    (has_memory insn.modrm)
+    (if holds_pattern (number w32 value) then address_and_constant_form instruction insn site value else address_form instruction insn site)
+    (constant_form instruction insn site value)
+    (λ form. IsGood insn form)
+    (λ memory.
+    cond_both
+    (holds_pattern (number w32 value))
+    (address_and_constant_form instruction insn site value)
+    (address_form instruction insn site)
+    (λ form. IsGood insn form)
+    (λ _. address_and_constant_good instruction insn site value held.valid place fits)
+    (λ none. address_good instruction insn site held.valid held.other place (ap (λ i. holds_pattern (imm_bytes i)) is ∙ none)))
+    (λ alone. constant_good instruction insn site value place fits (imm_lowered insn value held is alone))
+by_good instruction insn site imm.None held place is fits =
+    address_good instruction insn site held.valid held.other place (ap (λ i. holds_pattern (imm_bytes i)) is ∙ nothing_holds)
+by_good instruction insn site (imm.I8 value) held place is fits =
+    address_good instruction insn site held.valid held.other place (ap (λ i. holds_pattern (imm_bytes i)) is ∙ byte_holds (cast_unsigned w8 value % 256))
+
+slot_good : (instruction : Instruction) (insn : Insn) (site : Site) → IsHeld insn → IsSite site → IsGood insn (slot_form instruction insn site)
+unfolding slot_form
+slot_good instruction insn site held place =
+    let behind = form_by instruction insn site insn.imm in
+    let through = jump_form instruction insn site in
+    cond_both
+    (has_memory insn.modrm && is_call instruction.mnemonic)
+    Unmovable
+    (if has_memory insn.modrm && is_jump instruction.mnemonic then through else behind)
+    (λ form. IsGood insn form)
+    (λ _ small. tt)
+    (λ _.
+    cond_both
+    (has_memory insn.modrm && is_jump instruction.mnemonic)
+    through
+    behind
+    (λ form. IsGood insn form)
+    (λ _. jump_good instruction insn site held.valid place)
+    (λ _. by_good instruction insn site insn.imm held place refl held.valid.imm_fits))
+
+slot_of_good : (instruction : Option Instruction) (insn : Insn) (site : Site) → IsHeld insn → IsSite site → IsGood insn (slot_form_of instruction insn site)
+slot_of_good None insn site held place small = tt
+slot_of_good (Some instruction) insn site held place small = slot_good instruction insn site held place small
+
+displaced_good : (insn : Insn) (site : Site) → IsHeld insn → IsSite site → begins_at_modrm insn ≡ true → IsGood insn (moved site [] (with_displacement insn) [])
+displaced_good insn site held place e small =
+    let parts = and_parts (is_modrm 0x0F insn.modrm) (begins_with_01_d4 insn.imm) e in
+    let known = valid_op insn.op insn.lock insn.rex insn.modrm held.other held.valid.modrm in
+    let quiet = displaced_quiet insn (valid_rex insn.rex held.valid.rex) known (no_sib_0f insn.modrm insn.sib parts.0 held.valid.sib) parts.1 in
+    moved_clean site [] (with_displacement insn) [] place tt (inl quiet) tt small insn
+
+exchanged_good : (insn : Insn) → IsHeld insn → is_exchangeable insn ≡ true → IsGood insn (InPlace (exchanged insn ∷ []))
+exchanged_good insn held e small =
+    let parts = and_parts (is_sib_0f insn.sib) (not (holds_pattern (spelling (exchanged insn)))) e in
+    in_place_clean (exchanged insn ∷ []) (exchanged_quiet insn held.valid held.other parts.0 (not-true (holds_pattern (spelling (exchanged insn))) parts.1), tt)
+
+held_good : (insn : Insn) (site : Site) → IsHeld insn → IsSite site → IsGood insn (held_form insn site)
+unfolding held_form
+held_good insn site held place =
+    let displaced = moved site [] (with_displacement insn) [] in
+    let behind = slot_form_of (instruction_of insn) insn site in
+    cond_both
+    (is_exchangeable insn)
+    (InPlace (exchanged insn ∷ []))
+    (if begins_at_modrm insn then displaced else behind)
+    (λ form. IsGood insn form)
+    (λ e. exchanged_good insn held e)
+    (λ _.
+    cond_both
+    (begins_at_modrm insn)
+    displaced
+    behind
+    (λ form. IsGood insn form)
+    (λ e. displaced_good insn site held place e)
+    (λ _. slot_of_good (instruction_of insn) insn site held place))
+
+replacement_good : (insn : Insn) (site : Site) (after_0f : Bool) → IsValid insn → IsSite site → IsGood insn (replacement insn site after_0f)
+unfolding replacement
+replacement_good insn site after_0f valid place =
+    let held = held_form insn site in
+    let kept = if not (holds_pattern (spelling insn)) then Keep else held in
+    let added = if completes_pattern insn after_0f then InPlace (add_from_rm ∷ []) else kept in
+    cond_both
+    (is_vmfunc insn.op)
+    (InPlace (nop ∷ nop ∷ nop ∷ []))
+    added
+    (λ form. IsGood insn form)
+    (λ _ small. in_place_clean (nop ∷ nop ∷ nop ∷ []) nops_quiet)
+    (λ other.
+    cond_both
+    (completes_pattern insn after_0f)
+    (InPlace (add_from_rm ∷ []))
+    kept
+    (λ form. IsGood insn form)
+    (λ _ small. in_place_clean (add_from_rm ∷ []) add_quiet)
+    (λ _.
+    cond_both
+    (not (holds_pattern (spelling insn)))
+    Keep
+    held
+    (λ form. IsGood insn form)
+    (λ none small. not_held (spelling insn) (not-true (holds_pattern (spelling insn)) none))
+    (λ some. held_good insn site (record { valid = valid; other = other; held = not-false (holds_pattern (spelling insn)) some }) place)))
+
+-- what stands in place of an instruction
+pub form_clean : (insn : Insn) (at slot : ℕ) (after_0f : Bool) (form : Form) → IsValid insn → IsSite (site_of insn at slot) → form ≡ form_of insn at slot after_0f → IsSmall form → IsCleanForm insn form
+unfolding form_of
+form_clean insn at slot after_0f form valid place is small =
+    subst
+    (λ f. IsCleanForm insn f)
+    (sym is)
+    (replacement_good insn (site_of insn at slot) after_0f valid place (subst (λ f. IsSmall f) is small))

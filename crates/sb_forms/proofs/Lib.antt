@@ -1,0 +1,13 @@
+pub mod Held
+pub mod Lowered
+pub mod Spelled
+pub mod Lengths
+pub mod Maps
+pub mod Operands
+pub mod Quiet
+pub mod Fronts
+pub mod QuietPieces
+pub mod QuietMains
+pub mod CleanForms
+pub mod Room
+pub mod Where

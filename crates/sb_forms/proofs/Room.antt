@@ -1,0 +1,260 @@
+-- How many bytes stand in place of an instruction, and that a jump has room in one that is moved.
+use Rattle.std.proofs.Common.{◌≡◌, ℕ, zero, suc, ◌+◌, ◌≤◌, ◌<◌, Bool, true, false, List, [], ◌∷◌, ◌++◌, length, get_or, Option, Some, None, refl, sym, ap, ◌∙◌, arith, subst, ⊎_elim, length-append}
+use Rattle.std.specs.Prelude.{◌&&◌, not, if◌then◌else◌}
+use Rattle.std.specs.Int.{w32}
+use Rattle.std.specs.Option.{option_to_list}
+use Rattle.std.proofs.lemmas.Bool.{and_parts, cases_lt, cond_both, not-false, eqb-true}
+use Rattle.std.proofs.lemmas.List.{get_or_past}
+use Rattle.sb_insn.specs.declared.insn.Insn.{Insn}
+use Rattle.sb_insn.specs.declared.insn.Op.{Op}
+use Rattle.sb_insn.specs.declared.insn.Op.TheVariants.{One, Two, Endbr, Vmfunc}
+use Rattle.sb_insn.specs.declared.insn.Imm.{Imm}
+use Rattle.sb_insn.specs.declared.insn.Imm.TheVariants as imm
+use Rattle.sb_insn.specs.declared.insn.Disp.{Disp}
+use Rattle.sb_insn.specs.declared.insn.Disp.TheVariants as disp
+use Rattle.sb_insn.specs.OpcodeMap.{one_byte, cell_of}
+use Rattle.sb_insn.specs.Spelling.{number, lock_bytes, op_bytes, disp_bytes, imm_bytes, spelling}
+use Rattle.sb_insn.specs.Fields.{is_none, is_modrm_field, is_sib_field, has_sib, modrm_disp, permits, disp_kind_of, kind_of_disp, rule_of, imm_kind_of, kind_of_imm}
+use Rattle.sb_insn.specs.Grammar.{IsValid}
+use Rattle.sb_insn.specs.declared.opcode_map.Instruction.{Instruction}
+use Rattle.sb_insn.specs.Listing.{instruction_of}
+use Rattle.sb_scan.specs.Pattern.{HasPatternAt}
+use Rattle.sb_forms.specs.declared.slots.Site.{Site}
+use Rattle.sb_forms.specs.declared.answer.Form.{Form}
+use Rattle.sb_forms.specs.Holding.{holds_pattern}
+use Rattle.sb_forms.specs.Pieces.{is_sib_0f, exchanged}
+use Rattle.sb_forms.specs.Mains.{with_displacement}
+use Rattle.sb_forms.specs.Table.{Replacement, Keep, InPlace, Unmovable, moved, is_vmfunc, is_one_byte, is_modrm, is_add_esp_edx, begins_at_modrm, completes_pattern, nop, add_from_rm, has_memory, is_call, is_jump, jump_form, wide_constant_form, address_and_constant_form, address_form, constant_form, form_by, slot_form, slot_form_of, is_exchangeable, held_form, replacement, bytes_of, site_of, form_of}
+use Rattle.sb_forms.specs.Answers.{IsSmall, HasRoom}
+use Rattle.sb_forms.proofs.Held.{holds_at}
+use Rattle.sb_forms.proofs.Lengths.{spelling_length, exchanged_length}
+use Rattle.sb_forms.proofs.Operands.{bare_0f, modrm_is}
+use Rattle.sb_forms.proofs.CleanForms.{IsHeld, behind_opcode, behind_holds}
+
+-- ---- an instruction that holds the pattern has five bytes
+
+within : (bytes : List ℕ) (place : ℕ) → 0 < get_or bytes place 0 → place < length bytes
+within bytes place some = let past : length bytes ≤ place → get_or bytes place 0 ≡ 0 = get_or_past bytes place 0 in grind arith
+
+few_at : (bytes : List ℕ) (place : ℕ) → length bytes ≤ 3 → HasPatternAt bytes place → (length bytes ≡ 3) × (get_or bytes 0 0 ≡ 0x0F)
+few_at bytes zero few stands = (omega (arith, few, within bytes 2 (omega (arith, stands.2))), stands.0)
+few_at bytes (suc place) few stands = absurd (omega (arith, few, within bytes (suc place + 2) (omega (arith, stands.2))))
+
+few : (bytes : List ℕ) → length bytes ≤ 3 → holds_pattern bytes ≡ true → (length bytes ≡ 3) × (get_or bytes 0 0 ≡ 0x0F)
+few bytes short e = let found = holds_at bytes e in few_at bytes found.0 short found.1
+
+no_imm_2 : (immediate : Imm) → length (imm_bytes immediate) ≡ 2 → ⊥
+no_imm_2 imm.None e = omega (arith, e)
+no_imm_2 (imm.I8 value) e = omega (arith, e)
+no_imm_2 (imm.I32 value) e = omega (arith, e)
+no_imm_2 (imm.I64 value) e = omega (arith, e)
+
+no_imm_3 : (immediate : Imm) → length (imm_bytes immediate) ≡ 3 → ⊥
+no_imm_3 imm.None e = omega (arith, e)
+no_imm_3 (imm.I8 value) e = omega (arith, e)
+no_imm_3 (imm.I32 value) e = omega (arith, e)
+no_imm_3 (imm.I64 value) e = omega (arith, e)
+
+-- three bytes behind the opcode would begin with ModRM 0F, which has an immediate alone behind it
+not_three : (modrm sib : Option ℕ) (displacement : Disp) (immediate : Imm) → is_sib_field modrm sib ≡ true → kind_of_disp displacement ≡ disp_kind_of modrm sib
+    → length (option_to_list modrm ++ (option_to_list sib ++ (disp_bytes displacement ++ imm_bytes immediate))) ≡ 3
+    → get_or (option_to_list modrm ++ (option_to_list sib ++ (disp_bytes displacement ++ imm_bytes immediate))) 0 0 ≡ 0x0F → ⊥
+not_three None (Some sib) displacement immediate stands kind three first = absurd cc
+not_three None None disp.None immediate stands kind three first = no_imm_3 immediate three
+not_three None None (disp.D8 value) immediate stands kind three first = absurd cc
+not_three None None (disp.D32 value) immediate stands kind three first = absurd cc
+not_three (Some modrm) sib displacement immediate stands kind three first =
+    let bare = bare_0f modrm sib displacement first stands kind in
+    let rest : length (option_to_list sib ++ (disp_bytes displacement ++ imm_bytes immediate)) ≡ length (imm_bytes immediate) =
+    ap (λ s. length (option_to_list s ++ (disp_bytes displacement ++ imm_bytes immediate))) bare.0 ∙ ap (λ d. length (disp_bytes d ++ imm_bytes immediate)) bare.1 in
+    no_imm_2 immediate (omega (arith, rest, three))
+
+behind_4 : (insn : Insn) → IsHeld insn → 4 ≤ length (behind_opcode insn)
+behind_4 insn held =
+    ⊎_elim
+    (λ short.
+    let found = few (behind_opcode insn) (omega (arith, short)) (sym (behind_holds insn held.valid held.other) ∙ held.held) in
+    absurd (not_three insn.modrm insn.sib insn.disp insn.imm held.valid.sib held.valid.disp found.0 found.1))
+    (λ long. long)
+    (cases_lt (length (behind_opcode insn)) 4)
+
+op_1 : (op : Op) → 1 ≤ length (op_bytes op)
+op_1 (One opcode) = omega arith
+op_1 (Two opcode) = omega arith
+op_1 Endbr = omega arith
+op_1 Vmfunc = omega arith
+
+pub held_5 : (insn : Insn) → IsHeld insn → 5 ≤ length (spelling insn)
+held_5 insn held =
+    let a = length-append (option_to_list insn.modrm) (option_to_list insn.sib ++ (disp_bytes insn.disp ++ imm_bytes insn.imm)) in
+    let b = length-append (option_to_list insn.sib) (disp_bytes insn.disp ++ imm_bytes insn.imm) in
+    let c = length-append (disp_bytes insn.disp) (imm_bytes insn.imm) in
+    omega (arith, spelling_length insn, behind_4 insn held, op_1 insn.op, a, b, c)
+
+-- ---- VMFUNC has three bytes, and ADD ESP, EDX has two
+
+-- no other field stands
+abbrev others : Bool → Option ℕ → Option ℕ → Disp → Imm → ℕ
+others lock rex sib displacement immediate = length (lock_bytes lock) + length (option_to_list rex) + length (option_to_list sib) + length (disp_bytes displacement) + length (imm_bytes immediate)
+
+vmfunc_alone : (lock : Bool) (rex modrm sib : Option ℕ) (displacement : Disp) (immediate : Imm) → is_modrm_field (cell_of Vmfunc) lock rex modrm ≡ true → is_sib_field modrm sib ≡ true
+    → kind_of_disp displacement ≡ disp_kind_of modrm sib → kind_of_imm immediate ≡ imm_kind_of (rule_of (cell_of Vmfunc) modrm) rex → others lock rex sib displacement immediate + length (option_to_list modrm) ≡ 0
+vmfunc_alone lock rex (Some modrm) sib displacement immediate e s d i = absurd cc
+vmfunc_alone true rex None sib displacement immediate e s d i = absurd cc
+vmfunc_alone false (Some rex) None sib displacement immediate e s d i = absurd cc
+vmfunc_alone false None None (Some sib) displacement immediate e s d i = absurd cc
+vmfunc_alone false None None None (disp.D8 value) immediate e s d i = absurd cc
+vmfunc_alone false None None None (disp.D32 value) immediate e s d i = absurd cc
+vmfunc_alone false None None None disp.None imm.None e s d i = refl
+vmfunc_alone false None None None disp.None (imm.I8 value) e s d i = absurd cc
+vmfunc_alone false None None None disp.None (imm.I32 value) e s d i = absurd cc
+vmfunc_alone false None None None disp.None (imm.I64 value) e s d i = absurd cc
+
+vmfunc_fields : (op : Op) (lock : Bool) (rex modrm sib : Option ℕ) (displacement : Disp) (immediate : Imm) → is_vmfunc op ≡ true → is_modrm_field (cell_of op) lock rex modrm ≡ true → is_sib_field modrm sib ≡ true
+    → kind_of_disp displacement ≡ disp_kind_of modrm sib → kind_of_imm immediate ≡ imm_kind_of (rule_of (cell_of op) modrm) rex
+    → others lock rex sib displacement immediate + length (option_to_list modrm) + length (op_bytes op) ≡ 3
+vmfunc_fields (One opcode) lock rex modrm sib displacement immediate is e s d i = absurd cc
+vmfunc_fields (Two opcode) lock rex modrm sib displacement immediate is e s d i = absurd cc
+vmfunc_fields Endbr lock rex modrm sib displacement immediate is e s d i = absurd cc
+vmfunc_fields Vmfunc lock rex modrm sib displacement immediate is e s d i = omega (arith, vmfunc_alone lock rex modrm sib displacement immediate e s d i)
+
+vmfunc_3 : (insn : Insn) → IsValid insn → is_vmfunc insn.op ≡ true → length (spelling insn) ≡ 3
+vmfunc_3 insn valid is = omega (arith, spelling_length insn, vmfunc_fields insn.op insn.lock insn.rex insn.modrm insn.sib insn.disp insn.imm is valid.modrm valid.sib valid.disp valid.imm)
+
+-- what the fields of such an instruction come to
+abbrev HasTwo : Bool → Option ℕ → Option ℕ → Disp → Imm → Op → Option ℕ → Type 0
+HasTwo lock rex sib displacement immediate op modrm =
+    is_none rex ≡ true → is_modrm_field (cell_of op) lock rex modrm ≡ true → is_sib_field modrm sib ≡ true → kind_of_disp displacement ≡ disp_kind_of modrm sib
+    → kind_of_imm immediate ≡ imm_kind_of (rule_of (cell_of op) modrm) rex → others lock rex sib displacement immediate + length (option_to_list modrm) + length (op_bytes op) ≡ 2
+
+add_fields : (lock : Bool) (rex sib : Option ℕ) (displacement : Disp) (immediate : Imm) → HasTwo lock rex sib displacement immediate (One 0x01) (Some 0xD4)
+unfolding one_byte permits has_sib modrm_disp
+add_fields lock (Some rex) sib displacement immediate none e s d i = absurd cc
+add_fields true None sib displacement immediate none e s d i = absurd cc
+add_fields false None (Some sib) displacement immediate none e s d i = absurd cc
+add_fields false None None (disp.D8 value) immediate none e s d i = absurd cc
+add_fields false None None (disp.D32 value) immediate none e s d i = absurd cc
+add_fields false None None disp.None imm.None none e s d i = refl
+add_fields false None None disp.None (imm.I8 value) none e s d i = absurd cc
+add_fields false None None disp.None (imm.I32 value) none e s d i = absurd cc
+add_fields false None None disp.None (imm.I64 value) none e s d i = absurd cc
+
+one_byte_is : (opcode : ℕ) (op : Op) → is_one_byte opcode op ≡ true → op ≡ One opcode
+one_byte_is opcode (One other) e = ap (λ (byte : ℕ). One byte) (sym (eqb-true opcode other e))
+one_byte_is opcode (Two other) e = absurd cc
+one_byte_is opcode Endbr e = absurd cc
+one_byte_is opcode Vmfunc e = absurd cc
+
+add_2 : (insn : Insn) → IsValid insn → is_add_esp_edx insn ≡ true → length (spelling insn) ≡ 2
+add_2 insn valid e =
+    let parts = and_parts (is_none insn.rex) (is_one_byte 0x01 insn.op && is_modrm 0xD4 insn.modrm) e in
+    let behind = and_parts (is_one_byte 0x01 insn.op) (is_modrm 0xD4 insn.modrm) parts.1 in
+    let fields : HasTwo insn.lock insn.rex insn.sib insn.disp insn.imm insn.op insn.modrm =
+    subst
+    (λ op. HasTwo insn.lock insn.rex insn.sib insn.disp insn.imm op insn.modrm)
+    (sym (one_byte_is 0x01 insn.op behind.0))
+    (subst (λ modrm. HasTwo insn.lock insn.rex insn.sib insn.disp insn.imm (One 0x01) modrm) (sym (modrm_is 0xD4 insn.modrm behind.1)) (add_fields insn.lock insn.rex insn.sib insn.disp insn.imm)) in
+    omega (arith, spelling_length insn, fields parts.0 valid.modrm valid.sib valid.disp valid.imm)
+
+-- ---- every replacement
+
+-- what is said of a replacement
+abbrev IsRoomy : Insn → Replacement → Type 0
+IsRoomy insn form = IsSmall (bytes_of form) → HasRoom insn (bytes_of form)
+
+by_roomy : (instruction : Instruction) (insn : Insn) (site : Site) (immediate : Imm) → 5 ≤ length (spelling insn) → IsRoomy insn (form_by instruction insn site immediate)
+unfolding wide_constant_form address_and_constant_form address_form constant_form
+by_roomy instruction insn site (imm.I64 value) long = λ small. (long, small)
+by_roomy instruction insn site (imm.I32 value) long =
+    cond_both
+    (has_memory insn.modrm)
+    (if holds_pattern (number w32 value) then address_and_constant_form instruction insn site value else address_form instruction insn site)
+    (constant_form instruction insn site value)
+    (λ form. IsRoomy insn form)
+    (λ _.
+    cond_both
+    (holds_pattern (number w32 value))
+    (address_and_constant_form instruction insn site value)
+    (address_form instruction insn site)
+    (λ form. IsRoomy insn form)
+    (λ _ small. (long, small))
+    (λ _ small. (long, small)))
+    (λ _ small. (long, small))
+by_roomy instruction insn site _ long = λ small. (long, small)
+
+slot_roomy : (instruction : Option Instruction) (insn : Insn) (site : Site) → 5 ≤ length (spelling insn) → IsRoomy insn (slot_form_of instruction insn site)
+unfolding slot_form jump_form
+slot_roomy None insn site long = λ small. tt
+slot_roomy (Some instruction) insn site long =
+    let behind = form_by instruction insn site insn.imm in
+    let through = jump_form instruction insn site in
+    cond_both
+    (has_memory insn.modrm && is_call instruction.mnemonic)
+    Unmovable
+    (if has_memory insn.modrm && is_jump instruction.mnemonic then through else behind)
+    (λ form. IsRoomy insn form)
+    (λ _ small. tt)
+    (λ _.
+    cond_both
+    (has_memory insn.modrm && is_jump instruction.mnemonic)
+    through
+    behind
+    (λ form. IsRoomy insn form)
+    (λ _ small. (long, small))
+    (λ _. by_roomy instruction insn site insn.imm long))
+
+held_roomy : (insn : Insn) (site : Site) → IsHeld insn → IsRoomy insn (held_form insn site)
+unfolding held_form
+held_roomy insn site held =
+    let displaced = moved site [] (with_displacement insn) [] in
+    let behind = slot_form_of (instruction_of insn) insn site in
+    cond_both
+    (is_exchangeable insn)
+    (InPlace (exchanged insn ∷ []))
+    (if begins_at_modrm insn then displaced else behind)
+    (λ form. IsRoomy insn form)
+    (λ e small.
+    let one = length-append (spelling (exchanged insn)) [] in
+    omega (arith, one, exchanged_length insn (and_parts (is_sib_0f insn.sib) (not (holds_pattern (spelling (exchanged insn)))) e).0))
+    (λ _.
+    cond_both
+    (begins_at_modrm insn)
+    displaced
+    behind
+    (λ form. IsRoomy insn form)
+    (λ _ small. (held_5 insn held, small))
+    (λ _. slot_roomy (instruction_of insn) insn site (held_5 insn held)))
+
+replacement_roomy : (insn : Insn) (site : Site) (after_0f : Bool) → IsValid insn → IsRoomy insn (replacement insn site after_0f)
+unfolding replacement
+replacement_roomy insn site after_0f valid =
+    let held = held_form insn site in
+    let kept = if not (holds_pattern (spelling insn)) then Keep else held in
+    let added = if completes_pattern insn after_0f then InPlace (add_from_rm ∷ []) else kept in
+    cond_both
+    (is_vmfunc insn.op)
+    (InPlace (nop ∷ nop ∷ nop ∷ []))
+    added
+    (λ form. IsRoomy insn form)
+    (λ is small. sym (vmfunc_3 insn valid is))
+    (λ other.
+    cond_both
+    (completes_pattern insn after_0f)
+    (InPlace (add_from_rm ∷ []))
+    kept
+    (λ form. IsRoomy insn form)
+    (λ is small. sym (add_2 insn valid (and_parts (is_add_esp_edx insn) after_0f is).0))
+    (λ _.
+    cond_both
+    (not (holds_pattern (spelling insn)))
+    Keep
+    held
+    (λ form. IsRoomy insn form)
+    (λ none small. tt)
+    (λ some. held_roomy insn site (record { valid = valid; other = other; held = not-false (holds_pattern (spelling insn)) some }))))
+
+-- what stands in place of an instruction
+pub form_roomy : (insn : Insn) (at slot : ℕ) (after_0f : Bool) (form : Form) → IsValid insn → form ≡ form_of insn at slot after_0f → IsSmall form → HasRoom insn form
+unfolding form_of
+form_roomy insn at slot after_0f form valid is small =
+    subst (λ f. HasRoom insn f) (sym is) (replacement_roomy insn (site_of insn at slot) after_0f valid (subst (λ f. IsSmall f) is small))

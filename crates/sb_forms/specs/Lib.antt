@@ -1,0 +1,8 @@
+pub mod Holding
+pub mod Rex
+pub mod Registers
+pub mod Pieces
+pub mod Mains
+pub mod Table
+pub mod Answers
+pub mod Places

@@ -1,0 +1,108 @@
+-- The registers that an instruction names, and the helper registers that it leaves free.
+use Rattle.std.specs.Prelude.{ℕ, ◌+◌, ◌*◌, ◌/◌, ◌%◌, Bool, false, not, ◌&&◌, ◌||◌, ◌==◌, if◌then◌else◌, List, [], ◌∷◌, Option, Some, None}
+use Rattle.sb_insn.specs.declared.insn.Insn.{Insn}
+use Rattle.sb_insn.specs.declared.insn.Op.{Op}
+use Rattle.sb_insn.specs.declared.insn.Op.TheVariants.{One}
+use Rattle.sb_insn.specs.declared.opcode_map.OperandForm.{OperandForm}
+use Rattle.sb_insn.specs.declared.opcode_map.OperandForm.TheVariants.{RmReg, RegRm, RegRmImm, OpcodeImm, Opcode, RmCl}
+use Rattle.sb_insn.specs.Fields.{reg_field, rm_field}
+use Rattle.sb_forms.specs.declared.helper.Helper.{Helper}
+use Rattle.sb_forms.specs.declared.helper.Helper.TheVariants.{Rcx, Rdx, Rbx, Rsi, Rdi}
+use Rattle.sb_forms.specs.Rex.{rex_r, rex_x, rex_b}
+
+-- ---- registers by their numbers, 0 to 15
+
+-- a field of three bits and the bit of REX that extends it
+abbrev pub register : ℕ → ℕ → ℕ
+register field extension = field + 8 * extension
+
+-- a field of one byte, 0 where none stands
+abbrev pub byte_of : Option ℕ → ℕ
+byte_of None = 0
+byte_of (Some byte) = byte
+
+-- the ModRM byte
+abbrev pub modrm_of : Insn → ℕ
+modrm_of insn = byte_of insn.modrm
+
+-- the opcode byte of the one-byte map
+abbrev pub opcode_of : Op → ℕ
+opcode_of (One opcode) = opcode
+opcode_of _ = 0
+
+abbrev pub reg_number : Insn → ℕ
+reg_number insn = register (reg_field (modrm_of insn)) (rex_r insn.rex)
+
+-- the register in the opcode
+abbrev pub opcode_number : Insn → ℕ
+opcode_number insn = register (opcode_of insn.op % 8) (rex_b insn.rex)
+
+-- the number of a register that may be absent
+abbrev pub is_number : Option ℕ → ℕ → Bool
+is_number None number = false
+is_number (Some named) number = named == number
+
+abbrev pub rm_number : Option ℕ → Option ℕ → Option ℕ
+rm_number None rex = None
+rm_number (Some modrm) rex = Some (register (rm_field modrm) (rex_b rex))
+
+abbrev pub base_number : Option ℕ → Option ℕ → Option ℕ
+base_number None rex = None
+base_number (Some sib) rex = Some (register (sib % 8) (rex_b rex))
+
+abbrev pub index_number : Option ℕ → Option ℕ → Option ℕ
+index_number None rex = None
+index_number (Some sib) rex = Some (register (sib / 8 % 8) (rex_x rex))
+
+-- The register that the operands name beside rm: reg, the register in the opcode, or CL. A reg field that extends the
+-- opcode names none.
+abbrev pub form_number : OperandForm → Insn → Option ℕ
+form_number RmReg insn = Some (reg_number insn)
+form_number RegRm insn = Some (reg_number insn)
+form_number RegRmImm insn = Some (reg_number insn)
+form_number OpcodeImm insn = Some (opcode_number insn)
+form_number Opcode insn = Some (opcode_number insn)
+form_number RmCl insn = Some 1
+form_number _ insn = None
+
+-- The instruction names the register. Where rm, base or index names none, its number is 4, 5, 12 or 13, which no helper
+-- has.
+unfoldable pub is_named : OperandForm → Insn → ℕ → Bool
+is_named form insn number =
+    is_number (rm_number insn.modrm insn.rex) number
+    || (is_number (base_number insn.sib insn.rex) number
+    || (is_number (index_number insn.sib insn.rex) number
+    || is_number (form_number form insn) number))
+
+-- ---- helper registers
+
+abbrev pub number_of : Helper → ℕ
+number_of Rcx = 1
+number_of Rdx = 2
+number_of Rbx = 3
+number_of Rsi = 6
+number_of Rdi = 7
+
+abbrev pub helpers : List Helper
+helpers = Rcx ∷ Rdx ∷ Rbx ∷ Rsi ∷ Rdi ∷ []
+
+abbrev pub is_taken : Option Helper → Helper → Bool
+is_taken None helper = false
+is_taken (Some taken) helper = number_of taken == number_of helper
+
+-- the helper that the instruction does not name, and that is not taken
+abbrev pub is_free : OperandForm → Insn → Option Helper → Helper → Bool
+is_free form insn taken helper = not (is_named form insn (number_of helper)) && not (is_taken taken helper)
+
+-- the first free one; an instruction names at most three, so of five there is one even where one is taken
+abbrev pub first_free : OperandForm → Insn → Option Helper → List Helper → Helper
+first_free form insn taken [] = Rdi
+first_free form insn taken (helper ∷ rest) = if is_free form insn taken helper then helper else first_free form insn taken rest
+
+-- the first helper of an instruction
+unfoldable pub first_helper : OperandForm → Insn → Helper
+first_helper form insn = first_free form insn None helpers
+
+-- the second one
+unfoldable pub second_helper : OperandForm → Insn → Helper
+second_helper form insn = first_free form insn (Some (first_helper form insn)) helpers
