@@ -23,19 +23,19 @@ some_spelling insn = simp length-append (omega (arith, some_op insn.op))
 
 -- ---- the instructions
 
-NoneBegins : List ℕ → Type 0
+pub NoneBegins : List ℕ → Type 0
 NoneBegins rest = (insn : Insn) → ¬ BeginsWith rest insn
 
-nothing_begins : NoneBegins []
+pub nothing_begins : NoneBegins []
 unfolding NoneBegins
 nothing_begins insn (valid, (rest, parts)) = omega (arith, ap length parts ∙ length-append (spelling insn) rest, some_spelling insn)
 
 -- an instruction begins what it and others spell
-first_begins : (first : Insn) (insns : List Insn) (rest : List ℕ) → IsValid first → BeginsWith (spelled (first ∷ insns) ++ rest) first
+pub first_begins : (first : Insn) (insns : List Insn) (rest : List ℕ) → IsValid first → BeginsWith (spelled (first ∷ insns) ++ rest) first
 first_begins first insns rest valid = (valid, (spelled insns ++ rest, append_assoc (spelling first) (spelled insns) rest))
 
 -- what spells a text as far as instructions go is one list of them
-same_insns : (firsts seconds : List Insn) (rest others : List ℕ) → AllValid firsts → AllValid seconds → NoneBegins rest → NoneBegins others → spelled firsts ++ rest ≡ spelled seconds ++ others → firsts ≡ seconds
+pub same_insns : (firsts seconds : List Insn) (rest others : List ℕ) → AllValid firsts → AllValid seconds → NoneBegins rest → NoneBegins others → spelled firsts ++ rest ≡ spelled seconds ++ others → firsts ≡ seconds
 unfolding NoneBegins
 same_insns [] [] rest others valid valid' none none' same = refl
 same_insns [] (second ∷ seconds) rest others valid valid' none none' same =
@@ -76,7 +76,7 @@ listed_apart text starts at (insns, valid, whole, starts_are) (insns', rest, val
     omega (arith, stuck.0, ap length none)
 
 -- each start is behind the one before
-rises : (at : ℕ) (insns : List Insn) → IsStrictlyIncreasing (starts_from at insns)
+pub rises : (at : ℕ) (insns : List Insn) → IsStrictlyIncreasing (starts_from at insns)
 unfolding starts_from
 rises at [] k less = absurd (omega arith)
 rises at (first ∷ []) k less = absurd (omega arith)

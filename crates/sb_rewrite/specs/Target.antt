@@ -1,5 +1,5 @@
 -- Where a direct jump or call leads (SDM volume 2: JMP, Jcc, CALL).
-use Rattle.std.specs.Prelude.{ℕ, ◌+◌, ◌%◌, ◌^◌, Bool, false, ◌||◌, ◌&&◌, ◌==◌, nat_le, if◌then◌else◌, length, Option, None, Some}
+use Rattle.std.specs.Prelude.{ℕ, ◌+◌, ◌%◌, ◌^◌, ◌≤◌, ◌⊎◌, Bool, false, ◌||◌, ◌&&◌, ◌==◌, nat_le, if◌then◌else◌, List, length, Contains, Option, None, Some}
 use Rattle.std.specs.Int.{w64, cast_unsigned}
 use Rattle.sb_insn.specs.declared.insn.Insn.{Insn}
 use Rattle.sb_insn.specs.declared.insn.Op.{Op}
@@ -28,3 +28,18 @@ distance (imm.I64 value) = cast_unsigned w64 value
 -- where a direct jump or call that stands at an address leads: so far behind the next instruction, modulo 2^64
 unfoldable pub direct_target : Insn → ℕ → Option ℕ
 direct_target insn at = if is_direct insn.op then Some ((at + length (spelling insn) + distance insn.imm) % 2 ^ 64) else None
+
+-- ---- where it may lead
+
+-- the addresses of the trampoline page, to which any text may jump
+abbrev pub InTrampoline : ℕ → Type 0
+InTrampoline target = (0x70000000 ≤ target) × (target ≤ 0x70000FFF)
+
+-- to a listed start, which the text's end is not, or into the trampoline
+abbrev pub MayLeadTo : List ℕ → ℕ → Type 0
+MayLeadTo starts target = InTrampoline target ⊎ Contains starts target
+
+-- there is a target, and it is another
+abbrev pub IsBadTarget : List ℕ → Option ℕ → Type 0
+IsBadTarget starts None = ⊥
+IsBadTarget starts (Some target) = ¬ MayLeadTo starts target

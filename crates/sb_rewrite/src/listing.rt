@@ -1,12 +1,12 @@
 //! The listing of a text.
 
-ghost use Rattle.std.specs.Prelude.{◌≡◌, ◌↔◌, IsTrue, Contains};
+ghost use Rattle.std.specs.Prelude.{◌≡◌, ◌↔◌, IsTrue, IfOk, Contains};
 ghost use Rattle.sb_rewrite.specs.Listing.{Lists, OneListing, OnePlace, ListedApart, StartsRise};
 
 use crate::refusal::ListRefusal;
 use sb_decode::decode;
 use sb_list::Listed;
-use std::alloc::Global;
+use std::alloc::{AllocError, Global};
 use std::marker::Model;
 
 /// The address of a text's first byte.
@@ -45,6 +45,22 @@ impl Listing {
         ensures { IsTrue result ↔ Contains self.now at }
     {
         self.starts.items().binary_search(&at).is_ok()
+    }
+
+    /// Gives the starts back.
+    pub fn into_starts(self) -> Starts
+        ensures { result ≡ self }
+    {
+        self.starts
+    }
+
+    /// The same listing in memory of its own.
+    pub fn copied(&self, alloc: Global) -> Result<Listing, AllocError>
+        ensures { IfOk result (λ copy. copy ≡ self.now) }
+    {
+        Ok(Listing {
+            starts: self.starts.copied(alloc)?,
+        })
     }
 }
 

@@ -1,8 +1,9 @@
-//! Where a direct jump or call leads.
+//! Where a direct jump or call leads, and where it may.
 
-ghost use Rattle.std.specs.Prelude.{◌≡◌};
-ghost use Rattle.sb_rewrite.specs.Target.{direct_target, distance, is_direct};
+ghost use Rattle.std.specs.Prelude.{◌≡◌, ◌↔◌, IsTrue};
+ghost use Rattle.sb_rewrite.specs.Target.{direct_target, distance, is_direct, InTrampoline, IsBadTarget};
 
+use crate::listing::Listing;
 use sb_insn::{Imm, Insn, Op};
 
 /// Whether it is JMP, Jcc or CALL with a distance (SDM volume 2).
@@ -38,4 +39,24 @@ pub fn direct_target(insn: &Insn, at: u64) -> Option<u64>
     }
     let next = at.wrapping_add(insn.length() as u64);
     Some(next.wrapping_add(distance(insn.imm)))
+}
+
+/// The trampoline page, to which any text may jump: its first address and its last.
+const TRAMPOLINE: (u64, u64) = (0x7000_0000, 0x7000_0FFF);
+
+/// Whether the address is in the trampoline page.
+fn is_in_trampoline(target: u64) -> bool
+    ensures { IsTrue result ↔ InTrampoline target }
+{
+    TRAMPOLINE.0 <= target && target <= TRAMPOLINE.1
+}
+
+/// Whether a direct jump or call leads neither to a start of the text nor into the trampoline page.
+pub(crate) fn is_bad_target(listing: &Listing, target: Option<u64>) -> bool
+    ensures { IsTrue result ↔ IsBadTarget listing.now target }
+{
+    match target {
+        Some(target) => !is_in_trampoline(target) && !listing.is_start(target),
+        None => false,
+    }
 }

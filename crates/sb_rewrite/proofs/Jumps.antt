@@ -1,0 +1,47 @@
+-- A direct jump or call that leads where it may does not hold the bytes of VMFUNC.
+use Rattle.std.proofs.Common.{◌≡◌, ℕ, ◌+◌, ◌%◌, ◌^◌, ◌<◌, ◌≤◌, if◌then◌else◌, List, [], ◌∷◌, length, Option, Some, None, refl, ap, subst, arith, inl, inr, ⊎_elim, zero, suc, length-append}
+use Rattle.std.specs.List.{Contains}
+use Rattle.sb_insn.specs.declared.insn.Insn.{Insn}
+use Rattle.sb_insn.specs.declared.insn.Imm.{Imm}
+use Rattle.sb_insn.specs.declared.insn.Imm.TheVariants as imm
+use Rattle.sb_insn.specs.Spelling.{spelling}
+use Rattle.sb_insn.specs.Grammar.{IsValid}
+use Rattle.sb_scan.specs.Pattern.{HasNoPattern}
+use Rattle.sb_forms.specs.Places.{IsDirect, IsPermitted, NotInJumps, target, distance as place_distance}
+use Rattle.sb_rewrite.specs.Listing.{spelled, starts_from}
+use Rattle.sb_rewrite.specs.Target.{is_direct, distance, direct_target, MayLeadTo, IsBadTarget}
+use Rattle.sb_rewrite.proofs.OneListing.{some_spelling}
+use Rattle.sb_rewrite.proofs.Direct.{has_distance}
+
+same_distance : (value : Imm) → distance value ≡ place_distance value
+same_distance imm.None = refl
+same_distance (imm.I8 value) = refl
+same_distance (imm.I32 value) = refl
+same_distance (imm.I64 value) = refl
+
+-- starts are in the text
+pub starts_within : (at : ℕ) (insns : List Insn) (start : ℕ) → Contains (starts_from at insns) start → (at ≤ start) × (start < at + length (spelled insns))
+unfolding starts_from
+starts_within at [] start (k, within, is) = absurd (omega arith)
+starts_within at (insn ∷ insns) start (zero, within, is) = (omega (arith, is), omega (arith, is, some_spelling insn, length-append (spelling insn) (spelled insns)))
+starts_within at (insn ∷ insns) start (suc k, within, is) =
+    let later = starts_within (at + length (spelling insn)) insns start (k, omega arith, is) in
+    (omega (arith, later.0), omega (arith, later.1, length-append (spelling insn) (spelled insns)))
+
+-- all starts are in a text
+abbrev pub AreInText : List ℕ → Type 0
+AreInText starts = (start : ℕ) → Contains starts start → (0x400000 ≤ start) × (start < 0x600000)
+
+permitted : (starts : List ℕ) (address : ℕ) → AreInText starts → MayLeadTo starts address → IsPermitted address
+permitted starts address in_text may = ⊎_elim (λ there. inr (there.0, omega (arith, there.1))) (λ start. inl (in_text address start)) may
+
+pub jump_free : NotInJumps → (insn : Insn) (at : ℕ) (starts : List ℕ) → IsValid insn → 0x400000 ≤ at → at < 0x600000 → AreInText starts
+    → ¬ IsBadTarget starts (direct_target insn at) → IsDirect insn → HasNoPattern (spelling insn)
+unfolding direct_target
+jump_free law insn at starts valid low high in_text leads direct place stands =
+    let same : (at + length (spelling insn) + distance insn.imm) % 2 ^ 64 ≡ target insn at =
+    ap (λ (far : ℕ). (at + length (spelling insn) + far) % 2 ^ 64) (same_distance insn.imm) in
+    let target_is : (if is_direct insn.op then Some ((at + length (spelling insn) + distance insn.imm) % 2 ^ 64) else None) ≡ Some (target insn at) =
+    rw (has_distance insn direct) (ap (λ (far : ℕ). Some far) same) in
+    let leads_well : ¬ IsBadTarget starts (Some (target insn at)) = subst (λ (leads_to : Option ℕ). ¬ IsBadTarget starts leads_to) target_is leads in
+    leads_well (λ may. law insn at valid direct low high (permitted starts (target insn at) in_text may) place stands)

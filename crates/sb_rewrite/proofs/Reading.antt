@@ -1,0 +1,82 @@
+-- A listed text is read instruction by instruction.
+use Rattle.std.proofs.Common.{◌≡◌, ℕ, ◌+◌, ◌-◌, ◌<◌, List, [], ◌∷◌, ◌++◌, length, refl, ap, sym, ◌∙◌, subst, arith, append_assoc, length-append}
+use Rattle.std.proofs.lemmas.List.{append_cancel_left}
+use Rattle.std.proofs.lemmas.List.Concat.{flat_map-append}
+use Rattle.sb_insn.specs.declared.insn.Insn.{Insn}
+use Rattle.sb_insn.specs.Spelling.{spelling}
+use Rattle.sb_insn.specs.Grammar.{IsValid, BeginsWith}
+use Rattle.sb_decode.proofs.Exact.{one_begins}
+use Rattle.sb_rewrite.specs.declared.front.Front.{Front}
+use Rattle.sb_rewrite.specs.Listing.{text_address, spelled, AllValid}
+use Rattle.sb_rewrite.specs.Placing.{places}
+use Rattle.sb_rewrite.specs.Rewriting.{ArePlaces}
+use Rattle.sb_rewrite.specs.Turns.{IsFront}
+use Rattle.sb_rewrite.proofs.OneListing.{some_spelling}
+
+-- the text's instructions are these and more, which spell its rest
+pub record Reads (text rest : List ℕ) (done more : List Insn) : Type 0 where
+  pub valid : AllValid (done ++ more)
+  pub whole : text ≡ spelled (done ++ more)
+  pub rest_is : rest ≡ spelled more
+
+pub nothing_read : (text : List ℕ) (insns : List Insn) → AllValid insns → text ≡ spelled insns → Reads text text [] insns
+nothing_read text insns valid whole = record { valid = valid; whole = whole; rest_is = whole }
+
+-- the places of the text's instructions
+pub placed : (text rest : List ℕ) (done more : List Insn) → Reads text rest done more → ArePlaces text (places text (done ++ more))
+placed text rest done more reads = record { insns = done ++ more; valid = reads.valid; whole = reads.whole; places_are = refl }
+
+-- where the rest begins
+pub rest_begins : (text rest : List ℕ) (done more : List Insn) → Reads text rest done more → length text - length rest ≡ length (spelled done)
+rest_begins text rest done more reads =
+    let size : length text ≡ length (spelled done) + length (spelled more) = ap length (reads.whole ∙ flat_map-append spelling done more) ∙ length-append (spelled done) (spelled more) in
+    omega (arith, ap length reads.rest_is)
+
+valid_first : (done : List Insn) (insn : Insn) (others : List Insn) → AllValid (done ++ insn ∷ others) → IsValid insn
+valid_first [] insn others valid = valid.0
+valid_first (first ∷ done) insn others valid = valid_first done insn others valid.1
+
+-- in front of a rest that is not empty an instruction stands
+pub never_stuck : (text rest : List ℕ) (done more : List Insn) → Reads text rest done more → 0 < length rest → ((insn : Insn) → ¬ BeginsWith rest insn) → ⊥
+never_stuck text rest done [] reads some none = omega (arith, ap length reads.rest_is)
+never_stuck text rest done (insn ∷ others) reads some none =
+    let valid : IsValid insn = valid_first done insn others reads.valid in
+    none insn (valid, (spelled others, reads.rest_is))
+
+-- what reading one more instruction gives
+pub record Turn (text rest : List ℕ) (done more : List Insn) (front : Front) : Type 0 where
+  pub others : List Insn
+  pub more_is : more ≡ front.insn ∷ others
+  pub reads : Reads text front.rest.now (done ++ front.insn ∷ []) others
+  pub all : (done ++ front.insn ∷ []) ++ others ≡ done ++ more
+  pub here : front.at ≡ text_address + length (spelled done)
+
+next_read : (text rest behind : List ℕ) (done : List Insn) (insn : Insn) (others : List Insn) → Reads text rest done (insn ∷ others) → rest ≡ spelling insn ++ behind → Reads text behind (done ++ insn ∷ []) others
+next_read text rest behind done insn others reads parts =
+    let all : done ++ insn ∷ others ≡ (done ++ insn ∷ []) ++ others = sym (append_assoc done (insn ∷ []) others) in
+    record {
+      valid = subst (λ (list : List Insn). AllValid list) all reads.valid;
+      whole = reads.whole ∙ ap (λ (list : List Insn). spelled list) all;
+      rest_is = append_cancel_left (spelling insn) behind (spelled others) (sym parts ∙ reads.rest_is);
+    }
+
+pub turn : (text rest : List ℕ) (done more : List Insn) (front : Front) → Reads text rest done more → IsFront text rest front → Turn text rest done more front
+turn text rest done [] front reads is =
+    absurd (omega (arith, some_spelling front.insn, ap length (sym reads.rest_is ∙ is.parts) ∙ length-append (spelling front.insn) front.rest.now))
+turn text rest done (first ∷ others) front reads is =
+    let valid : IsValid first = valid_first done first others reads.valid in
+    let same : first ≡ front.insn = one_begins rest first front.insn (valid, (spelled others, reads.rest_is)) (is.valid, (front.rest.now, is.parts)) in
+    let reads_it : Reads text rest done (front.insn ∷ others) = subst (λ (insn : Insn). Reads text rest done (insn ∷ others)) same reads in
+    record {
+      others = others;
+      more_is = ap (λ (insn : Insn). insn ∷ others) same;
+      reads = next_read text rest front.rest.now done front.insn others reads_it is.parts;
+      all = append_assoc done (front.insn ∷ []) others ∙ ap (λ (insn : Insn). done ++ insn ∷ others) (sym same);
+      here = is.here ∙ ap (λ (size : ℕ). text_address + size) (rest_begins text rest done (first ∷ others) reads);
+    }
+
+-- where nothing is left, all is read
+pub all_read : (text rest : List ℕ) (done more : List Insn) → Reads text rest done more → length rest ≡ 0 → more ≡ []
+all_read text rest done [] reads none = refl
+all_read text rest done (insn ∷ others) reads none =
+    absurd (omega (arith, some_spelling insn, ap length reads.rest_is ∙ length-append (spelling insn) (spelled others)))

@@ -1,0 +1,15 @@
+use Rattle.sb_rewrite.proofs.Around.{clean_around}
+use Rattle.sb_rewrite.proofs.Made.{made_ordered, left_refused}
+use Rattle.sb_rewrite.proofs.rewriting.rewrite.Goals as goal
+
+pub finish-requires : goal.finish-requires
+finish-requires c = made_ordered _ _ c.in_ok-draft.ensures
+
+pub returns-in-Some-clause-answer : goal.returns-in-Some-clause-answer
+returns-in-Some-clause-answer c = left_refused _ _ _ c.in_ok-draft.ensures c.in-Some.ensures
+
+pub returns-in-None-clause-text : goal.returns-in-None-clause-text
+returns-in-None-clause-text c = rw c.finish.ensures (clean_around _ c.in-None.ensures.1)
+
+pub returns-in-None-clause-area : goal.returns-in-None-clause-area
+returns-in-None-clause-area c = rw c.finish.ensures (clean_around _ c.in-None.ensures.0)

@@ -1,0 +1,95 @@
+-- How a text is rewritten, and why and where it cannot be.
+use Rattle.std.specs.Prelude.{◌≡◌, ◌≢◌, ◌⊎◌, ℕ, ◌+◌, ◌<◌, List, ◌∷◌, ◌++◌, length, Result, Ok, Err}
+use Rattle.std.specs.List.{AllByRecursion}
+use Rattle.sb_insn.specs.declared.insn.Insn.{Insn}
+use Rattle.sb_forms.specs.declared.answer.Form.TheVariants as form
+use Rattle.sb_scan.specs.Pattern.{HasNoPattern, HasFirstPatternAt}
+use Rattle.sb_rewrite.specs.declared.refusal.RewriteRefusal.{RewriteRefusal}
+use Rattle.sb_rewrite.specs.declared.refusal.RewriteRefusal.TheVariants.{Undecoded, BadTarget, Unmovable, AreaFull, Left, Memory}
+use Rattle.sb_rewrite.specs.Listing.{text_address, spelled, AllValid, IsUndecodedAt}
+use Rattle.sb_rewrite.specs.Target.{direct_target, IsBadTarget}
+use Rattle.sb_rewrite.specs.Placing.{Place, slot_bytes, places, area_address, area_end}
+use Rattle.sb_rewrite.specs.Output.{Output, output, starts_of, RunsAt}
+
+-- ---- what is wrong with an instruction
+
+-- it is a direct jump or call that leads neither to a start of the text nor into the trampoline
+abbrev pub HasBadTarget : List ℕ → Place → Type 0
+HasBadTarget starts place = IsBadTarget starts (direct_target place.insn place.at)
+
+-- nothing can stand in its place
+abbrev pub IsUnmovable : Place → Type 0
+IsUnmovable place = place.form ≡ form.Unmovable
+
+-- its slot would end behind the area
+abbrev pub EndsBehindArea : Place → Type 0
+EndsBehindArea place = area_end < place.slot + length (slot_bytes place.form)
+
+-- ---- the first one, or none
+
+-- of none of these it holds
+abbrev pub NoneOf : (Place → Type 0) → List Place → Type 0
+NoneOf Holds places = AllByRecursion (λ place. ¬ Holds place) places
+
+-- the first of these of which it holds stands at this address
+pub record IsFirstAt (Holds : Place → Type 0) (places : List Place) (at : ℕ) : Type 0 where
+  pub before : List Place
+  pub first : Place
+  pub behind : List Place
+  pub parts : places ≡ before ++ first ∷ behind
+  pub none : NoneOf Holds before
+  pub holds : Holds first
+  pub here : at ≡ first.at
+
+-- ---- texts
+
+-- instructions spell the text from its first byte to its last, and these are their places
+pub record ArePlaces (text : List ℕ) (of_text : List Place) : Type 0 where
+  pub insns : List Insn
+  pub valid : AllValid insns
+  pub whole : text ≡ spelled insns
+  pub places_are : of_text ≡ places text insns
+
+-- each direct jump and call leads where it may
+abbrev pub LeadsWell : List Place → Type 0
+LeadsWell places = NoneOf (HasBadTarget (starts_of places)) places
+
+-- and each instruction can be replaced
+abbrev pub IsMovable : List Place → Type 0
+IsMovable places = LeadsWell places × NoneOf IsUnmovable places
+
+-- and the slots have room in the area
+abbrev pub FitsArea : List Place → Type 0
+FitsArea places = IsMovable places × NoneOf EndsBehindArea places
+
+-- the bytes of VMFUNC stand nowhere in what was made
+abbrev pub IsFree : Output → Type 0
+IsFree made = HasNoPattern made.area × HasNoPattern made.text
+
+-- they stand first at this address: in the area, or else in the text
+abbrev pub IsLeftAt : Output → ℕ → Type 0
+IsLeftAt made at =
+    ((place : ℕ) × HasFirstPatternAt made.area place × (at ≡ area_address + place))
+    ⊎ (HasNoPattern made.area × ((place : ℕ) × HasFirstPatternAt made.text place × (at ≡ text_address + place)))
+
+-- What rewriting answers. The cases exclude each other, but for want of memory.
+abbrev pub Rewrites : List ℕ → Result Output RewriteRefusal → Type 0
+Rewrites text (Ok made) = (of_text : List Place) × ArePlaces text of_text × FitsArea of_text × (made ≡ output of_text) × IsFree made
+Rewrites text (Err (Undecoded at)) = IsUndecodedAt text at
+Rewrites text (Err (BadTarget at)) = (of_text : List Place) × ArePlaces text of_text × IsFirstAt (HasBadTarget (starts_of of_text)) of_text at
+Rewrites text (Err (Unmovable at)) = (of_text : List Place) × ArePlaces text of_text × LeadsWell of_text × IsFirstAt IsUnmovable of_text at
+Rewrites text (Err (AreaFull at)) = (of_text : List Place) × ArePlaces text of_text × IsMovable of_text × IsFirstAt EndsBehindArea of_text at
+Rewrites text (Err (Left at)) = (of_text : List Place) × ArePlaces text of_text × FitsArea of_text × IsLeftAt (output of_text) at
+Rewrites text (Err Memory) = Unit {0}
+
+-- ---- why the answer is the only one
+
+-- a text has one answer, but for want of memory
+abbrev pub OneRewriting : Type 0
+OneRewriting =
+    (text : List ℕ) (first second : Result Output RewriteRefusal) → first ≢ Err Memory → second ≢ Err Memory → Rewrites text first → Rewrites text second
+    → first ≡ second
+
+-- one original instruction at most runs at an address
+abbrev pub OneOriginal : Type 0
+OneOriginal = (text : List ℕ) (made : Output) (at first second : ℕ) → Rewrites text (Ok made) → RunsAt made at first → RunsAt made at second → first ≡ second

@@ -1,0 +1,180 @@
+//! What a rewriter has made of the instructions before an address.
+
+ghost use Rattle.std.specs.Prelude.{◌≡◌, ◌+◌, ◌-◌, ◌≤◌, ◌++◌, IfOk, length, replicate};
+ghost use Rattle.sb_insn.specs.Spelling.{spelling};
+ghost use Rattle.sb_forms.specs.Pieces.{jump};
+ghost use Rattle.sb_forms.specs.Answers.{HasRoom, FitsSlot};
+ghost use Rattle.sb_rewrite.specs.Placing.{area_address, area_end};
+ghost use Rattle.sb_rewrite.specs.Output.{IsOrdered};
+ghost use Rattle.sb_rewrite.specs.Turns.{IsFrontOfText, started, moved, in_place, next_place, with_place, Puts, IsFirstLeft};
+
+use crate::edit::{Edit, Move};
+use crate::front::Front;
+use crate::listing::{Starts, TEXT_ADDRESS};
+use crate::refusal::RewriteRefusal;
+use crate::rewritten::Rewritten;
+use sb_forms::{Code, Form};
+use sb_scan::find_pattern;
+use std::alloc::{AllocError, Global};
+use std::marker::Model;
+
+/// The address of the rewrite area.
+pub const AREA_ADDRESS: u64 = 0x1000;
+
+/// The number of bytes of the rewrite area.
+pub const AREA_SIZE: usize = 0x1_0000;
+
+/// What was made of the instructions so far: to contracts, bytes and lists.
+#[derive(Debug, Drop)]
+pub struct Draft {
+    text: Vec<u8>,
+    area: Vec<u8>,
+    /// The starts of all instructions of the text.
+    starts: Starts,
+    edits: Vec<Edit>,
+    moves: Vec<Move>,
+}
+
+impl Model for Draft {
+    ghost use Rattle.std.specs.Prelude.{◌≤◌, length};
+    ghost use Rattle.sb_rewrite.specs.Output.{Output};
+
+    ghost Value = { Output };
+
+    ghost view = { λ draft. record { text = draft.text.items; area = draft.area.items; starts = draft.starts; edits = draft.edits.items; moves = draft.moves.items } };
+
+    ghost invariant = { λ draft. length draft.area.items ≤ 0x10000 };
+}
+
+/// Puts the jump to a slot into a text, and NOPs for the further bytes of the instruction.
+#[tactic(auto, unfolding(sb_forms::specs::Pieces::jump))]
+fn put_jump(text: &mut Vec<u8>, from: u64, to: u64, length: usize) -> Result<(), AllocError>
+    requires from { from ≤ 0x600000 }
+    requires to { to ≤ 0x11000 }
+    requires room { 5 ≤ length }
+    ensures { IfOk result (λ done. text.new.items ≡ text.old.items ++ (spelling (jump from to) ++ replicate (length - 5) 0x90)) }
+{
+    let distance = to as i32 - (from as i32 + 5);
+    text.push(0xE9)?;
+    text.extend_from_slice(&distance.to_le_bytes())?;
+    put_nops(text, length - 5)
+}
+
+/// Puts NOPs into a text.
+fn put_nops(text: &mut Vec<u8>, count: usize) -> Result<(), AllocError>
+    ensures { IfOk result (λ done. text.new.items ≡ text.old.items ++ replicate count 0x90) }
+{
+    for _ in 0..count {
+        text.push(0x90)?;
+    }
+    Ok(())
+}
+
+impl Draft {
+    /// Nothing is made yet.
+    pub fn new(alloc: Global, starts: Starts) -> Draft
+        ensures { result ≡ started starts }
+    {
+        Draft {
+            text: Vec::new(alloc),
+            area: Vec::new(alloc),
+            starts,
+            edits: Vec::new(alloc),
+            moves: Vec::new(alloc),
+        }
+    }
+
+    /// The address at which the next slot begins.
+    pub fn next_slot(&self) -> u64
+        ensures address { result ≡ area_address + length self.now.area }
+        ensures within { result ≤ area_end }
+    {
+        AREA_ADDRESS + self.area.len() as u64
+    }
+
+    /// Puts a slot into the area, and a jump to it into the text.
+    fn put_slot(
+        &mut self,
+        front: &Front,
+        pre: &Code,
+        main: &Code,
+        post: &Code,
+    ) -> Result<(), RewriteRefusal>
+        requires front { IsFrontOfText front.now }
+        requires jump { 5 ≤ length front.now.bytes.now }
+        requires slot { FitsSlot pre.now main.now post.now }
+        ensures { Puts self.old self.new (next_place self.old front.now.insn front.now.at (moved pre.now main.now post.now)) result }
+    {
+        let slot = self.next_slot();
+        let before = pre.bytes().len();
+        let size = before + main.bytes().len() + post.bytes().len();
+        if AREA_SIZE - self.area.len() < size {
+            return Err(RewriteRefusal::AreaFull { at: front.at });
+        }
+        put_jump(&mut self.text, front.at, slot, front.bytes.len())?;
+        self.area.extend_from_slice(pre.bytes())?;
+        self.area.extend_from_slice(main.bytes())?;
+        self.area.extend_from_slice(post.bytes())?;
+        self.edits.push(Edit {
+            at: front.at,
+            old_len: front.bytes.len() as u8,
+            slot: Some((slot, size as u8)),
+        })?;
+        self.moves.push(Move {
+            start: front.at,
+            main: slot + before as u64,
+        })?;
+        Ok(())
+    }
+
+    /// Puts bytes in place of an instruction that has as many.
+    fn put_in_place(&mut self, front: &Front, code: &Code) -> Result<(), RewriteRefusal>
+        requires { IsFrontOfText front.now }
+        ensures { Puts self.old self.new (next_place self.old front.now.insn front.now.at (in_place code.now)) result }
+    {
+        self.text.extend_from_slice(code.bytes())?;
+        self.edits.push(Edit {
+            at: front.at,
+            old_len: front.bytes.len() as u8,
+            slot: None,
+        })?;
+        Ok(())
+    }
+
+    /// Puts what stands in place of an instruction.
+    ///
+    /// # Errors
+    ///
+    /// `Unmovable` where nothing can; `AreaFull` where its slot would end behind the area.
+    pub fn put(&mut self, front: &Front, form: &Form) -> Result<(), RewriteRefusal>
+        requires front { IsFrontOfText front.now }
+        requires room { HasRoom front.now.insn form.now }
+        ensures { Puts self.old self.new (next_place self.old front.now.insn front.now.at form.now) result }
+    {
+        match form {
+            Form::Keep => self.text.extend_from_slice(front.bytes)?,
+            Form::InPlace(code) => self.put_in_place(front, code)?,
+            Form::Moved { pre, main, post } => self.put_slot(front, pre, main, post)?,
+            Form::Unmovable => return Err(RewriteRefusal::Unmovable { at: front.at }),
+        }
+        Ok(())
+    }
+
+    /// The first address at which the bytes of VMFUNC stand: in the area, or else in the text.
+    pub fn first_pattern(&self) -> Option<u64>
+        ensures { IsFirstLeft self.now result }
+    {
+        match find_pattern(&self.area) {
+            Some(place) => Some(AREA_ADDRESS + place as u64),
+            None => find_pattern(&self.text).map(|place| TEXT_ADDRESS + place as u64),
+        }
+    }
+
+    /// What was made, where it is all.
+    pub fn finish(self) -> Rewritten
+        requires { IsOrdered self }
+        ensures { result ≡ self }
+    {
+        Rewritten::new(self.text, self.area, self.starts, self.edits, self.moves)
+    }
+}
