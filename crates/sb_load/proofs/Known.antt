@@ -1,22 +1,65 @@
 -- What is known of a loaded bundle.
-use Rattle.std.proofs.Common.{ℕ, ◌<◌, ◌≤◌, List, length, arith}
+use Rattle.std.proofs.Common.{◌≡◌, ℕ, ◌^◌, ◌<◌, ◌≤◌, List, length, get_or, refl, ap, sym, subst, arith}
+use Rattle.std.specs.Prelude.{unwrap_or}
+use Rattle.std.proofs.lemmas.Option.{slice_get_read}
 use Rattle.std.proofs.Math.Logic.{∥∥₁_elim}
 use Rattle.std.proofs.Math.Bridge.{le_prop}
 use Rattle.std.specs.List.{AllByRecursion, AllByRecursion-prop}
+use Rattle.std.specs.List.Sorted.{IsStrictlyIncreasing}
 use Rattle.sb_bundle.specs.declared.bundle.Bundle.{Bundle}
 use Rattle.sb_bundle.specs.declared.bundle.Image.{Image}
 use Rattle.sb_bundle.specs.declared.bundle.CoreStart.{CoreStart}
 use Rattle.sb_bundle.specs.Limits.{IsBundle, IsImage, IsCoreStart, AllBelow}
-use Rattle.sb_load.specs.Loading.{Load, IsLoadable}
+use Rattle.sb_rewrite.specs.Output.{Output}
+use Rattle.sb_load.specs.Loading.{Load, IsLoadable, nothing, rewritten_of}
 use Rattle.sb_load.specs.Need.{need_of, have_of}
 use Rattle.sb_load.proofs.Parts.{as_many}
+use Rattle.sb_load.proofs.Sizes.{small_area, counted_text, rising_starts, text_of}
 
--- a process of the bundle has a listing
-pub has_listing : (load : Load) (process : ℕ) → ∥ IsLoadable load ∥₁ → process < length load.bundle.images → process < length load.starts
-has_listing load process loadable within = ∥∥₁_elim loadable le_prop (λ known. omega (arith, as_many load.bundle.images load.starts known.texts))
+-- there are no more rewritten texts than processes, and no fewer
+at_most : (load : Load) → ∥ IsLoadable load ∥₁ → length load.rewritten ≤ length load.bundle.images
+at_most load loadable = ∥∥₁_elim loadable le_prop (λ known. omega (arith, as_many load.bundle.images load.rewritten known.texts))
 
-pub takes_no_more : (load : Load) → ∥ IsLoadable load ∥₁ → need_of load.bundle ≤ have_of load.bundle
+at_least : (load : Load) → ∥ IsLoadable load ∥₁ → length load.bundle.images ≤ length load.rewritten
+at_least load loadable = ∥∥₁_elim loadable le_prop (λ known. omega (arith, as_many load.bundle.images load.rewritten known.texts))
+
+-- each process of the bundle has a rewritten text
+pub text_count : (load : Load) → ∥ IsLoadable load ∥₁ → length load.rewritten ≡ length load.bundle.images
+text_count load loadable = omega (arith, at_most load loadable, at_least load loadable)
+
+pub takes_no_more : (load : Load) → ∥ IsLoadable load ∥₁ → need_of load.bundle load.rewritten ≤ have_of load.bundle
 takes_no_more load loadable = ∥∥₁_elim loadable le_prop (λ known. known.enough)
+
+-- ---- the text of a process
+
+-- what is known of what a text becomes
+pub record IsKnown (made : Output) : Type 0 where
+  pub text : length made.text < 2 ^ 32
+  pub area : length made.area ≤ 65536
+  pub starts : IsStrictlyIncreasing made.starts
+
+known_prop : (made : Output) → IsProp (IsKnown made)
+known_prop made = hlevel le_prop
+
+known_of : (load : Load) (process : ℕ) → process < length load.bundle.images → IsLoadable load → IsKnown (rewritten_of load.rewritten process)
+known_of load process within known =
+    let has = text_of load.bundle.images load.rewritten process within known.grammar.images known.texts in
+    let made : Output = rewritten_of load.rewritten process in
+    record { text = counted_text has.text made has.size has.is_rewritten; area = small_area has.text made has.is_rewritten; starts = rising_starts has.text made has.is_rewritten }
+
+-- what is read at the number of a process is what its text becomes
+pub is_of : (load : Load) (process : ℕ) (made : Output) → process < length load.bundle.images → ∥ IsLoadable load ∥₁ → made ≡ get_or load.rewritten process made
+    → made ≡ rewritten_of load.rewritten process
+is_of load process made within loadable is =
+    let below : process < length load.rewritten = omega (arith, text_count load loadable) in
+    ap (λ found. unwrap_or found nothing) (sym (slice_get_read load.rewritten (length load.rewritten) process made refl below is))
+
+pub known : (load : Load) (process : ℕ) (made : Output) → process < length load.bundle.images → ∥ IsLoadable load ∥₁ → made ≡ get_or load.rewritten process made → IsKnown made
+known load process made within loadable is =
+    subst IsKnown (sym (is_of load process made within loadable is))
+    (∥∥₁_elim loadable (known_prop (rewritten_of load.rewritten process)) (λ all. known_of load process within all))
+
+-- ---- the grammar
 
 below_prop : (bound : ℕ) (numbers : List ℕ) → IsProp (AllBelow bound numbers)
 below_prop bound numbers = AllByRecursion-prop (λ n. n < bound) (λ n. le_prop) numbers

@@ -1,5 +1,4 @@
-pub mod Targets
-pub mod Refusals
 pub mod Parts
+pub mod Sizes
 pub mod Known
 pub mod OneAnswer

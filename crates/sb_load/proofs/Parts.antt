@@ -1,11 +1,15 @@
 -- Lists of texts and of cores, one by one.
-use Rattle.std.proofs.Common.{◌≡◌, ℕ, suc, ◌+◌, ◌<◌, List, [], ◌∷◌, ◌++◌, length, take, drop, get_or, refl, ap, sym, ◌∙◌, subst, arith, length-take-le}
+use Rattle.std.proofs.Common.{◌≡◌, ◌≢◌, ℕ, Ok, Err, suc, ◌+◌, ◌<◌, List, [], ◌∷◌, ◌++◌, length, take, drop, get_or, refl, ap, sym, ◌∙◌, subst, arith, length-take-le}
 use Rattle.std.proofs.lemmas.List.{take-append-drop, take_more, drop_more}
 use Rattle.std.specs.List.{AllByRecursion}
 use Rattle.sb_bundle.specs.declared.bundle.Image.{Image}
 use Rattle.sb_bundle.specs.declared.bundle.CoreStart.{CoreStart}
-use Rattle.sb_load.specs.Text.{IsLoadableText, IsFirstRefusal}
-use Rattle.sb_load.specs.Loading.{AreLoadable, HasEntry, IsFirstForm, IsFirstBadEntry}
+use Rattle.sb_rewrite.specs.declared.refusal.RewriteRefusal.{RewriteRefusal}
+use Rattle.sb_rewrite.specs.declared.refusal.RewriteRefusal.TheVariants as cause
+use Rattle.sb_rewrite.specs.Output.{Output}
+use Rattle.sb_rewrite.specs.Rewriting.{Rewrites}
+use Rattle.sb_load.specs.Loading.{AreRewritten, HasEntry, IsFirstRefused, IsFirstBadEntry}
+use Rattle.sb_load.specs.Checks.{refusal_of, RewritesTexts}
 
 -- a list is a front, one element, and what stands behind it
 cut_at : {X : Type 0} (xs : List X) (k : ℕ) (d : X) → k < length xs → xs ≡ take k xs ++ get_or xs k d ∷ drop (k + 1) xs
@@ -13,36 +17,50 @@ cut_at xs k d within = sym (take-append-drop k xs) ∙ ap (λ behind. take k xs 
 
 -- ---- texts
 
-pub as_many : (images : List Image) (starts : List (List ℕ)) → AreLoadable images starts → length starts ≡ length images
-as_many [] [] loadable = refl
-as_many [] (first ∷ starts) loadable = absurd loadable
-as_many (image ∷ images) [] loadable = absurd loadable
-as_many (image ∷ images) (first ∷ starts) loadable = ap (λ (n : ℕ). suc n) (as_many images starts loadable.1)
+pub as_many : (images : List Image) (rewritten : List Output) → AreRewritten images rewritten → length rewritten ≡ length images
+as_many [] [] are = refl
+as_many [] (made ∷ others) are = absurd are
+as_many (image ∷ images) [] are = absurd are
+as_many (image ∷ images) (made ∷ others) are = ap (λ (n : ℕ). suc n) (as_many images others are.1)
 
-loadable_push : (images : List Image) (starts : List (List ℕ)) (image : Image) (first : List ℕ) → AreLoadable images starts → IsLoadableText image.text first
-    → AreLoadable (images ++ image ∷ []) (starts ++ first ∷ [])
-loadable_push [] [] image first loadable accepted = (accepted, tt)
-loadable_push [] (other ∷ starts) image first loadable accepted = absurd loadable
-loadable_push (before ∷ images) [] image first loadable accepted = absurd loadable
-loadable_push (before ∷ images) (other ∷ starts) image first loadable accepted = (loadable.0, loadable_push images starts image first loadable.1 accepted)
+rewritten_push : (images : List Image) (rewritten : List Output) (image : Image) (made : Output) → AreRewritten images rewritten → Rewrites image.text (Ok made)
+    → AreRewritten (images ++ image ∷ []) (rewritten ++ made ∷ [])
+rewritten_push [] [] image made are one = (one, tt)
+rewritten_push [] (other ∷ rewritten) image made are one = absurd are
+rewritten_push (before ∷ images) [] image made are one = absurd are
+rewritten_push (before ∷ images) (other ∷ rewritten) image made are one = (are.0, rewritten_push images rewritten image made are.1 one)
 
-pub one_more_text : (images : List Image) (starts more : List (List ℕ)) (k : ℕ) (image : Image) (text first : List ℕ) → k < length images → image ≡ get_or images k image → text ≡ image.text
-    → AreLoadable (take k images) starts → IsLoadableText text first → more ≡ starts ++ first ∷ [] → AreLoadable (take (k + 1) images) more
-one_more_text images starts more k image text first within is its_text loadable accepted pushed =
-    let longer : AreLoadable (take k images ++ image ∷ []) (starts ++ first ∷ []) =
-    loadable_push (take k images) starts image first loadable (subst (λ (bytes : List ℕ). IsLoadableText bytes first) its_text accepted) in
+pub one_more_text : (images : List Image) (rewritten more : List Output) (k : ℕ) (image : Image) (text : List ℕ) (made : Output) → k < length images → image ≡ get_or images k image → text ≡ image.text
+    → AreRewritten (take k images) rewritten → Rewrites text (Ok made) → more ≡ rewritten ++ made ∷ [] → AreRewritten (take (k + 1) images) more
+one_more_text images rewritten more k image text made within is its_text are one pushed =
+    let longer : AreRewritten (take k images ++ image ∷ []) (rewritten ++ made ∷ []) =
+    rewritten_push (take k images) rewritten image made are (subst (λ (bytes : List ℕ). Rewrites bytes (Ok made)) its_text one) in
     let front : take (k + 1) images ≡ take k images ++ image ∷ [] = take_more images k image within ∙ ap (λ (one : Image). take k images ++ one ∷ []) (sym is) in
-    subst (λ (list : List (List ℕ)). AreLoadable (take (k + 1) images) list) (sym pushed) (subst (λ (list : List Image). AreLoadable list (starts ++ first ∷ [])) (sym front) longer)
+    subst (λ (list : List Output). AreRewritten (take (k + 1) images) list) (sym pushed) (subst (λ (list : List Image). AreRewritten list (rewritten ++ made ∷ [])) (sym front) longer)
 
-pub refused_text : (images : List Image) (starts : List (List ℕ)) (k at : ℕ) (image : Image) (text : List ℕ) → k < length images → image ≡ get_or images k image → text ≡ image.text
-    → AreLoadable (take k images) starts → IsFirstRefusal text at → IsFirstForm images k at
-refused_text images starts k at image text within is its_text loadable refused =
+refused_at : (images : List Image) (rewritten : List Output) (k : ℕ) (why : RewriteRefusal) (image : Image) → k < length images → image ≡ get_or images k image
+    → AreRewritten (take k images) rewritten → Rewrites image.text (Err why) → why ≢ cause.Memory → IsFirstRefused images k why
+refused_at images rewritten k why image within is are refused not_memory =
     let cut : images ≡ take k images ++ image ∷ drop (k + 1) images = cut_at images k image within ∙ ap (λ (one : Image). take k images ++ one ∷ drop (k + 1) images) (sym is) in
-    (take k images, image, drop (k + 1) images, cut, sym (length-take-le k images (omega arith)), starts, loadable, subst (λ (bytes : List ℕ). IsFirstRefusal bytes at) its_text refused)
+    (take k images, image, drop (k + 1) images, cut, sym (length-take-le k images (omega arith)), rewritten, are, refused, not_memory)
+
+refused_by : (images : List Image) (rewritten : List Output) (k : ℕ) (why : RewriteRefusal) (image : Image) → k < length images → image ≡ get_or images k image
+    → AreRewritten (take k images) rewritten → Rewrites image.text (Err why) → RewritesTexts images (Err (refusal_of k why))
+refused_by images rewritten k (cause.Undecoded at) image within is are refused = refused_at images rewritten k (cause.Undecoded at) image within is are refused (λ same. absurd cc)
+refused_by images rewritten k (cause.BadTarget at) image within is are refused = refused_at images rewritten k (cause.BadTarget at) image within is are refused (λ same. absurd cc)
+refused_by images rewritten k (cause.Unmovable at) image within is are refused = refused_at images rewritten k (cause.Unmovable at) image within is are refused (λ same. absurd cc)
+refused_by images rewritten k (cause.AreaFull at) image within is are refused = refused_at images rewritten k (cause.AreaFull at) image within is are refused (λ same. absurd cc)
+refused_by images rewritten k (cause.Left at) image within is are refused = refused_at images rewritten k (cause.Left at) image within is are refused (λ same. absurd cc)
+refused_by images rewritten k cause.Memory image within is are refused = tt
+
+pub refused_text : (images : List Image) (rewritten : List Output) (k : ℕ) (why : RewriteRefusal) (image : Image) (text : List ℕ) → k < length images → image ≡ get_or images k image
+    → text ≡ image.text → AreRewritten (take k images) rewritten → Rewrites text (Err why) → RewritesTexts images (Err (refusal_of k why))
+refused_text images rewritten k why image text within is its_text are refused =
+    refused_by images rewritten k why image within is are (subst (λ (bytes : List ℕ). Rewrites bytes (Err why)) its_text refused)
 
 -- ---- cores
 
-pub refused_core : (starts : List (List ℕ)) (cores : List CoreStart) (k : ℕ) (d : CoreStart) → k < length cores → AllByRecursion (HasEntry starts) (take k cores) → ¬ HasEntry starts (get_or cores k d)
-    → IsFirstBadEntry starts cores k (get_or cores k d).entry
-refused_core starts cores k d within all wrong =
+pub refused_core : (rewritten : List Output) (cores : List CoreStart) (k : ℕ) (d : CoreStart) → k < length cores → AllByRecursion (HasEntry rewritten) (take k cores) → ¬ HasEntry rewritten (get_or cores k d)
+    → IsFirstBadEntry rewritten cores k (get_or cores k d).entry
+refused_core rewritten cores k d within all wrong =
     (take k cores, get_or cores k d, drop (k + 1) cores, cut_at cores k d within, sym (length-take-le k cores (omega arith)), all, wrong, refl)

@@ -1,48 +1,53 @@
 -- What the parts of loading answer.
-use Rattle.std.specs.Prelude.{◌≡◌, ℕ, ◌<◌, ◌≤◌, List, min, Option, Some, None, Result, Ok, Err}
+use Rattle.std.specs.Prelude.{◌≡◌, ℕ, ◌≤◌, List, length, Result, Ok, Err}
 use Rattle.std.specs.List.{AllByRecursion}
 use Rattle.sb_bundle.specs.declared.bundle.Bundle.{Bundle}
 use Rattle.sb_bundle.specs.declared.bundle.Image.{Image}
 use Rattle.sb_bundle.specs.declared.bundle.CoreStart.{CoreStart}
+use Rattle.sb_rewrite.specs.declared.refusal.RewriteRefusal.{RewriteRefusal}
+use Rattle.sb_rewrite.specs.declared.refusal.RewriteRefusal.TheVariants as cause
+use Rattle.sb_rewrite.specs.Output.{Output}
 use Rattle.sb_load.specs.declared.refusal.LoadRefusal.{LoadRefusal}
-use Rattle.sb_load.specs.declared.refusal.LoadRefusal.TheVariants.{Form, BadEntry, NoFrames, Memory}
-use Rattle.sb_load.specs.declared.text.TextRefusal.{TextRefusal}
-use Rattle.sb_load.specs.declared.text.TextRefusal.TheVariants.{At, NoMemory}
-use Rattle.sb_load.specs.Text.{IsLoadableText, IsFirstRefusal}
+use Rattle.sb_load.specs.declared.refusal.LoadRefusal.TheVariants.{Process, BadEntry, NoFrames, Memory}
 use Rattle.sb_load.specs.Need.{need_of, have_of}
-use Rattle.sb_load.specs.Loading.{AreLoadable, HasEntry, IsFirstForm, IsFirstBadEntry}
+use Rattle.sb_load.specs.Loading.{AreRewritten, HasEntry, IsFirstRefused, IsFirstBadEntry, LacksFrames}
 
--- the lesser of an address and another, if there is one
-abbrev pub lesser : ℕ → Option ℕ → ℕ
-lesser at (Some other) = min at other
-lesser at None = at
+-- the text of a process is refused, for want of memory too
+abbrev pub refusal_of : ℕ → RewriteRefusal → LoadRefusal
+refusal_of process (cause.Undecoded at) = Process process (cause.Undecoded at)
+refusal_of process (cause.BadTarget at) = Process process (cause.BadTarget at)
+refusal_of process (cause.Unmovable at) = Process process (cause.Unmovable at)
+refusal_of process (cause.AreaFull at) = Process process (cause.AreaFull at)
+refusal_of process (cause.Left at) = Process process (cause.Left at)
+refusal_of process cause.Memory = Memory
 
--- the starts of a text that may be loaded, or its first refusal
-abbrev pub AcceptsText : List ℕ → Result (List ℕ) TextRefusal → Type 0
-AcceptsText text (Ok starts) = IsLoadableText text starts
-AcceptsText text (Err (At at)) = IsFirstRefusal text at
-AcceptsText text (Err NoMemory) = Unit {0}
-
--- the starts of each text, or the first text that may not be loaded
-abbrev pub ListsTexts : List Image → Result (List (List ℕ)) LoadRefusal → Type 0
-ListsTexts images (Ok starts) = AreLoadable images starts
-ListsTexts images (Err (Form process at)) = IsFirstForm images process at
-ListsTexts images (Err (BadEntry core at)) = ⊥
-ListsTexts images (Err (NoFrames need have)) = ⊥
-ListsTexts images (Err Memory) = Unit {0}
+-- what each text becomes, or the first text that cannot be rewritten
+abbrev pub RewritesTexts : List Image → Result (List Output) LoadRefusal → Type 0
+RewritesTexts images (Ok rewritten) = AreRewritten images rewritten
+RewritesTexts images (Err (Process process why)) = IsFirstRefused images process why
+RewritesTexts images (Err (BadEntry core at)) = ⊥
+RewritesTexts images (Err (NoFrames need have)) = ⊥
+RewritesTexts images (Err Memory) = Unit {0}
 
 -- nothing, or the first core that starts elsewhere
-abbrev pub ChecksEntries : List (List ℕ) → List CoreStart → Result (Unit {0}) LoadRefusal → Type 0
-ChecksEntries starts cores (Ok done) = AllByRecursion (HasEntry starts) cores
-ChecksEntries starts cores (Err (Form process at)) = ⊥
-ChecksEntries starts cores (Err (BadEntry core at)) = IsFirstBadEntry starts cores core at
-ChecksEntries starts cores (Err (NoFrames need have)) = ⊥
-ChecksEntries starts cores (Err Memory) = ⊥
+abbrev pub ChecksEntries : List Output → List CoreStart → Result (Unit {0}) LoadRefusal → Type 0
+ChecksEntries rewritten cores (Ok done) = AllByRecursion (HasEntry rewritten) cores
+ChecksEntries rewritten cores (Err (Process process why)) = ⊥
+ChecksEntries rewritten cores (Err (BadEntry core at)) = IsFirstBadEntry rewritten cores core at
+ChecksEntries rewritten cores (Err (NoFrames need have)) = ⊥
+ChecksEntries rewritten cores (Err Memory) = ⊥
 
 -- the need, where there are as many frames
-abbrev pub ChecksFrames : Bundle → Result ℕ LoadRefusal → Type 0
-ChecksFrames bundle (Ok need) = (need ≡ need_of bundle) × (need ≤ have_of bundle)
-ChecksFrames bundle (Err (Form process at)) = ⊥
-ChecksFrames bundle (Err (BadEntry core at)) = ⊥
-ChecksFrames bundle (Err (NoFrames need have)) = (need ≡ need_of bundle) × (have ≡ have_of bundle) × (have < need)
-ChecksFrames bundle (Err Memory) = ⊥
+abbrev pub ChecksFrames : Bundle → List Output → Result ℕ LoadRefusal → Type 0
+ChecksFrames bundle rewritten (Ok need) = (need ≡ need_of bundle rewritten) × (need ≤ have_of bundle)
+ChecksFrames bundle rewritten (Err (Process process why)) = ⊥
+ChecksFrames bundle rewritten (Err (BadEntry core at)) = ⊥
+ChecksFrames bundle rewritten (Err (NoFrames need have)) = LacksFrames bundle rewritten need have
+ChecksFrames bundle rewritten (Err Memory) = ⊥
+
+-- a rewrite area of 64 KiB at most
+abbrev pub HasSmallArea : Output → Type 0
+HasSmallArea made = length made.area ≤ 65536
+
+abbrev pub AllSmallAreas : List Output → Type 0
+AllSmallAreas rewritten = AllByRecursion HasSmallArea rewritten

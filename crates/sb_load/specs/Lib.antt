@@ -1,4 +1,3 @@
-pub mod Text
 pub mod Need
 pub mod Loading
 pub mod RefusalText

@@ -5,61 +5,68 @@ use Rattle.sb_bundle.specs.declared.bundle.Bundle.{Bundle}
 use Rattle.sb_bundle.specs.declared.bundle.Image.{Image}
 use Rattle.sb_bundle.specs.declared.bundle.CoreStart.{CoreStart}
 use Rattle.sb_bundle.specs.Limits.{IsBundle}
+use Rattle.sb_rewrite.specs.declared.refusal.RewriteRefusal.{RewriteRefusal}
+use Rattle.sb_rewrite.specs.declared.refusal.RewriteRefusal.TheVariants as cause
+use Rattle.sb_rewrite.specs.Output.{Output, made_of}
+use Rattle.sb_rewrite.specs.Rewriting.{Rewrites}
 use Rattle.sb_load.specs.declared.refusal.LoadRefusal.{LoadRefusal}
-use Rattle.sb_load.specs.declared.refusal.LoadRefusal.TheVariants.{Form, BadEntry, NoFrames, Memory}
-use Rattle.sb_load.specs.Text.{IsLoadableText, IsFirstRefusal}
+use Rattle.sb_load.specs.declared.refusal.LoadRefusal.TheVariants.{Process, BadEntry, NoFrames, Memory}
 use Rattle.sb_load.specs.Need.{need_of, have_of}
 
--- the text of each image may be loaded, and these are the starts of its instructions
-abbrev pub AreLoadable : List Image → List (List ℕ) → Type 0
-AreLoadable [] [] = Unit {0}
-AreLoadable (image ∷ images) (starts ∷ others) = IsLoadableText image.text starts × AreLoadable images others
-AreLoadable [] (starts ∷ others) = ⊥
-AreLoadable (image ∷ images) [] = ⊥
+-- the text of each image can be rewritten, and this is what it becomes
+abbrev pub AreRewritten : List Image → List Output → Type 0
+AreRewritten [] [] = Unit {0}
+AreRewritten (image ∷ images) (made ∷ others) = Rewrites image.text (Ok made) × AreRewritten images others
+AreRewritten [] (made ∷ others) = ⊥
+AreRewritten (image ∷ images) [] = ⊥
 
--- the starts in the text of a process
-abbrev pub starts_of : List (List ℕ) → ℕ → List ℕ
-starts_of starts process = unwrap_or (slice_get starts process) []
+-- what an empty text becomes
+abbrev pub nothing : Output
+nothing = made_of [] [] [] [] []
+
+-- what the text of a process becomes
+abbrev pub rewritten_of : List Output → ℕ → Output
+rewritten_of rewritten process = unwrap_or (slice_get rewritten process) nothing
 
 -- the core starts at an instruction of its process
-abbrev pub HasEntry : List (List ℕ) → CoreStart → Type 0
-HasEntry starts core = Contains (starts_of starts core.process) core.entry
+abbrev pub HasEntry : List Output → CoreStart → Type 0
+HasEntry rewritten core = Contains (rewritten_of rewritten core.process).starts core.entry
 
--- the texts before that of this process may be loaded, and its own is refused at this address
-abbrev pub IsFirstForm : List Image → ℕ → ℕ → Type 0
-IsFirstForm images process at =
+-- the texts before that of this process can be rewritten, and its own cannot, for this cause
+abbrev pub IsFirstRefused : List Image → ℕ → RewriteRefusal → Type 0
+IsFirstRefused images process why =
     (before : List Image) × (image : Image) × (after : List Image) × (images ≡ before ++ image ∷ after) × (process ≡ length before)
-    × (starts : List (List ℕ)) × AreLoadable before starts × IsFirstRefusal image.text at
+    × (rewritten : List Output) × AreRewritten before rewritten × Rewrites image.text (Err why) × (why ≢ cause.Memory)
 
 -- the cores before this one start at instructions, and this one at another address
-abbrev pub IsFirstBadEntry : List (List ℕ) → List CoreStart → ℕ → ℕ → Type 0
-IsFirstBadEntry starts cores core at =
+abbrev pub IsFirstBadEntry : List Output → List CoreStart → ℕ → ℕ → Type 0
+IsFirstBadEntry rewritten cores core at =
     (before : List CoreStart) × (first : CoreStart) × (after : List CoreStart) × (cores ≡ before ++ first ∷ after) × (core ≡ length before)
-    × AllByRecursion (HasEntry starts) before × ¬ HasEntry starts first × (at ≡ first.entry)
+    × AllByRecursion (HasEntry rewritten) before × ¬ HasEntry rewritten first × (at ≡ first.entry)
 
--- what a loaded bundle is to contracts: the bundle, and for each process the starts of its instructions
+-- there are fewer frames than the bundle takes
+abbrev pub LacksFrames : Bundle → List Output → ℕ → ℕ → Type 0
+LacksFrames bundle rewritten need have = (need ≡ need_of bundle rewritten) × (have ≡ have_of bundle) × (have < need)
+
+-- what a loaded bundle is to contracts: the bundle, and for each process what its text becomes
 pub record Load : Type 0 where
   pub bundle : Bundle
-  pub starts : List (List ℕ)
+  pub rewritten : List Output
 
 -- the bundle may be loaded
 pub record IsLoadable (load : Load) : Type 0 where
   pub grammar : IsBundle load.bundle
-  pub texts : AreLoadable load.bundle.images load.starts
-  pub entries : AllByRecursion (HasEntry load.starts) load.bundle.cores
-  pub enough : need_of load.bundle ≤ have_of load.bundle
-
--- Every text may be loaded, but some entry or the number of frames is refused.
-abbrev pub IsRefusedBehindTexts : Bundle → (List (List ℕ) → Type 0) → Type 0
-IsRefusedBehindTexts bundle Refused = (starts : List (List ℕ)) × AreLoadable bundle.images starts × Refused starts
+  pub texts : AreRewritten load.bundle.images load.rewritten
+  pub entries : AllByRecursion (HasEntry load.rewritten) load.bundle.cores
+  pub enough : need_of load.bundle load.rewritten ≤ have_of load.bundle
 
 -- What loading answers. The cases exclude each other, but for want of memory.
 abbrev pub Loads : Bundle → Result Load LoadRefusal → Type 0
 Loads bundle (Ok load) = (load.bundle ≡ bundle) × IsLoadable load
-Loads bundle (Err (Form process at)) = IsFirstForm bundle.images process at
-Loads bundle (Err (BadEntry core at)) = IsRefusedBehindTexts bundle (λ starts. IsFirstBadEntry starts bundle.cores core at)
+Loads bundle (Err (Process process why)) = IsFirstRefused bundle.images process why
+Loads bundle (Err (BadEntry core at)) = (rewritten : List Output) × AreRewritten bundle.images rewritten × IsFirstBadEntry rewritten bundle.cores core at
 Loads bundle (Err (NoFrames need have)) =
-    IsRefusedBehindTexts bundle (λ starts. AllByRecursion (HasEntry starts) bundle.cores × (need ≡ need_of bundle) × (have ≡ have_of bundle) × (have < need))
+    (rewritten : List Output) × AreRewritten bundle.images rewritten × AllByRecursion (HasEntry rewritten) bundle.cores × LacksFrames bundle rewritten need have
 Loads bundle (Err Memory) = Unit {0}
 
 -- a bundle has one answer, but for want of memory

@@ -1,25 +1,25 @@
 //! A bundle that may be loaded.
 
-ghost use Rattle.std.specs.Prelude.{◌≡◌, ◌↔◌, ◌<◌, ◌≤◌, ◌-◌, IsTrue, Contains, length};
+ghost use Rattle.std.specs.Prelude.{◌≡◌, ◌<◌, ◌≤◌, ◌-◌, ◌^◌, length};
+ghost use Rattle.std.specs.List.Sorted.{IsStrictlyIncreasing};
 ghost use Rattle.sb_bundle.specs.Limits.{IsBundle};
-ghost use Rattle.sb_load.specs.Loading.{IsLoadable, starts_of};
+ghost use Rattle.sb_load.specs.Loading.{IsLoadable, rewritten_of};
 ghost use Rattle.sb_load.specs.Need.{need_of, have_of};
 
-use crate::entries::is_start_of;
 use crate::need::KEPT_FRAMES;
 use sb_bundle::Bundle;
 use sb_list::Listed;
-use sb_rewrite::Listing;
+use sb_rewrite::Rewritten;
 use std::marker::Model;
 
-/// Listings, by the numbers of their processes.
-pub type Listings = Listed<Listing>;
+/// Rewritten texts, by the numbers of their processes.
+pub type RewrittenTexts = Listed<Rewritten>;
 
-/// A bundle that may be loaded, and for each process the starts of its instructions.
+/// A bundle that may be loaded, and for each process its rewritten text.
 #[derive(Debug, Drop)]
 pub struct Loaded {
     bundle: Bundle,
-    listings: Listings,
+    rewritten: RewrittenTexts,
     need: u32,
 }
 
@@ -30,21 +30,21 @@ impl Model for Loaded {
 
     ghost Value = { Load };
 
-    ghost view = { λ loaded. record { bundle = loaded.bundle; starts = loaded.listings } };
+    ghost view = { λ loaded. record { bundle = loaded.bundle; rewritten = loaded.rewritten } };
 
-    ghost invariant = { λ loaded. ∥ IsLoadable (record { bundle = loaded.bundle; starts = loaded.listings }) ∥₁ × (loaded.need ≡ need_of loaded.bundle) };
+    ghost invariant = { λ loaded. ∥ IsLoadable (record { bundle = loaded.bundle; rewritten = loaded.rewritten }) ∥₁ × (loaded.need ≡ need_of loaded.bundle loaded.rewritten) };
 }
 
 impl Loaded {
     /// Puts together what was found.
-    pub(crate) fn new(bundle: Bundle, listings: Listings, need: u32) -> Loaded
-        requires loadable { IsLoadable (record { bundle = bundle; starts = listings }) }
-        requires need { need ≡ need_of bundle }
-        ensures { result ≡ record { bundle = bundle; starts = listings } }
+    pub(crate) fn new(bundle: Bundle, rewritten: RewrittenTexts, need: u32) -> Loaded
+        requires loadable { IsLoadable (record { bundle = bundle; rewritten = rewritten }) }
+        requires need { need ≡ need_of bundle rewritten }
+        ensures { result ≡ record { bundle = bundle; rewritten = rewritten } }
     {
         Loaded {
             bundle,
-            listings,
+            rewritten,
             need,
         }
     }
@@ -58,9 +58,21 @@ impl Loaded {
         &self.bundle
     }
 
+    /// The rewritten text of a process of the bundle.
+    pub fn rewritten(&self, process: u32) -> &Rewritten
+        requires { process < length self.now.bundle.images }
+        ensures same { result.now ≡ rewritten_of self.now.rewritten process }
+        // Its pages can be counted in 32 bits.
+        ensures text { length result.now.text < 2 ^ 32 }
+        ensures area { length result.now.area ≤ 65536 }
+        ensures starts { IsStrictlyIncreasing result.now.starts }
+    {
+        &self.rewritten.items()[process as usize]
+    }
+
     /// How many frames it takes, of those that it has.
     pub fn need(&self) -> u32
-        ensures value { result ≡ need_of self.now.bundle }
+        ensures value { result ≡ need_of self.now.bundle self.now.rewritten }
         ensures enough { result ≤ have_of self.now.bundle }
     {
         self.need
@@ -68,16 +80,8 @@ impl Loaded {
 
     /// How many frames are free when it has taken those that it needs.
     pub fn free(&self) -> u32
-        ensures { result ≡ have_of self.now.bundle - need_of self.now.bundle }
+        ensures { result ≡ have_of self.now.bundle - need_of self.now.bundle self.now.rewritten }
     {
         self.bundle().frames - KEPT_FRAMES - self.need()
-    }
-
-    /// Whether an instruction of the process starts at the address.
-    pub fn is_start(&self, process: u32, at: u64) -> bool
-        requires { process < length self.now.bundle.images }
-        ensures { IsTrue result ↔ Contains (starts_of self.now.starts process) at }
-    {
-        is_start_of(self.listings.items(), process, at)
     }
 }

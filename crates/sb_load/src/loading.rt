@@ -1,45 +1,53 @@
 //! Loading a bundle.
 
 ghost use Rattle.std.specs.Prelude.{◌≡◌, ◌≤◌, length};
-ghost use Rattle.sb_bundle.specs.Limits.{IsBundle};
+ghost use Rattle.std.specs.List.{AllByRecursion};
+ghost use Rattle.sb_bundle.specs.Limits.{IsBundle, IsImage};
 ghost use Rattle.sb_load.specs.Loading.{Loads, OneAnswer};
-ghost use Rattle.sb_load.specs.Checks.{ListsTexts, ChecksFrames};
+ghost use Rattle.sb_load.specs.Checks.{refusal_of, RewritesTexts, ChecksFrames, AllSmallAreas};
 
 use crate::entries::check_entries;
-use crate::loaded::{Listings, Loaded};
+use crate::loaded::{Loaded, RewrittenTexts};
 use crate::need::{KEPT_FRAMES, need_of};
 use crate::refusal::LoadRefusal;
-use crate::text::{TextRefusal, accept_text};
 use sb_bundle::{Bundle, Image};
+use sb_rewrite::{RewriteRefusal, Rewritten, rewrite};
 use std::alloc::Global;
 
-/// The listings of the texts, or the first process whose text may not be loaded.
-fn list_texts(alloc: Global, images: &[Image]) -> Result<Listings, LoadRefusal>
-    requires { length images.now ≤ 16 }
-    ensures { ListsTexts images.now result }
+/// The refusal of a process's text.
+fn refused(process: u32, why: RewriteRefusal) -> LoadRefusal
+    ensures { result ≡ refusal_of process why }
 {
-    let mut listings = Vec::new(alloc);
+    match why {
+        RewriteRefusal::Memory => LoadRefusal::Memory,
+        _ => LoadRefusal::Process { process, why },
+    }
+}
+
+/// What the texts become, or the first process whose text cannot be rewritten.
+fn rewrite_texts(alloc: Global, images: &[Image]) -> Result<RewrittenTexts, LoadRefusal>
+    requires images { AllByRecursion IsImage images.now }
+    requires count { length images.now ≤ 16 }
+    ensures { RewritesTexts images.now result }
+{
+    let mut rewritten = Vec::new(alloc);
     for (process, image) in images.iter().enumerate() {
-        match accept_text(alloc, image.text.items()) {
-            Ok(listing) => listings.push(listing)?,
-            Err(TextRefusal::At { at }) => {
-                return Err(LoadRefusal::Form {
-                    process: process as u32,
-                    at,
-                });
-            }
-            Err(TextRefusal::NoMemory) => return Err(LoadRefusal::Memory),
+        match rewrite(alloc, image.text.items()) {
+            Ok(made) => rewritten.push(made)?,
+            Err(why) => return Err(refused(process as u32, why)),
         }
     }
-    Ok(Listings::new(listings))
+    Ok(RewrittenTexts::new(rewritten))
 }
 
 /// How many frames the bundle takes, where it has as many.
-fn check_frames(bundle: &Bundle) -> Result<u32, LoadRefusal>
-    requires { IsBundle bundle.now }
-    ensures { ChecksFrames bundle.now result }
+fn check_frames(bundle: &Bundle, rewritten: &[Rewritten]) -> Result<u32, LoadRefusal>
+    requires bundle { IsBundle bundle.now }
+    requires count { length rewritten.now ≤ 16 }
+    requires areas { AllSmallAreas rewritten.now }
+    ensures { ChecksFrames bundle.now rewritten.now result }
 {
-    let need = need_of(bundle);
+    let need = need_of(bundle, rewritten);
     let have = bundle.frames - KEPT_FRAMES;
     if have < need {
         return Err(LoadRefusal::NoFrames { need, have });
@@ -51,17 +59,17 @@ fn check_frames(bundle: &Bundle) -> Result<u32, LoadRefusal>
 ///
 /// # Errors
 ///
-/// In this order: `Form` for the first process whose text may not be loaded, with the least address at which something
-/// is wrong; `BadEntry` for the first core whose entry is no start of an instruction of its process; `NoFrames` exactly
-/// where there are fewer frames than the bundle takes. `Memory` may come in place of any answer.
+/// In this order: `Process` for the first process whose text cannot be rewritten, with the cause; `BadEntry` for the
+/// first core whose entry is no start of an instruction of its process; `NoFrames` exactly where there are fewer frames
+/// than the bundle takes. `Memory` may come in place of any answer.
 pub fn load(alloc: Global, bundle: &Bundle) -> Result<Loaded, LoadRefusal>
     requires { IsBundle bundle.now }
     ensures { Loads bundle.now result }
 {
-    let listings = list_texts(alloc, bundle.images.items())?;
-    check_entries(listings.items(), bundle.cores.items())?;
-    let need = check_frames(bundle)?;
-    Ok(Loaded::new(bundle.copied(alloc)?, listings, need))
+    let rewritten = rewrite_texts(alloc, bundle.images.items())?;
+    check_entries(rewritten.items(), bundle.cores.items())?;
+    let need = check_frames(bundle, rewritten.items())?;
+    Ok(Loaded::new(bundle.copied(alloc)?, rewritten, need))
 }
 
 /// A law, which does nothing when it is called: what `load` promises leaves one answer for each bundle, but for want of

@@ -3,14 +3,16 @@
 ghost use Rattle.std.specs.Prelude.{◌≡◌, ◌*◌, ◌≤◌, length, sum_by};
 ghost use Rattle.std.specs.List.{AllByRecursion};
 ghost use Rattle.sb_bundle.specs.Limits.{IsBundle, IsImage};
-ghost use Rattle.sb_load.specs.Need.{page_count, process_need, need_of};
+ghost use Rattle.sb_load.specs.Need.{page_count, process_need, area_need, need_of};
+ghost use Rattle.sb_load.specs.Checks.{HasSmallArea, AllSmallAreas};
 
 use sb_bundle::{Bundle, Image};
+use sb_rewrite::Rewritten;
 
 /// The frames that the machine keeps.
 pub const KEPT_FRAMES: u32 = 512;
 
-/// Of a process beside its text, data and heap: 11 page tables and 1 pool page.
+/// Of a process beside its text, rewrite area, data and heap: 11 page tables and 1 pool page.
 const PROCESS_FRAMES: u32 = 12;
 
 /// Of a thread: its EPTP list, 6 frames of its home view, 4 stack pages, and its save page.
@@ -49,10 +51,35 @@ fn processes_need(images: &[Image]) -> u32
     need
 }
 
-/// How many frames the bundle takes when it is loaded.
-pub fn need_of(bundle: &Bundle) -> u32
-    requires { IsBundle bundle.now }
-    ensures { result ≡ need_of bundle.now }
+fn area_need(made: &Rewritten) -> u32
+    requires { HasSmallArea made.now }
+    ensures value { result ≡ area_need made.now }
+    ensures bound { result ≤ 512 }
 {
-    processes_need(bundle.images.items()) + THREAD_FRAMES * bundle.cores.items().len() as u32
+    page_count(made.area())
+}
+
+fn areas_need(rewritten: &[Rewritten]) -> u32
+    requires areas { AllSmallAreas rewritten.now }
+    requires count { length rewritten.now ≤ 16 }
+    ensures value { result ≡ sum_by area_need rewritten.now }
+    ensures bound { result ≤ 512 * length rewritten.now }
+{
+    let mut need = 0;
+    for made in rewritten {
+        need += area_need(made);
+    }
+    need
+}
+
+/// How many frames the bundle takes when it is loaded, where its texts become this.
+pub fn need_of(bundle: &Bundle, rewritten: &[Rewritten]) -> u32
+    requires bundle { IsBundle bundle.now }
+    requires count { length rewritten.now ≤ 16 }
+    requires areas { AllSmallAreas rewritten.now }
+    ensures { result ≡ need_of bundle.now rewritten.now }
+{
+    processes_need(bundle.images.items())
+        + areas_need(rewritten)
+        + THREAD_FRAMES * bundle.cores.items().len() as u32
 }

@@ -1,6 +1,7 @@
 use super::*;
-use crate::refusal::LoadRefusal::{BadEntry, Form, NoFrames};
+use crate::refusal::LoadRefusal::{BadEntry, NoFrames, Process};
 use sb_bundle::{Bundle, read_bundle};
+use sb_rewrite::RewriteRefusal::{self, AreaFull, BadTarget, Left, Undecoded, Unmovable};
 use std::alloc::{AllocError, Global};
 use std::test::*;
 
@@ -106,59 +107,68 @@ fn answer(alloc: Global, bytes: &[u8]) -> Result<Result<u32, LoadRefusal>, Fail>
     }
 }
 
+/// What loading answers for one process with this text, whose thread starts at its first byte.
+fn answer_of_text(alloc: Global, text: &[u8]) -> Result<Result<u32, LoadRefusal>, Fail> {
+    let mut bytes = header(alloc, 576, 1, 1)?;
+    put_image(&mut bytes, text, 0, 0)?;
+    put_core(&mut bytes, 0, 0x40_0000)?;
+    answer(alloc, &bytes)
+}
+
 #[test]
-fn refuses_the_first_thing_that_is_wrong_in_a_text(rt: HostRuntime) -> Result<(), Fail> {
-    let rows: [(&str, &[u8], Option<u64>); 12] = [
+fn refuses_a_text_that_cannot_be_rewritten(rt: HostRuntime) -> Result<(), Fail> {
+    let start = 0x40_0000;
+    let rows: [(&str, &[u8], Option<RewriteRefusal>); 8] = [
         ("whole instructions", &PRINTS, None),
-        ("no instruction", &[0xCC], Some(0x40_0000)),
+        ("VMFUNC itself", &[0x0F, 0x01, 0xD4], None),
+        (
+            "no instruction",
+            &[0x66, 0x90],
+            Some(Undecoded { at: start }),
+        ),
         (
             "none behind an instruction",
             &[0x31, 0xC0, 0xCC],
-            Some(0x40_0002),
+            Some(Undecoded { at: start + 2 }),
         ),
         (
-            "one that the end cuts",
-            &[0x31, 0xC0, 0xB8, 1],
-            Some(0x40_0002),
+            "a jump to the text's end",
+            &[0xEB, 0x00],
+            Some(BadTarget { at: start }),
         ),
-        ("VMFUNC itself", &[0x0F, 0x01, 0xD4], Some(0x40_0000)),
-        (
-            "VMFUNC inside an immediate",
-            &[0xB8, 0x0F, 0x01, 0xD4, 0x00],
-            Some(0x40_0001),
-        ),
-        (
-            "the pattern before what is no instruction",
-            &[0xB8, 0x0F, 0x01, 0xD4, 0x00, 0xCC],
-            Some(0x40_0001),
-        ),
-        (
-            "what is no instruction before the pattern",
-            &[0xCC, 0xB8, 0x0F, 0x01, 0xD4, 0x00],
-            Some(0x40_0000),
-        ),
-        ("a jump to the text's end", &[0xEB, 0x00], Some(0x40_0000)),
         ("a jump to itself", &[0xEB, 0xFE], None),
-        (
-            "a jump into an instruction",
-            &[0xEB, 0x01, 0x31, 0xC0],
-            Some(0x40_0000),
-        ),
         (
             "a jump to 70000040, in the trampoline page",
             &[0xE9, 0x3B, 0x00, 0xC0, 0x6F],
             None,
         ),
+        (
+            "a call through memory with the bytes of VMFUNC",
+            &[0xFF, 0x94, 0x24, 0x0F, 0x01, 0xD4, 0x00],
+            Some(Unmovable { at: start }),
+        ),
     ];
-    for (name, text, at) in rows {
-        let expected = match at {
+    for (name, text, why) in rows {
+        let expected = match why {
             None => Ok(25),
-            Some(at) => Err(Form { process: 0, at }),
+            Some(why) => Err(Process { process: 0, why }),
         };
-        let mut bytes = header(rt.alloc(), 576, 1, 1)?;
-        put_image(&mut bytes, text, 0, 0)?;
-        put_core(&mut bytes, 0, 0x40_0000)?;
-        assert_eq!(rt; answer(rt.alloc(), &bytes)?, expected, "{name}");
+        assert_eq!(rt; answer_of_text(rt.alloc(), text)?, expected, "{name}");
+    }
+    Ok(())
+}
+
+#[test]
+fn a_rewrite_area_takes_its_pages(rt: HostRuntime) -> Result<(), Fail> {
+    // Each IMUL RCX, [RDI], 00D4010F is moved to a slot of 13 bytes: 315 of them fill one page but for a byte.
+    let moved = [0x48, 0x69, 0x0F, 0x01, 0xD4, 0x00, 0x00];
+    let rows = [(1, 26), (315, 26), (316, 27)];
+    for (count, need) in rows {
+        let mut text = Vec::new(rt.alloc());
+        for _ in 0..count {
+            text.extend_from_slice(&moved)?;
+        }
+        assert_eq!(rt; answer_of_text(rt.alloc(), &text)?, Ok(need), "{count}");
     }
     Ok(())
 }
@@ -245,9 +255,9 @@ fn refuses_texts_then_entries_then_frames(rt: HostRuntime) -> Result<(), Fail> {
             600,
             &[Broken, Stop],
             &[(0, start)],
-            Err(Form {
+            Err(Process {
                 process: 0,
-                at: start + 2,
+                why: Undecoded { at: start + 2 },
             }),
         ),
         (
@@ -255,9 +265,9 @@ fn refuses_texts_then_entries_then_frames(rt: HostRuntime) -> Result<(), Fail> {
             600,
             &[Prints, Broken],
             &[(0, start)],
-            Err(Form {
+            Err(Process {
                 process: 1,
-                at: start + 2,
+                why: Undecoded { at: start + 2 },
             }),
         ),
         (
@@ -265,9 +275,9 @@ fn refuses_texts_then_entries_then_frames(rt: HostRuntime) -> Result<(), Fail> {
             536,
             &[Broken],
             &[(0, start + 1)],
-            Err(Form {
+            Err(Process {
                 process: 0,
-                at: start + 2,
+                why: Undecoded { at: start + 2 },
             }),
         ),
         (
@@ -289,7 +299,7 @@ fn refuses_texts_then_entries_then_frames(rt: HostRuntime) -> Result<(), Fail> {
 }
 
 #[test]
-fn keeps_the_bundle_and_its_starts(rt: HostRuntime) -> Result<(), Fail> {
+fn keeps_the_bundle_and_its_rewritten_texts(rt: HostRuntime) -> Result<(), Fail> {
     let programs = [Program::Prints, Program::Clears];
     let bytes = spelled(rt.alloc(), 576, &programs, &[(1, 0x40_0000)])?;
     let bundle = read_bundle(rt.alloc(), &bytes)
@@ -301,23 +311,52 @@ fn keeps_the_bundle_and_its_starts(rt: HostRuntime) -> Result<(), Fail> {
     assert_eq!(rt; loaded.bundle().frames, 576);
     assert_eq!(rt; loaded.bundle().images.items().len(), 2);
     if loaded.bundle().images.items().len() == 2 {
-        let starts = [0x40_0000, 0x40_0005, 0x40_000A, 0x40_000C, 0x40_000E];
-        for at in 0x3F_FFFF..0x40_0011 {
-            assert_eq!(rt; loaded.is_start(0, at), starts.contains(&at), "{at:x}");
-            assert_eq!(rt; loaded.is_start(1, at), at == 0x40_0000, "{at:x}");
-        }
+        let (first, second) = (loaded.rewritten(0), loaded.rewritten(1));
+        assert_eq!(rt; first.text(), PRINTS.as_slice());
+        assert_eq!(rt; second.text(), [0x31, 0xC0].as_slice());
+        assert!(rt; first.is_start(0x40_0005) && !second.is_start(0x40_0005));
     }
     Ok(())
 }
 
 #[test]
 fn writes_the_line_of_a_refusal(rt: HostRuntime) -> Result<(), Fail> {
+    let at = 0x40_898E;
+    let process = 1;
     let rows = [
         (
-            "process 1 Form 40898e",
-            Form {
-                process: 1,
-                at: 0x40_898E,
+            "process 1 Undecoded 40898e",
+            Process {
+                process,
+                why: Undecoded { at },
+            },
+        ),
+        (
+            "process 1 BadTarget 40898e",
+            Process {
+                process,
+                why: BadTarget { at },
+            },
+        ),
+        (
+            "process 1 Unmovable 40898e",
+            Process {
+                process,
+                why: Unmovable { at },
+            },
+        ),
+        (
+            "process 1 AreaFull 40898e",
+            Process {
+                process,
+                why: AreaFull { at },
+            },
+        ),
+        (
+            "process 1 Left 1000",
+            Process {
+                process,
+                why: Left { at: 0x1000 },
             },
         ),
         ("entry 7 0", BadEntry { core: 7, at: 0 }),

@@ -4,4 +4,4 @@ use Rattle.sb_load.specs.Loading.{HasEntry}
 use Rattle.sb_load.proofs.entries.check_entries.Given as goal
 
 abbrev pub invariant-loop-number : goal.invariant-loop-number
-invariant-loop-number l = AllByRecursion (HasEntry l.listings) (take l.number l.cores)
+invariant-loop-number l = AllByRecursion (HasEntry l.rewritten) (take l.number l.cores)
