@@ -5,5 +5,11 @@ pub mod Places
 pub mod Starting
 pub mod Reached
 pub mod Spots
+pub mod WordBytes
 pub mod Writing
 pub mod Threads
+pub mod Listed
+pub mod Declined
+pub mod Borders
+pub mod Bits
+pub mod Lawful

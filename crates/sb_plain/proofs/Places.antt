@@ -1,14 +1,18 @@
 -- Where pages stand after others are added, and after their bytes are replaced.
-use Rattle.std.proofs.Common.{◌≡◌, ◌<◌, ◌≤◌, ◌++◌, sym, ap, ◌∙◌, ℕ, zero, suc, Bool, true, false, cond, List, [], ◌∷◌, length, refl, arith}
-use Rattle.std.specs.Prelude.{Option, Some, None, IfSome, is_some, if◌then◌else◌, slice_index_or, slice_set}
+use Rattle.std.proofs.Common.{◌≡◌, ◌+◌, ◌<◌, ◌≤◌, ◌++◌, sym, ap, ◌∙◌, ℕ, zero, suc, Bool, true, false, cond, List, [], ◌∷◌, length, length-append, length-set, Result, Ok, Err, refl, arith}
+use Rattle.std.specs.Prelude.{Option, Some, None, IfSome, IsOk, OnOk, is_some, if◌then◌else◌, slice_index_or, slice_set}
 use Rattle.std.specs.Option.{option_map}
-use Rattle.std.proofs.lemmas.List.{set_past}
+use Rattle.std.proofs.lemmas.Bool.{false≢true}
+use Rattle.std.proofs.lemmas.List.{set_past, length-replicate}
+use Rattle.std.proofs.lemmas.List.Elements.{All-pop, All-push, All-same, All-set}
 use Rattle.std.proofs.lemmas.Grind.{common_steps}
 use Rattle.sb_trace.specs.declared.page.PageName.{PageName}
 use Rattle.sb_trace.specs.declared.page.Page.{Page}
 use Rattle.sb_trace.specs.PageName.{same_name}
 use Rattle.sb_trace.specs.State.{find_page, replaced, bytes_of}
-use Rattle.sb_plain.specs.Places.{place_of, equal_names, IsIndex, either, IsNoted}
+use Rattle.sb_trace.specs.PageWords.{zeros}
+use Rattle.sb_trace.specs.SystemCall.{with_mode}
+use Rattle.sb_plain.specs.Places.{place_of, equal_names, IsIndex, either, IsNoted, IsWhole, AreWhole, IsBlank, AreBlank, IsSound}
 use Rattle.sb_plain.proofs.Names.{equal_same, name_same}
 
 -- ---- the place of a name
@@ -95,6 +99,10 @@ index_pushed index now pages new count old long noted = λ name.
 
 -- ---- a place is noted
 
+pub on_ok : {T E P : Type 0} (result : Result T E) → IsOk result → OnOk result P → P
+on_ok (Ok value) ok known = known
+on_ok (Err error) ok known = absurd (false≢true ok)
+
 either_none : (found : Option ℕ) → found ≡ either found None
 either_none None = refl
 either_none (Some place) = refl
@@ -129,79 +137,146 @@ pub noted_put : (index now : PageName → Option ℕ) (name : PageName) (place :
 noted_put index now name place none put = λ other.
     put other ∙ rw (equal_same name other) (put_by index name other place (same_name name other) refl (none_there (index name) none))
 
--- ---- the bytes of a page are replaced
+-- ---- a page is changed
 
-replaced_by : (test : Bool) (pages rest : List Page) (page : Page) (bytes : List ℕ) (behind : Option Page)
-    → (behind ≡ None → rest ≡ pages) → (if test then Some page else behind) ≡ None
-    → (if test then (record page { bytes = bytes }) ∷ pages else page ∷ rest) ≡ page ∷ pages
-replaced_by true pages rest page bytes behind more none = cc
-replaced_by false pages rest page bytes behind more none = ap (λ (others : List Page). page ∷ others) (more none)
+-- the pages with the first of this name changed so
+abbrev changed : (Page → Page) → List Page → PageName → List Page
+changed change [] name = []
+changed change (page ∷ pages) name = if same_name page.name name then change page ∷ pages else page ∷ changed change pages name
+
+abbrev with_bytes : List ℕ → Page → Page
+with_bytes bytes page = record page { bytes = bytes }
+
+abbrev made_executable : Bool → Page → Page
+made_executable executable page = record page { executable = executable }
+
+replaced-changed : (pages : List Page) (name : PageName) (bytes : List ℕ) → replaced pages name bytes ≡ changed (with_bytes bytes) pages name
+replaced-changed [] name bytes = refl
+replaced-changed (page ∷ pages) name bytes =
+    ap (λ (rest : List Page). if same_name page.name name then with_bytes bytes page ∷ pages else page ∷ rest) (replaced-changed pages name bytes)
+
+with_mode-changed : (pages : List Page) (name : PageName) (executable : Bool)
+    → with_mode pages name executable ≡ changed (made_executable executable) pages name
+with_mode-changed [] name executable = refl
+with_mode-changed (page ∷ pages) name executable =
+    ap (λ (rest : List Page). if same_name page.name name then made_executable executable page ∷ pages else page ∷ rest) (with_mode-changed pages name executable)
 
 -- where there is no page of this name, nothing changes
+unchanged_by : (test : Bool) (pages rest : List Page) (page new : Page) (behind : Option Page) → (behind ≡ None → rest ≡ pages)
+    → (if test then Some page else behind) ≡ None → (if test then new ∷ pages else page ∷ rest) ≡ page ∷ pages
+unchanged_by true pages rest page new behind more none = cc
+unchanged_by false pages rest page new behind more none = ap (λ (others : List Page). page ∷ others) (more none)
+
+changed_none : (change : Page → Page) (pages : List Page) (name : PageName) → find_page pages name ≡ None → changed change pages name ≡ pages
+changed_none change [] name none = refl
+changed_none change (page ∷ pages) name none =
+    unchanged_by (same_name page.name name) pages (changed change pages name) page (change page) (find_page pages name) (changed_none change pages name) none
+
 pub replaced_none : (pages : List Page) (name : PageName) (bytes : List ℕ) → find_page pages name ≡ None → replaced pages name bytes ≡ pages
-replaced_none [] name bytes none = refl
-replaced_none (page ∷ pages) name bytes none =
-    replaced_by (same_name page.name name) pages (replaced pages name bytes) page bytes (find_page pages name) (replaced_none pages name bytes) none
+replaced_none pages name bytes none = replaced-changed pages name bytes ∙ changed_none (with_bytes bytes) pages name none
 
-set_by : (test : Bool) (pages rest : List Page) (first default : Page) (bytes : List ℕ) (found : Option ℕ) (place : ℕ)
-    → ((next : ℕ) → found ≡ Some next → slice_set pages next (record (slice_index_or pages next default) { bytes = bytes }) ≡ rest)
+pub with_mode_none : (pages : List Page) (name : PageName) (executable : Bool) → find_page pages name ≡ None → with_mode pages name executable ≡ pages
+with_mode_none pages name executable none = with_mode-changed pages name executable ∙ changed_none (made_executable executable) pages name none
+
+-- the page at the place of its name is changed
+set_by : (test : Bool) (change : Page → Page) (pages rest : List Page) (first default : Page) (found : Option ℕ) (place : ℕ)
+    → ((next : ℕ) → found ≡ Some next → slice_set pages next (change (slice_index_or pages next default)) ≡ rest)
     → (if test then Some 0 else option_map suc found) ≡ Some place
-    → slice_set (first ∷ pages) place (record (slice_index_or (first ∷ pages) place default) { bytes = bytes })
-    ≡ (if test then (record first { bytes = bytes }) ∷ pages else first ∷ rest)
-set_by true pages rest first default bytes found zero more is = refl
-set_by true pages rest first default bytes found (suc place) more is = cc
-set_by false pages rest first default bytes found zero more is = absurd (never_first found is)
-set_by false pages rest first default bytes found (suc place) more is =
-    ap (λ (others : List Page). first ∷ others) (more place (later found place is))
+    → slice_set (first ∷ pages) place (change (slice_index_or (first ∷ pages) place default)) ≡ (if test then change first ∷ pages else first ∷ rest)
+set_by true change pages rest first default found zero more is = refl
+set_by true change pages rest first default found (suc place) more is = cc
+set_by false change pages rest first default found zero more is = absurd (never_first found is)
+set_by false change pages rest first default found (suc place) more is = ap (λ (others : List Page). first ∷ others) (more place (later found place is))
 
--- a page whose bytes are set at its place
-replaced_at : (pages : List Page) (name : PageName) (place : ℕ) (default : Page) (bytes : List ℕ) → place_of pages name ≡ Some place
-    → slice_set pages place (record (slice_index_or pages place default) { bytes = bytes }) ≡ replaced pages name bytes
-replaced_at [] name place default bytes is = cc
-replaced_at (first ∷ pages) name place default bytes is =
-    set_by (same_name first.name name) pages (replaced pages name bytes) first default bytes (place_of pages name) place
-    (λ next. replaced_at pages name next default bytes) is
+changed_at : (change : Page → Page) (pages : List Page) (name : PageName) (place : ℕ) (default : Page) → place_of pages name ≡ Some place
+    → slice_set pages place (change (slice_index_or pages place default)) ≡ changed change pages name
+changed_at change [] name place default is = cc
+changed_at change (first ∷ pages) name place default is =
+    set_by (same_name first.name name) change pages (changed change pages name) first default (place_of pages name) place
+    (λ next. changed_at change pages name next default) is
 
-stays_by : (test other : Bool) (pages rest : List Page) (page : Page) (bytes : List ℕ) (name : PageName)
-    → same_name page.name name ≡ other → place_of rest name ≡ place_of pages name
-    → place_of (if test then (record page { bytes = bytes }) ∷ pages else page ∷ rest) name ≡ (if other then Some 0 else option_map suc (place_of pages name))
-stays_by true other pages rest page bytes name is more = rw is refl
-stays_by false other pages rest page bytes name is more = rw (is, more) refl
-
--- each name keeps its place
-pub place_replaced : (pages : List Page) (name other : PageName) (bytes : List ℕ) → place_of (replaced pages name bytes) other ≡ place_of pages other
-place_replaced [] name other bytes = refl
-place_replaced (page ∷ pages) name other bytes =
-    stays_by (same_name page.name name) (same_name page.name other) pages (replaced pages name bytes) page bytes other refl (place_replaced pages name other bytes)
-
--- ---- a byte is put
-
-abbrev with_bytes : Page → List ℕ → Page
-with_bytes page bytes = record page { bytes = bytes }
-
-pub put_at : (pages : List Page) (name : PageName) (place offset value : ℕ) (page : Page)
+-- the bytes of a page are changed
+pub bytes_changed : (change : List ℕ → List ℕ) (pages : List Page) (name : PageName) (place : ℕ) (page : Page)
     → place_of pages name ≡ Some place → page ≡ slice_index_or pages place page
-    → slice_set pages place (with_bytes page (slice_set page.bytes offset value))
-    ≡ replaced pages name (slice_set (bytes_of (find_page pages name)) offset value)
-put_at pages name place offset value page is at =
+    → slice_set pages place (record page { bytes = change page.bytes }) ≡ replaced pages name (change (bytes_of (find_page pages name)))
+bytes_changed change pages name place page is at =
     let found : find_page pages name ≡ Some page = found_at pages name place page is ∙ ap (λ (one : Page). Some one) (sym at) in
     let bytes : bytes_of (find_page pages name) ≡ page.bytes = ap bytes_of found in
-    ap (λ (one : Page). slice_set pages place (with_bytes one (slice_set page.bytes offset value))) at
-    ∙ replaced_at pages name place page (slice_set page.bytes offset value) is
-    ∙ ap (λ (list : List ℕ). replaced pages name (slice_set list offset value)) (sym bytes)
+    ap (λ (one : Page). slice_set pages place (with_bytes (change page.bytes) one)) at
+    ∙ changed_at (with_bytes (change page.bytes)) pages name place page is
+    ∙ sym (replaced-changed pages name (change page.bytes))
+    ∙ ap (λ (list : List ℕ). replaced pages name (change list)) (sym bytes)
 
--- past the end of the page nothing is put
+-- past the end of the page no byte is put
 pub put_past : (pages : List Page) (name : PageName) (place offset value : ℕ) (page : Page)
     → place_of pages name ≡ Some place → page ≡ slice_index_or pages place page → length page.bytes ≤ offset
     → slice_set pages place page ≡ replaced pages name (slice_set (bytes_of (find_page pages name)) offset value)
 put_past pages name place offset value page is at past =
-    ap (λ (list : List ℕ). slice_set pages place (with_bytes page list)) (sym (set_past page.bytes offset value past))
-    ∙ put_at pages name place offset value page is at
+    ap (λ (list : List ℕ). slice_set pages place (with_bytes list page)) (sym (set_past page.bytes offset value past))
+    ∙ bytes_changed (λ bytes. slice_set bytes offset value) pages name place page is at
 
--- each name keeps its place
-pub place_put : (pages : List Page) (name other : PageName) (place offset value : ℕ) (page : Page)
+-- the mode of a page is changed
+pub mode_changed : (pages : List Page) (name : PageName) (place : ℕ) (executable : Bool) (page : Page)
     → place_of pages name ≡ Some place → page ≡ slice_index_or pages place page
-    → place_of (slice_set pages place (with_bytes page (slice_set page.bytes offset value))) other ≡ place_of pages other
-place_put pages name other place offset value page is at =
-    ap (λ (list : List Page). place_of list other) (put_at pages name place offset value page is at)
-    ∙ place_replaced pages name other (slice_set (bytes_of (find_page pages name)) offset value)
+    → slice_set pages place (record page { executable = executable }) ≡ with_mode pages name executable
+mode_changed pages name place executable page is at =
+    ap (λ (one : Page). slice_set pages place (made_executable executable one)) at
+    ∙ changed_at (made_executable executable) pages name place page is
+    ∙ sym (with_mode-changed pages name executable)
+
+-- a page of the same name in the place of another: each name keeps its place
+pub place_set : (pages : List Page) (place : ℕ) (page new : Page) (name : PageName) → page ≡ slice_index_or pages place page → new.name ≡ page.name
+    → place_of (slice_set pages place new) name ≡ place_of pages name
+place_set [] place page new name at same = refl
+place_set (first ∷ pages) zero page new name at same =
+    ap (λ (one : PageName). if same_name one name then Some 0 else option_map suc (place_of pages name)) (same ∙ ap (λ (one : Page). one.name) at)
+place_set (first ∷ pages) (suc place) page new name at same =
+    ap (λ (found : Option ℕ). if same_name first.name name then Some 0 else option_map suc found) (place_set pages place page new name at same)
+
+-- ---- what pages keep beside their list
+
+pub whole_at : (pages : List Page) (place : ℕ) (page : Page) → AreWhole pages → place < length pages → page ≡ slice_index_or pages place page
+    → length page.bytes ≡ 4096
+whole_at pages place page whole within at = ap (λ (one : Page). length one.bytes) at ∙ whole place page within
+
+-- an index that has the same places is an index too
+pub index_same : (index now : PageName → Option ℕ) (pages same : List Page) → IsIndex index pages → ((name : PageName) → now name ≡ index name)
+    → same ≡ pages → IsIndex now same
+index_same index now pages same old places is = λ name. places name ∙ old name ∙ ap (λ (list : List Page). place_of list name) (sym is)
+
+-- a page of the same name in the place of another
+pub sound_set : (index : PageName → Option ℕ) (pages : List Page) (blanks : List (List ℕ)) (capacity spare place : ℕ) (page new : Page)
+    → IsSound index pages blanks capacity spare → place < length pages → page ≡ slice_index_or pages place page → new.name ≡ page.name
+    → length new.bytes ≡ length page.bytes → IsSound index (slice_set pages place new) blanks capacity spare
+sound_set index pages blanks capacity spare place page new sound within at name size = record {
+  places = λ other. sound.places other ∙ sym (place_set pages place page new other at name);
+  whole = All-set IsWhole pages place new (size ∙ whole_at pages place page sound.whole within at) sound.whole;
+  blank = sound.blank;
+  room = rw length-set sound.room;
+  room_in_index = sound.room_in_index;
+}
+
+-- the bytes of a blank page that was taken
+pub blank_taken : (blanks fewer : List (List ℕ)) (bytes : List ℕ) → AreBlank blanks → blanks ≡ fewer ++ bytes ∷ [] → bytes ≡ zeros
+blank_taken blanks fewer bytes blank taken = (All-pop IsBlank blanks fewer (Some bytes) taken blank).1
+
+pub length_zeros : length zeros ≡ 4096
+unfolding zeros
+length_zeros = length-replicate {A = ℕ} 4096 0
+
+-- a page more, for which a blank one was taken
+pub sound_added : (index now : PageName → Option ℕ) (pages grown : List Page) (blanks fewer : List (List ℕ)) (bytes : List ℕ) (capacity spare left : ℕ) (page : Page)
+    → IsSound index pages blanks capacity spare → blanks ≡ fewer ++ bytes ∷ [] → grown ≡ pages ++ page ∷ [] → length page.bytes ≡ 4096
+    → IsIndex now grown → spare ≤ left + 1 → IsSound now grown fewer capacity left
+sound_added index now pages grown blanks fewer bytes capacity spare left page sound taken more size places kept =
+    let fewer_by_one : length blanks ≡ length fewer + 1 = ap length taken ∙ length-append fewer (bytes ∷ []) in
+    let one_more : length grown ≡ length pages + 1 = ap length more ∙ length-append pages (page ∷ []) in
+    let room = sound.room in
+    let room_in_index = sound.room_in_index in
+    record {
+      places = places;
+      whole = All-same IsWhole grown (pages ++ page ∷ []) more (All-push IsWhole pages page sound.whole size);
+      blank = (All-pop IsBlank blanks fewer (Some bytes) taken sound.blank).0;
+      room = omega arith;
+      room_in_index = omega arith;
+    }

@@ -1,14 +1,20 @@
 -- Pages that are made one after another.
-use Rattle.std.proofs.Common.{◌≡◌, ℕ, zero, suc, ◌+◌, ◌-◌, ◌^◌, ◌<◌, ◌≤◌, ◌++◌, List, [], ◌∷◌, length, take, drop, map, replicate, ap, sym, ◌∙◌, refl, arith, append_assoc}
-use Rattle.std.proofs.lemmas.List.{take_all, replicate_more}
+use Rattle.std.proofs.Common.{◌≡◌, ℕ, suc, ◌+◌, ◌-◌, ◌^◌, ◌<◌, ◌≤◌, ◌++◌, List, [], ◌∷◌, length, take, drop, get_or, map, replicate, length-append, ap, sym, ◌∙◌, refl, arith, append_assoc}
+use Rattle.std.proofs.lemmas.List.{take_all, drop_more, length-map, length-replicate, replicate_more}
 use Rattle.std.proofs.Math.Seq.{append_snoc}
 use Rattle.sb_trace.specs.declared.page.Page.{Page}
-use Rattle.sb_trace.specs.Start.{pages_from, thread_pages, threads_pages}
-use Rattle.sb_bundle.specs.declared.bundle.CoreStart.{CoreStart}
-use Rattle.std.specs.List.{AllByRecursion}
+use Rattle.sb_trace.specs.State.{State, Process}
+use Rattle.sb_trace.specs.declared.state.Flight.{Flight}
+use Rattle.sb_trace.specs.declared.state.Thread.{Thread}
+use Rattle.sb_trace.specs.Start.{ProcessImage, filled, pages_from, process_pages, images_pages, threads_pages, trampoline_pages, start_process, start_threads}
+use Rattle.std.specs.Prelude.{Option, None}
+use Rattle.std.proofs.lemmas.Option.{unwrap_or-slice_get}
 use Rattle.sb_bundle.specs.declared.bundle.Image.{Image}
-use Rattle.sb_bundle.specs.Limits.{IsImage}
-use Rattle.sb_plain.specs.Start.{entry_of, AllFit}
+use Rattle.sb_rewrite.specs.Output.{Output}
+use Rattle.sb_load.specs.Loading.{Load, IsLoadable, nothing, rewritten_of}
+use Rattle.sb_load.proofs.Known.{text_count}
+use Rattle.sb_load.specs.Need.{need_of, have_of}
+use Rattle.sb_plain.specs.Start.{image_of, images_of, images_loaded, entry_of, first_state}
 
 -- bytes that are no whole page are their first page
 pub short_page : (bytes : List ℕ) → length bytes < 4096 → bytes ≡ take 4096 bytes
@@ -36,29 +42,55 @@ pages_more page first count so_far grown whole below more all =
     ∙ append_snoc so_far (page first) (pages_from page (first + 1) (count - (first + 1)))
     ∙ ap (λ (rest : List Page). so_far ++ rest) (sym (first_of page first count below)) ∙ all
 
--- the pages of the threads from a place on
-threads_from : (cores : List CoreStart) (place first : ℕ) → place < length cores
-    → threads_pages first (map entry_of (drop place cores)) ≡ thread_pages first ++ threads_pages (first + 1) (map entry_of (drop (place + 1) cores))
-threads_from [] place first below = absurd (omega arith)
-threads_from (core ∷ cores) zero first below = refl
-threads_from (core ∷ cores) (suc place) first below =
-    let next : suc place + 1 ≡ suc (place + 1) = omega arith in
-    threads_from cores place first (omega arith)
-    ∙ ap (λ (many : ℕ). thread_pages first ++ threads_pages (first + 1) (map entry_of (drop many (core ∷ cores)))) (sym next)
+-- a chunk filled up has as many bytes as a page
+pub filled_whole : (chunk : List ℕ) (filler : ℕ) → length chunk ≤ 4096 → length (filled filler chunk) ≡ 4096
+filled_whole chunk filler within =
+    omega (arith, length-append chunk (replicate (4096 - length chunk) filler), length-replicate (4096 - length chunk) filler)
 
--- the pages of one more thread
-pub threads_more : (cores : List CoreStart) (thread : ℕ) (so_far grown whole : List Page) → thread < length cores → grown ≡ so_far ++ thread_pages thread
-    → so_far ++ threads_pages thread (map entry_of (drop thread cores)) ≡ whole
-    → grown ++ threads_pages (thread + 1) (map entry_of (drop (thread + 1) cores)) ≡ whole
-threads_more cores thread so_far grown whole below more all =
-    let rest = threads_pages (thread + 1) (map entry_of (drop (thread + 1) cores)) in
-    ap (λ (pages : List Page). pages ++ rest) more ∙ append_assoc so_far (thread_pages thread) rest
-    ∙ ap (λ (pages : List Page). so_far ++ pages) (sym (threads_from cores thread thread below)) ∙ all
+-- the images of what was loaded from a place on
+abbrev pub images_from : Load → ℕ → List ProcessImage
+images_from load place = images_of (drop place load.bundle.images) (drop place load.rewritten)
 
--- the images of a bundle fit
-pub all_fit : (images : List Image) → AllByRecursion IsImage images → AllFit images
-all_fit [] are = tt
-all_fit (image ∷ images) (one, others) =
-    let text : length image.text < 2 ^ 32 = omega (arith, one.text) in
-    let initial : length image.initial < 2 ^ 32 = omega (arith, one.initial) in
-    ((text, initial), all_fit images others)
+-- what is read at a place of what was loaded: the image, and what its text becomes
+pub record IsReadAt (load : Load) (place : ℕ) (image : Image) (becomes : Output) : Type 0 where
+  pub loadable : ∥ IsLoadable load ∥₁
+  pub below : place < length load.bundle.images
+  pub of_bundle : image ≡ get_or load.bundle.images place image
+  pub of_text : becomes ≡ rewritten_of load.rewritten place
+
+images_more : (load : Load) (place : ℕ) (image : Image) (becomes : Output) → IsReadAt load place image becomes → images_from load place ≡ image_of image becomes ∷ images_from load (place + 1)
+images_more load place image becomes read =
+    let listed : place < length load.rewritten = omega (arith, read.below, text_count load read.loadable) in
+    rw (drop_more load.bundle.images place image read.below, drop_more load.rewritten place nothing listed, ← unwrap_or-slice_get load.rewritten place nothing, ← read.of_text, ← read.of_bundle) refl
+
+-- the pages of one more image
+pub image_pushed : (load : Load) (place : ℕ) (image : Image) (becomes : Output) (so_far grown whole : List Page) → IsReadAt load place image becomes
+    → grown ≡ so_far ++ process_pages place (image_of image becomes) → so_far ++ images_pages place (images_from load place) ≡ whole
+    → grown ++ images_pages (place + 1) (images_from load (place + 1)) ≡ whole
+image_pushed load place image becomes so_far grown whole read more all =
+    ap (λ (pages : List Page). pages ++ images_pages (place + 1) (images_from load (place + 1))) more
+    ∙ append_assoc so_far (process_pages place (image_of image becomes)) (images_pages (place + 1) (images_from load (place + 1)))
+    ∙ ap (λ (images : List ProcessImage). so_far ++ images_pages place images) (sym (images_more load place image becomes read)) ∙ all
+
+-- and its process
+pub process_pushed : (load : Load) (place : ℕ) (image : Image) (becomes : Output) (so_far grown whole : List Process) (one : Process) → IsReadAt load place image becomes
+    → one ≡ start_process (image_of image becomes) → grown ≡ so_far ++ one ∷ [] → so_far ++ map start_process (images_from load place) ≡ whole
+    → grown ++ map start_process (images_from load (place + 1)) ≡ whole
+process_pushed load place image becomes so_far grown whole one read is more all =
+    ap (λ (processes : List Process). processes ++ map start_process (images_from load (place + 1))) more
+    ∙ append_snoc so_far one (map start_process (images_from load (place + 1)))
+    ∙ ap (λ (process : Process). so_far ++ process ∷ map start_process (images_from load (place + 1))) is
+    ∙ ap (λ (images : List ProcessImage). so_far ++ map start_process images) (sym (images_more load place image becomes read)) ∙ all
+
+abbrev made : List Page → List Process → List Thread → List (Option Flight) → ℕ → List ℕ → State
+made pages processes threads flights free keys =
+    record { pages = pages; processes = processes; threads = threads; flights = flights; free = free; keys = keys }
+
+-- the parts of the machine at its start make up its state
+pub machine_started : (load : Load) (pages : List Page) (processes : List Process) (threads : List Thread) (flights : List (Option Flight)) (free : ℕ) (keys : List ℕ)
+    → pages ≡ images_pages 0 (images_loaded load) ++ (threads_pages 0 (map entry_of load.bundle.cores) ++ trampoline_pages)
+    → processes ≡ map start_process (images_loaded load) → threads ≡ start_threads 0 (map entry_of load.bundle.cores)
+    → flights ≡ replicate (length load.bundle.cores) None → free ≡ have_of load.bundle - need_of load.bundle load.rewritten → keys ≡ load.bundle.keys
+    → made pages processes threads flights free keys ≡ first_state load
+machine_started load pages processes threads flights free keys its_pages its_processes its_threads its_flights its_free its_keys =
+    rw (its_pages, its_processes, its_threads, its_flights, its_free, its_keys, length-map) refl

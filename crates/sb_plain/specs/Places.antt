@@ -1,10 +1,12 @@
 -- Where pages stand in a list, by name.
-use Rattle.std.specs.Prelude.{◌≡◌, ℕ, suc, Bool, List, [], ◌∷◌, Option, Some, None, if◌then◌else◌}
+use Rattle.std.specs.Prelude.{◌≡◌, ℕ, suc, ◌+◌, ◌≤◌, Bool, List, [], ◌∷◌, length, Option, Some, None, if◌then◌else◌}
+use Rattle.std.specs.List.{All}
 use Rattle.std.specs.Option.{option_map}
 use Rattle.sb_trace.specs.declared.page.PageName.{PageName}
 use Rattle.sb_trace.specs.declared.page.Page.{Page}
 use Rattle.sb_trace.specs.contracts.page.PageNamePartialEq.TheImpl.{eq-value}
 use Rattle.sb_trace.specs.PageName.{same_name}
+use Rattle.sb_trace.specs.PageWords.{zeros}
 
 -- what `==` answers of two names
 abbrev pub equal_names : PageName → PageName → Bool
@@ -28,3 +30,28 @@ either (Some place) second = Some place
 abbrev pub IsNoted : (PageName → Option ℕ) → (PageName → Option ℕ) → PageName → ℕ → Type 0
 IsNoted old new name place =
     (other : PageName) → new other ≡ either (old other) (if same_name name other then Some place else None)
+
+-- ---- bytes
+
+-- the page has as many bytes as a page has
+abbrev pub IsWhole : Page → Type 0
+IsWhole page = length page.bytes ≡ 4096
+
+abbrev pub AreWhole : List Page → Type 0
+AreWhole pages = All IsWhole pages
+
+-- the bytes of a page of zeros
+abbrev pub IsBlank : List ℕ → Type 0
+IsBlank bytes = bytes ≡ zeros
+
+abbrev pub AreBlank : List (List ℕ) → Type 0
+AreBlank pages = All IsBlank pages
+
+-- What pages keep beside their list: the place of each name, and room for a page for each blank one, in the list and in the
+-- index.
+pub record IsSound (index : PageName → Option ℕ) (pages : List Page) (blanks : List (List ℕ)) (capacity spare : ℕ) : Type 0 where
+  pub places : IsIndex index pages
+  pub whole : AreWhole pages
+  pub blank : AreBlank blanks
+  pub room : length pages + length blanks ≤ capacity
+  pub room_in_index : length blanks ≤ spare

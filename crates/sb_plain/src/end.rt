@@ -1,32 +1,41 @@
 //! The plain machine at the end of a run.
 
-ghost use Rattle.std.specs.Prelude.{◌≡◌, IfOk, map};
-ghost use Rattle.sb_trace.specs.End.{thread_end as end_of_thread, end_of};
+ghost use Rattle.std.specs.Prelude.{◌≡◌, IfOk};
+ghost use Rattle.sb_trace.specs.State.{flight_at};
+ghost use Rattle.sb_trace.specs.End.{thread_end as end_of_thread, thread_ends as ends_of_threads, end_of};
 
 use crate::state::Plain;
-use crate::windows::shown_by;
-use sb_trace::{EndState, Thread, ThreadEnd, ThreadEnds};
+use crate::windows::present_of;
+use sb_trace::{EndState, Flight, Thread, ThreadEnd, ThreadEnds};
 use std::alloc::{AllocError, Global};
 
-fn thread_end(thread: &Thread) -> ThreadEnd
-    ensures { result ≡ end_of_thread thread.now }
+/// The flight of the thread with this number, where it is in flight.
+#[tactic(auto, unfolding(sb_trace::specs::State::flight_at))]
+fn flight_of(state: &Plain, number: usize) -> Option<Flight>
+    ensures { result ≡ flight_at state.now number }
+{
+    state.flights.get(number).copied().unwrap_or(None)
+}
+
+fn thread_end(thread: &Thread, flight: Option<Flight>) -> ThreadEnd
+    ensures { result ≡ end_of_thread thread.now flight }
 {
     ThreadEnd {
         home: thread.home,
         view: thread.view,
-        present: shown_by(u32::from(thread.view), thread).unwrap_or(thread.home),
+        present: present_of(thread),
         state: thread.state,
         regs: thread.regs,
-        flight: None,
+        flight: flight.map(|flight| flight.phase),
     }
 }
 
-fn thread_ends(alloc: Global, threads: &[Thread]) -> Result<ThreadEnds, AllocError>
-    ensures { IfOk result (λ ends. ends ≡ map end_of_thread threads.now) }
+fn thread_ends(alloc: Global, state: &Plain) -> Result<ThreadEnds, AllocError>
+    ensures { IfOk result (λ ends. ends ≡ ends_of_threads state.now 0 state.now.threads) }
 {
     let mut ends = Vec::new(alloc);
-    for thread in threads {
-        ends.push(thread_end(thread))?;
+    for (number, thread) in state.threads.iter().enumerate() {
+        ends.push(thread_end(thread, flight_of(state, number)))?;
     }
     Ok(ThreadEnds::new(ends))
 }
@@ -37,9 +46,9 @@ impl Plain {
         ensures { IfOk result (λ end. end ≡ end_of self.now) }
     {
         Ok(EndState {
-            threads: thread_ends(alloc, &self.threads)?,
+            threads: thread_ends(alloc, self)?,
             free: self.free,
-            keys: self.keys.len() as u32,
+            keys: self.keys.left(),
         })
     }
 }

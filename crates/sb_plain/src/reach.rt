@@ -27,8 +27,8 @@ fn reach_named(
     at: Linear,
     access: Access,
 ) -> Result<(PageName, &Page), BusStop>
-    ensures name { name_only result ≡ reached_as (seen pages.now name) at.0 access }
-    ensures page { IfOk result (λ found. find_page pages.now found.0 ≡ Some found.1.now) }
+    ensures name { name_only result ≡ reached_as (seen pages.now.pages name) at.0 access }
+    ensures page { IfOk result (λ found. find_page pages.now.pages found.0 ≡ Some found.1.now) }
 {
     match pages.find(name) {
         Some(page) if permits(mode_of(name, page.executable), access) => Ok((name, page)),

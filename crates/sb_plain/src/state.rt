@@ -1,29 +1,36 @@
 //! The state of the plain machine.
 
-ghost use Rattle.std.specs.Prelude.{◌<◌, ◌^◌, length};
+ghost use Rattle.std.specs.Prelude.{◌≡◌, ◌<◌, ◌≤◌, ◌^◌, length};
 
 use crate::pages::Pages;
-use sb_trace::Thread;
+use crate::process::Process;
+use sb_trace::{Flight, Thread};
+use sb_tramp::KeyWords;
 use std::marker::Model;
 
 /// All that the plain machine is. To contracts it is the state of the definitions.
+///
+/// There is room for a page for each free frame, so no step takes memory.
 #[derive(Drop)]
 pub struct Plain {
     pub(crate) pages: Pages,
+    pub(crate) processes: Vec<Process>,
     pub(crate) threads: Vec<Thread>,
+    /// The flight of each thread, where it is in flight.
+    pub(crate) flights: Vec<Option<Flight>>,
     /// The number of free frames.
     pub(crate) free: u32,
     /// The key words that are left.
-    pub(crate) keys: Vec<u64>,
+    pub(crate) keys: KeyWords,
 }
 
 impl Model for Plain {
-    ghost use Rattle.std.specs.Prelude.{◌<◌, ◌^◌, length};
+    ghost use Rattle.std.specs.Prelude.{◌<◌, ◌≤◌, ◌^◌, length};
     ghost use Rattle.sb_trace.specs.State.{State};
 
     ghost Value = { State };
 
-    ghost view = { λ state. record { pages = state.pages; threads = state.threads.items; free = state.free; keys = state.keys.items } };
+    ghost view = { λ state. record { pages = state.pages.pages; processes = state.processes.items; threads = state.threads.items; flights = state.flights.items; free = state.free; keys = state.keys } };
 
-    ghost invariant = { λ state. length state.keys.items < 2 ^ 32 };
+    ghost invariant = { λ state. (state.free ≤ state.pages.room) × (length state.processes.items < 2 ^ 32) };
 }

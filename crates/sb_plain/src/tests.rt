@@ -1,5 +1,7 @@
 //! Stores and loads of several threads over one small state.
 
+ghost use Rattle.std.specs.Prelude.{◌≡◌, IfOk, length};
+
 use crate::bus::PlainBus;
 use crate::instruction::{fetch_next, perform};
 use crate::{Pages, Plain};
@@ -7,7 +9,8 @@ use sb_exec::{Bus, BusStop, Effect, FaultKind};
 use sb_insn::{Flags, Op, Regs};
 use sb_list::Listed;
 use sb_memory::Linear;
-use sb_trace::{EndKind, Page, PageName, Thread};
+use sb_trace::{Bindings, EndKind, Page, PageName, Thread};
+use sb_tramp::KeyWords;
 use std::alloc::Global;
 use std::test::Fail;
 
@@ -21,7 +24,9 @@ const HEAP: u64 = 0xC0_0000;
 const TEXT: u64 = 0x40_0000;
 
 /// A page of these bytes with a filler behind them.
-fn page(alloc: Global, name: PageName, front: &[u8], filler: u8) -> Result<Page, Fail> {
+fn page(alloc: Global, name: PageName, front: &[u8], filler: u8) -> Result<Page, Fail>
+    ensures { IfOk result (λ page. length page.bytes ≡ 4096) }
+{
     let mut bytes = Vec::from_slice(alloc, front)?;
     bytes.resize(4096, filler)?;
     Ok(Page {
@@ -32,7 +37,7 @@ fn page(alloc: Global, name: PageName, front: &[u8], filler: u8) -> Result<Page,
 }
 
 /// A thread at home in a process.
-fn thread(alloc: Global, home: u32) -> Thread {
+fn thread(home: u32) -> Thread {
     Thread {
         home,
         regs: Regs {
@@ -47,7 +52,7 @@ fn thread(alloc: Global, home: u32) -> Thread {
             },
         },
         view: 0,
-        bindings: Listed::new(Vec::new(alloc)),
+        bindings: Bindings::new(),
         state: EndKind::Running,
     }
 }
@@ -62,14 +67,16 @@ fn state(alloc: Global) -> Result<Plain, Fail> {
     pages.push(page(alloc, PageName::Stack(0, 0), &[], 0)?)?;
     pages.push(page(alloc, PageName::Stack(0, 1), &[], 0)?)?;
     let mut threads = Vec::new(alloc);
-    threads.push(thread(alloc, 0))?;
-    threads.push(thread(alloc, 0))?;
-    threads.push(thread(alloc, 1))?;
+    threads.push(thread(0))?;
+    threads.push(thread(0))?;
+    threads.push(thread(1))?;
     Ok(Plain {
         pages,
+        processes: Vec::new(alloc),
         threads,
+        flights: vec![in alloc; None; 3]?,
         free: 0,
-        keys: Vec::new(alloc),
+        keys: KeyWords::new(Vec::new(alloc)),
     })
 }
 
@@ -171,7 +178,7 @@ fn text_is_fetched_and_not_read(rt: HostRuntime) -> Result<(), Fail> {
 #[test]
 fn instructions_are_fetched_and_performed(rt: HostRuntime) -> Result<(), Fail> {
     let mut state = state(rt.alloc())?;
-    let mut regs = thread(rt.alloc(), 0).regs;
+    let mut regs = thread(0).regs;
     regs.general[0] = 5;
     let insn = fetch_next(&mut state, 0, 0, TEXT).expect(&rt, "an instruction");
     // XOR EAX, EAX

@@ -3,7 +3,7 @@
 ghost use Rattle.std.specs.Prelude.{◌≡◌, ◌<◌, ◌^◌};
 ghost use Rattle.std.specs.Option.{option_and_then};
 ghost use Rattle.sb_trace.specs.PageName.{permits as is_permitted, mode_of as mode_by_name};
-ghost use Rattle.sb_trace.specs.Windows.{server_of as server_by_index, shown_by as shown_from, shown as shown_process, is_process as is_shown, stack_name as stack_by_page, buffer_name as buffer_by_page, special_name as special_by_page, name_at as name_by_page};
+ghost use Rattle.sb_trace.specs.Windows.{server_of as server_by_index, shown_by as shown_from, present_of as process_present, shown as shown_process, is_process as is_shown, stack_name as stack_by_page, buffer_name as buffer_by_page, special_name as special_by_page, name_at as name_by_page};
 
 use sb_memory::Access;
 use sb_trace::{Binding, Mode, PageName, Thread};
@@ -13,7 +13,7 @@ fn server_of(bindings: &[Binding], index: u32) -> Option<u32>
     ensures { result ≡ server_by_index bindings.now index }
 {
     let (first, others) = bindings.split_first()?;
-    if first.index == index {
+    if u32::from(first.index) == index {
         Some(first.server)
     } else {
         server_of(others, index)
@@ -29,6 +29,13 @@ pub fn shown_by(view: u32, thread: &Thread) -> Option<u32>
     } else {
         server_of(thread.bindings.items(), view)
     }
+}
+
+/// The process that a thread's present view shows.
+pub fn present_of(thread: &Thread) -> u32
+    ensures { result ≡ process_present thread.now }
+{
+    shown_by(u32::from(thread.view), thread).unwrap_or(thread.home)
 }
 
 /// The process that a view of the thread with this number shows.

@@ -5,5 +5,5 @@ use Rattle.sb_plain.proofs.pages.Pages.place.Goals as goal
 
 pub returns-clause-within : goal.returns-clause-within
 returns-clause-within c =
-    let place : c.copied.result ≡ place_of c.args.self.now c.args.name = search rules in
-    rw place (place_within c.args.self.now c.args.name)
+    let place : c.copied.result ≡ place_of c.args.self.now.pages c.args.name = search rules in
+    rw place (place_within c.args.self.now.pages c.args.name)

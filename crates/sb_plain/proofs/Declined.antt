@@ -1,0 +1,110 @@
+-- A refused system call leaves all but five registers of its thread as it was.
+use Rattle.std.proofs.Common.{◌≡◌, ◌≢◌, ℕ, ◌+◌, ◌<◌, ◌==◌, Bool, true, false, List, length, Option, Some, None, refl, sym, ap, ◌∙◌, subst, if◌then◌else◌, get_or-set_other, get_or-set_same}
+use Rattle.std.proofs.lemmas.List.{length-set}
+use Rattle.std.specs.Prelude.{nat_le, slice_index, slice_get, slice_set, unwrap_or}
+use Rattle.std.proofs.lemmas.Option.{slice_get_read}
+use Rattle.sb_insn.specs.Registers.{flags_image}
+use Rattle.sb_exec.specs.Operand.{next_rip}
+use Rattle.sb_insn.specs.declared.insn.Insn.{Insn}
+use Rattle.sb_insn.specs.declared.registers.Regs.{Regs}
+use Rattle.sb_trace.specs.declared.event.Event.{Event}
+use Rattle.sb_trace.specs.declared.state.Thread.{Thread}
+use Rattle.sb_trace.specs.Home.{Outcome}
+use Rattle.sb_trace.specs.Registers.{rax, rdi, rsi}
+use Rattle.sb_trace.specs.State.{State, thread_at, no_thread, with_regs, process_at}
+use Rattle.sb_trace.specs.Windows.{present_of}
+use Rattle.sb_trace.specs.Pattern.{heap_pattern}
+use Rattle.sb_trace.specs.SystemCall.{after_syscall, answered, returned, exited, registered, bound, heap_count, made_executable, protects, called_by, called}
+use Rattle.sb_plain.specs.Declined.{IsDeclined, KeepsOthers, LeavesAll}
+
+-- what is said of a call's outcome
+abbrev Leaves : State → ℕ → Regs → Outcome → Type 0
+Leaves state number regs outcome = IsDeclined outcome.0 → LeavesAll state outcome.1 number regs
+
+-- ---- a refusal
+
+four_put : (values : List ℕ) (rcx r11 rax rdx register : ℕ) → register ≢ 0 → register ≢ 1 → register ≢ 2 → register ≢ 11
+    → slice_index (slice_set (slice_set (slice_set (slice_set values 1 rcx) 11 r11) 0 rax) 2 rdx) register ≡ slice_index values register
+four_put values rcx r11 rax rdx register not_rax not_rcx not_rdx not_r11 =
+    get_or-set_other (slice_set (slice_set (slice_set values 1 rcx) 11 r11) 0 rax) 2 register rdx 0 not_rdx
+    ∙ get_or-set_other (slice_set (slice_set values 1 rcx) 11 r11) 0 register rax 0 not_rax
+    ∙ get_or-set_other (slice_set values 1 rcx) 11 register r11 0 not_r11 ∙ get_or-set_other values 1 register rcx 0 not_rcx
+
+others_stay : (insn : Insn) (regs : Regs) (answer second : ℕ) → KeepsOthers regs (answered (after_syscall insn regs) answer second)
+others_stay insn regs answer second = record {
+  general = λ register not_rax not_rcx not_rdx not_r11.
+      four_put regs.general (next_rip insn regs) (flags_image regs.flags + 0x202) answer second register not_rax not_rcx not_rdx not_r11;
+  flags = refl;
+}
+
+put_there : (threads : List Thread) (number : ℕ) (thread : Thread) → number < length threads → slice_get (slice_set threads number thread) number ≡ Some thread
+put_there threads number thread inside =
+    slice_get_read (slice_set threads number thread) (length threads) number thread (sym (length-set threads number thread)) inside
+    (sym (get_or-set_same threads number thread thread inside))
+
+regs_there : (state : State) (number : ℕ) (regs : Regs) → number < length state.threads → (thread_at (with_regs state number regs) number).regs ≡ regs
+unfolding thread_at with_regs
+regs_there state number regs inside =
+    ap (λ (found : Option Thread). (unwrap_or found no_thread).regs)
+    (put_there state.threads number (record (unwrap_or (slice_get state.threads number) no_thread) { regs = regs }) inside)
+
+declined_leaves : (state : State) (number : ℕ) (insn : Insn) (regs : Regs) (answer second : ℕ) → number < length state.threads
+    → LeavesAll state (returned state number insn regs answer second) number regs
+declined_leaves state number insn regs answer second inside =
+    let after = answered (after_syscall insn regs) answer second in
+    let there = regs_there state number after inside in
+    record {
+      state = ap (λ (left : Regs). with_regs state number left) (sym there);
+      registers = subst (λ (left : Regs). KeepsOthers regs left) (sym there) (others_stay insn regs answer second);
+    }
+
+-- ---- the calls
+
+by_test : (state : State) (number : ℕ) (regs : Regs) (test : Bool) (first second : Outcome) → Leaves state number regs first
+    → Leaves state number regs second → Leaves state number regs (if test then first else second)
+by_test state number regs true first second one other = one
+by_test state number regs false first second one other = other
+
+exit_leaves : (state : State) (number : ℕ) (insn : Insn) (regs : Regs) → Leaves state number regs (exited state number insn regs)
+exit_leaves state number insn regs = by_test state number regs ((thread_at state number).view == 0) _ _ (λ no. absurd no) (λ no. absurd no)
+
+register_leaves : (state : State) (number : ℕ) (insn : Insn) (regs : Regs) (process : ℕ) (refusal : Option ℕ) → number < length state.threads
+    → Leaves state number regs (registered state number insn regs process refusal)
+register_leaves state number insn regs process (Some answer) inside = λ refused. declined_leaves state number insn regs answer 0 inside
+register_leaves state number insn regs process None inside = λ refused. absurd (refused refl)
+
+bind_leaves : (state : State) (number : ℕ) (thread : Thread) (insn : Insn) (regs : Regs) (refusal : Option ℕ) → number < length state.threads
+    → Leaves state number regs (bound state number thread insn regs refusal)
+bind_leaves state number thread insn regs (Some answer) inside = λ refused. declined_leaves state number insn regs answer 0 inside
+bind_leaves state number thread insn regs None inside = λ refused. absurd (refused refl)
+
+execute_leaves : (state : State) (number : ℕ) (insn : Insn) (regs : Regs) (process page : ℕ) (found : Option ℕ) → number < length state.threads
+    → Leaves state number regs (made_executable state number insn regs process page found)
+execute_leaves state number insn regs process page (Some address) inside = λ refused. declined_leaves state number insn regs 20 address inside
+execute_leaves state number insn regs process page None inside = λ refused. absurd (refused refl)
+
+protect_leaves : (state : State) (number : ℕ) (insn : Insn) (regs : Regs) (process page mode : ℕ) → number < length state.threads
+    → Leaves state number regs (protects state number insn regs process page mode)
+protect_leaves state number insn regs process page mode inside =
+    by_test state number regs (nat_le (heap_count (process_at state process)) page) _ _ (λ refused. declined_leaves state number insn regs 18 0 inside)
+    (by_test state number regs (mode == 0) _ _ (λ refused. absurd (refused refl))
+    (by_test state number regs (mode == 1) _ _ (execute_leaves state number insn regs process page (heap_pattern state process page) inside)
+    (λ refused. declined_leaves state number insn regs 19 0 inside)))
+
+number_leaves : (state : State) (number : ℕ) (thread : Thread) (insn : Insn) (regs : Regs) (call : ℕ) → number < length state.threads
+    → Leaves state number regs (called_by state number thread insn regs call)
+number_leaves state number thread insn regs call inside =
+    by_test state number regs (call == 0) _ _ (exit_leaves state number insn regs)
+    (by_test state number regs (call == 1) _ _ (λ no. absurd no)
+    (by_test state number regs (call == 2) _ _ (register_leaves state number insn regs (present_of thread) _ inside)
+    (by_test state number regs (call == 3) _ _ (bind_leaves state number thread insn regs _ inside)
+    (by_test state number regs (call == 4) _ _ (protect_leaves state number insn regs (present_of thread) (rdi regs) (rsi regs) inside)
+    (λ refused. declined_leaves state number insn regs 21 0 inside)))))
+
+-- a refused call, by its line and the state that it left
+pub called_leaves : (state : State) (number : ℕ) (insn : Insn) (regs : Regs) (line : Event) (after : State) → number < length state.threads
+    → ◌≡◌ {A = Outcome} (line, after) (called state number insn regs) → IsDeclined line → LeavesAll state after number regs
+unfolding called
+called_leaves state number insn regs line after inside is =
+    subst (λ (outcome : Outcome). Leaves state number regs outcome) (sym is)
+    (number_leaves state number (thread_at state number) insn regs (rax regs) inside)

@@ -1,0 +1,13 @@
+-- The lowest free index is the lowest one from here on.
+use Rattle.std.proofs.Common.{◌≡◌, ◌≤◌, ◌-◌}
+use Rattle.sb_trace.specs.SystemCall.{free_index_from, free_index}
+use Rattle.sb_plain.proofs.system_call.bind.free_index.Given as goal
+
+abbrev pub invariant-loop-index : goal.invariant-loop-index
+invariant-loop-index l = record {
+  last : l.index ≤ 15;
+  lowest : free_index_from l.bindings l.index (15 - l.index) ≡ free_index l.bindings;
+}
+
+abbrev pub decreases-loop-index : goal.decreases-loop-index
+decreases-loop-index l = 15 - l.index

@@ -1,0 +1,21 @@
+-- What a refused system call leaves as it was.
+use Rattle.std.specs.Prelude.{◌≡◌, ◌≢◌, ℕ, slice_index}
+use Rattle.sb_insn.specs.declared.registers.Regs.{Regs}
+use Rattle.sb_trace.specs.declared.event.Event.{Event}
+use Rattle.sb_trace.specs.declared.event.Event.TheVariants.{Sys}
+use Rattle.sb_trace.specs.State.{State, thread_at, with_regs}
+
+-- the line of a refused call: its answer is not 0
+abbrev pub IsDeclined : Event → Type 0
+IsDeclined (Sys number answer) = answer ≢ 0
+IsDeclined _ = ⊥
+
+-- the registers are as before, but for RIP, RAX, RCX, RDX and R11
+pub record KeepsOthers (before after : Regs) : Type 0 where
+  pub general : (register : ℕ) → register ≢ 0 → register ≢ 1 → register ≢ 2 → register ≢ 11 → slice_index after.general register ≡ slice_index before.general register
+  pub flags : after.flags ≡ before.flags
+
+-- nothing has changed but registers of this thread, which had these
+pub record LeavesAll (before after : State) (number : ℕ) (regs : Regs) : Type 0 where
+  pub state : after ≡ with_regs before number (thread_at after number).regs
+  pub registers : KeepsOthers regs (thread_at after number).regs

@@ -1,0 +1,207 @@
+//! A call or a return through VMFUNC, as one step of a kernel.
+//!
+//! The leaf is in EAX, the index in ECX and the key in RSI. Each refusal of a call leads home with a status in R9.
+
+ghost use Rattle.std.specs.Prelude.{◌≡◌, ◌<◌, ◌≤◌, ◌^◌, length};
+ghost use Rattle.sb_trace.specs.declared.event.Event.TheVariants.{Entered};
+ghost use Rattle.sb_trace.specs.State.{thread_at};
+ghost use Rattle.sb_trace.specs.KernelCall.{binding_in as binding_by_index, pool_word as pool_word_of, refused_regs as regs_refused, refused, not_switched, returned_home, entered_regs as regs_entered, lowest_bit as lowest_bit_of, entered, taken, called_through, kernel_call as kernel_call_of};
+
+use crate::home::{HOME_ADDRESS, fault};
+use crate::pool::{handler_of, pool_word, set_pool_word};
+use crate::registers::{R9, R10, RAX, RCX, RSI, RSP, eax, ecx, zero_result};
+use crate::state::Plain;
+use sb_exec::FaultKind;
+use sb_insn::Regs;
+use sb_trace::{Binding, Event};
+
+// The statuses of refused calls.
+const WRONG_KEY: u64 = 1;
+
+const POOL_EMPTY: u64 = 2;
+
+const UNBOUND: u64 = 3;
+
+const BAD_LEAF: u64 = 5;
+
+/// The top word of the first server stack. It has the address of the exit stub, to which the handler returns.
+pub const FIRST_STACK_TOP: u64 = 0x400_3FF8;
+
+/// How far the next server stack is: four pages.
+const STACK_DISTANCE: u64 = 0x4000;
+
+/// The binding with this index.
+pub fn binding_in(bindings: &[Binding], index: u32) -> Option<Binding>
+    ensures { result ≡ binding_by_index bindings.now index }
+{
+    let (first, others) = bindings.split_first()?;
+    if u32::from(first.index) == index {
+        Some(*first)
+    } else {
+        binding_in(others, index)
+    }
+}
+
+// ---- refusals and ways home
+
+#[tactic(auto, unfolding(sb_trace::specs::KernelCall::refused_regs))]
+fn refused_regs(regs: &Regs, status: u64) -> Regs
+    ensures { result ≡ regs_refused regs.now status }
+{
+    let mut general = regs.general;
+    general[R9] = status;
+    general[RAX] = 0;
+    general[RCX] = 0;
+    general[R10] = 0;
+    Regs {
+        general,
+        rip: HOME_ADDRESS,
+        flags: zero_result(),
+    }
+}
+
+// A refused call, with its line: the thread is in its home view.
+fn refuse(state: &mut Plain, core: u8, line: Event, status: u64) -> Event
+    requires { core < length state.old.threads }
+    ensures refused { (result, state.new) ≡ refused state.old core (thread_at state.old core) line status }
+    ensures count { length state.new.threads ≡ length state.old.threads }
+{
+    let regs = refused_regs(&state.thread(core).regs, status);
+    state.set_view(core, 0, regs);
+    line
+}
+
+// No view is switched: in a server's view that is a fault at the VMFUNC.
+fn stay(state: &mut Plain, core: u8, line: Event, status: u64) -> Event
+    requires { core < length state.old.threads }
+    ensures stayed { (result, state.new) ≡ not_switched state.old core (thread_at state.old core) line status }
+    ensures count { length state.new.threads ≡ length state.old.threads }
+{
+    let thread = state.thread(core);
+    let (view, rip) = (thread.view, thread.regs.rip);
+    if view == 0 {
+        refuse(state, core, line, status)
+    } else {
+        fault(state, core, FaultKind::Switch, rip)
+    }
+}
+
+// Index 0 leads home.
+fn return_home(state: &mut Plain, core: u8) -> Event
+    requires { core < length state.old.threads }
+    ensures returned { (result, state.new) ≡ returned_home state.old core (thread_at state.old core) }
+    ensures count { length state.new.threads ≡ length state.old.threads }
+{
+    let thread = state.thread(core);
+    let (view, regs) = (thread.view, thread.regs);
+    let at_home = Regs {
+        rip: HOME_ADDRESS,
+        ..regs
+    };
+    state.set_view(core, 0, at_home);
+    if view == 0 {
+        Event::Turn
+    } else {
+        Event::Return
+    }
+}
+
+// ---- entry
+
+#[tactic(auto, unfolding(sb_trace::specs::KernelCall::entered_regs))]
+fn entered_regs(regs: &Regs, stack: u32, handler: u64) -> Regs
+    requires { stack < 64 }
+    ensures { result ≡ regs_entered regs.now stack handler }
+{
+    let mut general = regs.general;
+    general[RSP] = FIRST_STACK_TOP + u64::from(stack) * STACK_DISTANCE;
+    general[RAX] = 0;
+    general[RCX] = 0;
+    general[R10] = 0;
+    Regs {
+        general,
+        rip: handler,
+        flags: zero_result(),
+    }
+}
+
+// The number of the lowest bit that is set.
+#[tactic(auto, using(crate::proofs::Bits::lowest_value))]
+fn lowest_bit(word: u64) -> u32
+    requires { 0 < word }
+    ensures bit { result ≡ lowest_bit_of word }
+    ensures range { result < 64 }
+    ensures value { 2 ^ result ≤ word }
+{
+    word.trailing_zeros()
+}
+
+// The server's lowest free stack, by its pool word, is taken, and the thread stands at the handler.
+fn enter(state: &mut Plain, core: u8, binding: Binding, word: u64) -> Event
+    requires inside { core < length state.old.threads }
+    requires some { 0 < word }
+    ensures line { result ≡ Entered binding.index (lowest_bit_of word) }
+    ensures entered { state.new ≡ entered state.old core (thread_at state.old core) binding word }
+    ensures count { length state.new.threads ≡ length state.old.threads }
+{
+    let stack = lowest_bit(word);
+    let handler = handler_of(state, binding.server);
+    let regs = entered_regs(&state.thread(core).regs, stack, handler);
+    set_pool_word(state, binding.server, word - (1 << stack));
+    state.set_view(core, binding.index, regs);
+    Event::Entered {
+        index: u32::from(binding.index),
+        slot: stack as u8,
+    }
+}
+
+// A call with the key: it enters where a server stack is free.
+fn take_stack(state: &mut Plain, core: u8, binding: Binding) -> Event
+    requires { core < length state.old.threads }
+    ensures taken { (result, state.new) ≡ taken state.old core (thread_at state.old core) binding (pool_word_of state.old binding.server) }
+    ensures count { length state.new.threads ≡ length state.old.threads }
+{
+    let index = u32::from(binding.index);
+    match pool_word(state, binding.server) {
+        0 => refuse(state, core, Event::PoolEmpty { index }, POOL_EMPTY),
+        word => enter(state, core, binding, word),
+    }
+}
+
+// ---- the call
+
+// A call through the binding of an index, if there is one.
+fn call_through(state: &mut Plain, core: u8, index: u32) -> Event
+    requires { core < length state.old.threads }
+    ensures called { (result, state.new) ≡ called_through state.old core (thread_at state.old core) index (binding_by_index (thread_at state.old core).bindings index) }
+    ensures count { length state.new.threads ≡ length state.old.threads }
+{
+    let thread = state.thread(core);
+    let key = thread.regs.general[RSI];
+    match binding_in(thread.bindings.items(), index) {
+        None => stay(state, core, Event::Unbound { index }, UNBOUND),
+        Some(binding) if key == binding.key => take_stack(state, core, binding),
+        Some(binding) => {
+            let index = u32::from(binding.index);
+            refuse(state, core, Event::WrongKey { index }, WRONG_KEY)
+        }
+    }
+}
+
+/// VMFUNC of the thread of a core, done at once, and its line.
+#[tactic(auto, unfolding(sb_trace::specs::KernelCall::kernel_call))]
+pub fn kernel_call(state: &mut Plain, core: u8) -> Event
+    requires { core < length state.old.threads }
+    ensures called { (result, state.new) ≡ kernel_call_of state.old core }
+    ensures count { length state.new.threads ≡ length state.old.threads }
+{
+    let regs = state.thread(core).regs;
+    let (leaf, index) = (eax(&regs), ecx(&regs));
+    if leaf != 0 {
+        stay(state, core, Event::BadLeaf { index }, BAD_LEAF)
+    } else if index == 0 {
+        return_home(state, core)
+    } else {
+        call_through(state, core, index)
+    }
+}

@@ -1,0 +1,153 @@
+//! The landing of a call, phase by phase.
+//!
+//! A VMFUNC into a server begins a flight. Each step of it is a phase; one phase decides the call, and does it then, in
+//! one step. Before that the thread stays as it was at the VMFUNC.
+
+ghost use Rattle.std.specs.Prelude.{◌≡◌, ◌<◌, length};
+ghost use Rattle.sb_trace.specs.State.{thread_at};
+ghost use Rattle.sb_trace.specs.Flight.{is_key as is_key_of, bound_pool as bound_pool_of, loaded as loaded_by, decided_at as decided_by, phase_after as phase_behind, advanced as advanced_by, landed, flown, called_binding as called_by, switched};
+
+use crate::call::{binding_in, kernel_call};
+use crate::pool::pool_word;
+use crate::registers::{RSI, eax, ecx};
+use crate::state::Plain;
+use sb_trace::{Binding, Decision, Event, Flight, Thread, VMFUNC_PHASE};
+
+#[cfg(test)]
+mod tests;
+
+// ---- what a phase looks at
+
+fn is_key(binding: Option<Binding>, word: u64) -> bool
+    ensures { result ≡ is_key_of binding word }
+{
+    match binding {
+        Some(binding) => word == binding.key,
+        None => false,
+    }
+}
+
+// The pool word of the binding's server.
+fn bound_pool(state: &Plain, binding: Option<Binding>) -> u64
+    ensures { result ≡ bound_pool_of state.now binding }
+{
+    match binding {
+        Some(binding) => pool_word(state, binding.server),
+        None => 0,
+    }
+}
+
+// ---- a phase
+
+// Phase 2 loads the mask.
+fn loaded(pool: u64, flight: Flight) -> Flight
+    ensures { result ≡ loaded_by pool flight }
+{
+    let mask = if flight.phase == 2 { pool } else { flight.mask };
+    Flight { mask, ..flight }
+}
+
+// Whether this phase decides the call, and how: phase 0 compares the key, phase 2 tests the mask that it loads, and
+// phase 8 takes a stack where the pool word is still the mask.
+#[tactic(auto, unfolding(sb_trace::specs::Flight::decided_at))]
+fn decided_at(phase: u8, key_fits: bool, pool: u64, mask: u64) -> Option<Decision>
+    ensures { result ≡ decided_by phase key_fits pool mask }
+{
+    match phase {
+        0 if !key_fits => Some(Decision::WrongKey),
+        2 if pool == 0 => Some(Decision::PoolEmpty),
+        8 if pool == mask => Some(Decision::Entered),
+        _ => None,
+    }
+}
+
+// The phase behind this one; `None` where the landing ends.
+#[tactic(auto, unfolding(sb_trace::specs::Flight::phase_after))]
+fn phase_after(phase: u8, decided: Option<Decision>, mask: u64) -> Option<u8>
+    ensures { result ≡ phase_behind phase decided mask }
+{
+    match phase {
+        1 if decided == Some(Decision::WrongKey) => Some(17),
+        4 if mask == 0 => Some(19),
+        9 if decided != Some(Decision::Entered) => Some(2),
+        18 => Some(20),
+        16 | 24.. => None,
+        _ => Some(phase + 1),
+    }
+}
+
+// The flight behind its phase.
+fn advanced(flight: Flight) -> Option<Flight>
+    ensures { result ≡ advanced_by flight }
+{
+    let phase = phase_after(flight.phase, flight.decided, flight.mask)?;
+    Some(Flight { phase, ..flight })
+}
+
+// A phase that decides the call does the kernel's call; each other one lands.
+fn land(state: &mut Plain, core: u8, flight: Flight, decided: Option<Decision>) -> Event
+    requires { core < length state.old.threads }
+    ensures landed { (result, state.new) ≡ landed state.old core flight decided }
+    ensures count { length state.new.threads ≡ length state.old.threads }
+{
+    if decided.is_none() {
+        state.set_flight(core, advanced(flight));
+        return Event::Landing {
+            phase: flight.phase,
+        };
+    }
+    let line = kernel_call(state, core);
+    state.set_flight(core, advanced(Flight { decided, ..flight }));
+    line
+}
+
+/// A step of the thread of a core in its flight, and its line.
+#[tactic(auto, unfolding(sb_trace::specs::Flight::flown))]
+pub fn fly(state: &mut Plain, core: u8, flight: Flight) -> Event
+    requires { core < length state.old.threads }
+    ensures flown { (result, state.new) ≡ flown state.old core flight }
+    ensures count { length state.new.threads ≡ length state.old.threads }
+{
+    let thread = state.thread(core);
+    let key = thread.regs.general[RSI];
+    let binding = binding_in(thread.bindings.items(), u32::from(flight.index));
+    let pool = bound_pool(state, binding);
+    let decided = decided_at(flight.phase, is_key(binding, key), pool, flight.mask);
+    land(state, core, loaded(pool, flight), decided)
+}
+
+// ---- the VMFUNC
+
+// The binding into which VMFUNC leads: leaf 0, and its index.
+fn called_binding(thread: &Thread) -> Option<Binding>
+    ensures { result ≡ called_by thread.now }
+{
+    let index = ecx(&thread.regs);
+    if eax(&thread.regs) == 0 && index != 0 {
+        binding_in(thread.bindings.items(), index)
+    } else {
+        None
+    }
+}
+
+/// VMFUNC of the thread of a core, and its line: a flight begins where it leads into a server.
+#[tactic(auto, unfolding(sb_trace::specs::Flight::switched))]
+pub fn switch(state: &mut Plain, core: u8) -> Event
+    requires { core < length state.old.threads }
+    ensures switched { (result, state.new) ≡ switched state.old core }
+    ensures count { length state.new.threads ≡ length state.old.threads }
+{
+    let Some(binding) = called_binding(state.thread(core)) else {
+        return kernel_call(state, core);
+    };
+    let flight = Flight {
+        index: binding.index,
+        phase: 0,
+        mask: 0,
+        decided: None,
+    };
+    state.set_flight(core, Some(flight));
+    Event::Landing {
+        phase: VMFUNC_PHASE,
+    }
+}

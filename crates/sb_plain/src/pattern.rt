@@ -1,0 +1,88 @@
+//! The bytes of VMFUNC, `0F 01 D4`, in a heap page and across its borders.
+
+ghost use Rattle.std.specs.Prelude.{◌≡◌, ◌<◌, ◌≤◌, ◌+◌, ◌*◌, ◌^◌, ◌++◌, IfSome, length, drop};
+ghost use Rattle.sb_trace.specs.declared.page.PageName.TheVariants.{Heap};
+ghost use Rattle.sb_trace.specs.State.{find_page};
+ghost use Rattle.sb_trace.specs.Pattern.{first_pattern, executable_bytes as bytes_executed, bytes_before as bytes_in_front, bytes_behind as bytes_after, heap_pattern as pattern_by};
+
+use crate::pages::PAGE_SIZE;
+use crate::state::Plain;
+use sb_scan::{find_pattern, spans};
+use sb_trace::PageName;
+
+/// Where the heap begins.
+const HEAP_ADDRESS: u64 = 0xC0_0000;
+
+// The bytes of a heap page that is executable; none of another.
+fn executable_bytes(state: &Plain, process: u32, page: u32) -> &[u8]
+    ensures size { length result.now ≤ 4096 }
+    ensures bytes { result.now ≡ bytes_executed (find_page state.now.pages (Heap process page)) }
+{
+    match state.pages.find(PageName::Heap(process, page)) {
+        Some(page) if page.executable => page.bytes.items(),
+        _ => &[],
+    }
+}
+
+// The last two bytes of a page; none of no bytes.
+fn last_two(bytes: &[u8]) -> &[u8]
+    requires { length bytes.now ≤ 4096 }
+    ensures bytes { result.now ≡ drop 4094 bytes.now }
+    ensures size { length result.now ≤ 2 }
+{
+    let start = (PAGE_SIZE - 2).min(bytes.len());
+    &bytes[start..]
+}
+
+// The last two bytes of the page before, if there is one and it is executable.
+fn bytes_before(state: &Plain, process: u32, page: u32) -> &[u8]
+    ensures bytes { result.now ≡ bytes_in_front state.now process page }
+    ensures size { length result.now ≤ 2 }
+{
+    if page == 0 {
+        return &[];
+    }
+    last_two(executable_bytes(state, process, page - 1))
+}
+
+// The first two bytes of the page behind, if there is one and it is executable.
+fn bytes_behind(state: &Plain, process: u32, page: u32) -> &[u8]
+    requires { page + 1 < 2 ^ 32 }
+    ensures bytes { result.now ≡ bytes_after state.now process page }
+    ensures size { length result.now ≤ 2 }
+{
+    let bytes = executable_bytes(state, process, page + 1);
+    &bytes[..2.min(bytes.len())]
+}
+
+// The first place of the pattern in bytes with others before and behind them, counted from the first of all.
+fn first_place(before: &[u8], bytes: &[u8], behind: &[u8]) -> Option<usize>
+    requires before { length before.now ≤ 2 }
+    requires bytes { 2 ≤ length bytes.now }
+    requires behind { length behind.now ≤ 2 }
+    ensures place { result ≡ first_pattern (before.now ++ (bytes.now ++ behind.now)) }
+    ensures within { IfSome result (λ place. place < length before.now + length bytes.now) }
+{
+    if let Some(count) = spans(before, bytes) {
+        return Some(before.len() - count);
+    }
+    if let Some(place) = find_pattern(bytes) {
+        return Some(before.len() + place);
+    }
+    let count = spans(bytes, behind)?;
+    Some(before.len() + bytes.len() - count)
+}
+
+/// The lowest address at which the pattern stands in a heap page or across its border with an executable one.
+#[tactic(auto, unfolding(sb_trace::specs::Pattern::heap_pattern))]
+pub fn heap_pattern(state: &Plain, process: u32, page: u32) -> Option<u64>
+    requires { page + 1 < 2 ^ 32 }
+    ensures { result ≡ pattern_by state.now process page }
+{
+    let found = state.pages.find(PageName::Heap(process, page))?;
+    let before = bytes_before(state, process, page);
+    let behind = bytes_behind(state, process, page);
+    let place = first_place(before, found.bytes.items(), behind)?;
+    let page_address = HEAP_ADDRESS + (PAGE_SIZE as u64) * u64::from(page);
+    Some(page_address + (place as u64) - (before.len() as u64))
+}

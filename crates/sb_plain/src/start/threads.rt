@@ -1,0 +1,70 @@
+//! The threads at the start.
+
+ghost use Rattle.std.specs.Prelude.{◌≡◌, ◌^◌, ◌<◌, None, IfOk, length, map, replicate};
+ghost use Rattle.sb_trace.specs.Start.{save_address as address_of_save, start_registers as registers_at_start, start_threads as threads_at_start};
+ghost use Rattle.sb_plain.specs.Start.{entry_of};
+
+use sb_bundle::CoreStart;
+use sb_insn::{Flags, Regs};
+use sb_trace::{Bindings, EndKind, Flight, Thread};
+use std::alloc::{AllocError, Global};
+
+/// Where the save page of thread 0 begins.
+const FIRST_SAVE: u64 = 0x300_0000;
+
+/// Where the stack of thread 0 ends.
+const FIRST_STACK_END: u64 = 0x300_8000;
+
+/// How far the save page and the stack of the next thread are from those of a thread: eight pages.
+const THREAD_DISTANCE: u64 = 0x8000;
+
+// Numbers of registers (SDM volume 2, section 2.2.1).
+const RSP: usize = 4;
+
+const RDI: usize = 7;
+
+/// The linear address of a thread's save page.
+pub fn save_address(thread: u32) -> u64
+    ensures { result ≡ address_of_save thread }
+{
+    FIRST_SAVE + u64::from(thread) * THREAD_DISTANCE
+}
+
+#[tactic(auto, unfolding(sb_trace::specs::Start::start_registers))]
+fn start_registers(thread: u32, address: u64) -> Regs
+    ensures { result ≡ registers_at_start thread address }
+{
+    let mut general = [0u64; 16];
+    general[RSP] = FIRST_STACK_END + u64::from(thread) * THREAD_DISTANCE;
+    general[RDI] = u64::from(thread);
+    Regs {
+        general,
+        rip: address,
+        flags: Flags::CLEAR,
+    }
+}
+
+/// The threads at the start, one for each core.
+pub fn start_threads(alloc: Global, cores: &[CoreStart]) -> Result<Vec<Thread>, AllocError>
+    requires { length cores.now < 2 ^ 32 }
+    ensures { IfOk result (λ threads. threads.items ≡ threads_at_start 0 (map entry_of cores.now)) }
+{
+    let mut threads = Vec::new(alloc);
+    for (thread, core) in cores.iter().enumerate() {
+        threads.push(Thread {
+            home: core.process,
+            regs: start_registers(thread as u32, core.entry),
+            view: 0,
+            bindings: Bindings::new(),
+            state: EndKind::Running,
+        })?;
+    }
+    Ok(threads)
+}
+
+/// The flights at the start: no thread is in flight.
+pub fn start_flights(alloc: Global, threads: usize) -> Result<Vec<Option<Flight>>, AllocError>
+    ensures { IfOk result (λ flights. flights.items ≡ replicate threads None) }
+{
+    vec![in alloc; None; threads]
+}

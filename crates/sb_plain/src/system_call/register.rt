@@ -1,0 +1,147 @@
+//! System call 2: the process becomes a server.
+
+ghost use Rattle.std.specs.Prelude.{◌≡◌, ◌<◌, ◌≤◌, ◌-◌, ◌*◌, ◌++◌, None, length, slice_get};
+ghost use Rattle.std.specs.Option.{option_map};
+ghost use Rattle.sb_trace.specs.State.{thread_at, process_at};
+ghost use Rattle.sb_trace.specs.Registers.{rdi, rsi};
+ghost use Rattle.sb_trace.specs.Windows.{present_of as shown_now};
+ghost use Rattle.sb_trace.specs.Start.{pages_from};
+ghost use Rattle.sb_trace.specs.SystemCall.{is_start as is_start_of, register_refusal, server_stack_page, with_registration, with_server, registered};
+ghost use Rattle.sb_plain.specs.Refusal.{number_of};
+ghost use Rattle.sb_plain.specs.Store.{added};
+
+use super::{accept, decline};
+use crate::pages::Pages;
+use crate::pool::{registration_of, set_pool_word};
+use crate::process::Process;
+use crate::refusal::Refusal;
+use crate::registers::{RDI, RSI};
+use crate::state::Plain;
+use crate::windows::present_of;
+use sb_insn::{Insn, Regs};
+use sb_trace::{Event, PageName, Registration};
+
+/// How many stacks a server has at most.
+const MAX_STACKS: u64 = 16;
+
+/// The pages of a server stack.
+const STACK_PAGES: u32 = 4;
+
+/// Where the top word of a stack is in its last page.
+const TOP_WORD: usize = 0xFF8;
+
+/// The address of the exit stub, at the beginning of the server page: there a handler returns to.
+const EXIT_STUB: u64 = 0x7000_0000;
+
+// ---- refusals
+
+#[tactic(auto, unfolding(sb_trace::specs::State::process_at))]
+fn is_start(state: &Plain, process: u32, address: u64) -> bool
+    ensures { result ≡ is_start_of (process_at state.now process) address }
+{
+    match state.processes.get(process as usize) {
+        Some(process) => process.is_start(address),
+        None => false,
+    }
+}
+
+#[tactic(auto, unfolding(sb_trace::specs::SystemCall::register_refusal))]
+fn refusal_of(state: &Plain, view: u16, process: u32, handler: u64, stacks: u64) -> Option<Refusal>
+    ensures refusal { option_map number_of result ≡ register_refusal state.now view process handler stacks }
+    ensures stacks { result ≡ None → stacks ≤ 16 }
+    ensures frames { result ≡ None → 4 * stacks ≤ state.now.free }
+{
+    if view != 0 {
+        Some(Refusal::InServer)
+    } else if registration_of(state, process as usize).is_some() {
+        Some(Refusal::Already)
+    } else if !is_start(state, process, handler) {
+        Some(Refusal::BadHandler)
+    } else if stacks == 0 || stacks > MAX_STACKS {
+        Some(Refusal::BadCount)
+    } else if u64::from(state.free) < u64::from(STACK_PAGES) * stacks {
+        Some(Refusal::NoFrames)
+    } else {
+        None
+    }
+}
+
+// ---- the server
+
+// A page of a server stack. The last page of a stack has the address of the exit stub in its top word.
+#[tactic(auto, unfolding(sb_trace::specs::SystemCall::stack_bytes))]
+fn add_stack_page(pages: &mut Pages, process: u32, page: u32)
+    requires { 0 < pages.old.room }
+    ensures { pages.new ≡ added pages.old (server_stack_page process page) }
+{
+    let name = PageName::ServerStack(process, page);
+    if page % STACK_PAGES == STACK_PAGES - 1 {
+        pages.add(name, TOP_WORD, &[EXIT_STUB]);
+    } else {
+        pages.add(name, 0, &[]);
+    }
+}
+
+fn add_stacks(pages: &mut Pages, process: u32, count: u32)
+    requires { count ≤ pages.old.room }
+    ensures { pages.new ≡ record { pages = pages.old.pages ++ pages_from (server_stack_page process) 0 count; room = pages.old.room - count } }
+{
+    for page in 0..count {
+        add_stack_page(pages, process, page);
+    }
+}
+
+// The stacks are there, and their frames are taken.
+fn take_stacks(state: &mut Plain, process: u32, pages: u32)
+    requires { pages ≤ state.old.free }
+    ensures { state.new ≡ record state.old { pages = state.old.pages ++ pages_from (server_stack_page process) 0 pages; free = state.old.free - pages } }
+{
+    state.free -= pages;
+    add_stacks(&mut state.pages, process, pages);
+}
+
+fn note_registration(processes: &mut [Process], process: u32, registration: Registration)
+    ensures { processes.new ≡ with_registration (slice_get processes.old process) processes.old process registration }
+{
+    let place = process as usize;
+    if place < processes.len() {
+        let server = &mut processes[place];
+        server.registration = Some(registration);
+    }
+}
+
+#[tactic(auto, unfolding(sb_trace::specs::State::process_at))]
+fn set_registration(state: &mut Plain, process: u32, registration: Registration)
+    ensures { state.new ≡ record state.old { processes = with_registration (process_at state.old process) state.old.processes process registration } }
+{
+    note_registration(&mut state.processes, process, registration);
+}
+
+// The process has so many stacks, all of them free.
+#[tactic(auto, unfolding(sb_trace::specs::SystemCall::with_server, sb_trace::specs::State::process_at, sb_trace::specs::PageWords::with_word, sb_trace::specs::State::with_contents))]
+fn make_server(state: &mut Plain, process: u32, handler: u64, stacks: u32)
+    requires count { stacks ≤ 16 }
+    requires frames { 4 * stacks ≤ state.old.free }
+    ensures made { state.new ≡ with_server state.old process handler stacks }
+    ensures count { length state.new.threads ≡ length state.old.threads }
+{
+    set_pool_word(state, process, (1 << stacks) - 1);
+    take_stacks(state, process, STACK_PAGES * stacks);
+    set_registration(state, process, Registration { handler, stacks });
+}
+
+/// Makes the process that the view shows a server: its handler is in RDI, its number of stacks in RSI.
+pub fn register(state: &mut Plain, core: u8, insn: &Insn, regs: &Regs) -> Event
+    requires { core < length state.old.threads }
+    ensures registered { (result, state.new) ≡ registered state.old core insn.now regs.now (shown_now (thread_at state.old core)) (register_refusal state.old (thread_at state.old core).view (shown_now (thread_at state.old core)) (rdi regs.now) (rsi regs.now)) }
+    ensures count { length state.new.threads ≡ length state.old.threads }
+{
+    let thread = state.thread(core);
+    let (view, process) = (thread.view, present_of(thread));
+    let (handler, stacks) = (regs.general[RDI], regs.general[RSI]);
+    if let Some(refusal) = refusal_of(state, view, process, handler, stacks) {
+        return decline(state, core, insn, regs, refusal, 0);
+    }
+    make_server(state, process, handler, stacks as u32);
+    accept(state, core, insn, regs)
+}
