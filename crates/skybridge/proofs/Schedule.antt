@@ -1,7 +1,7 @@
 -- Each entry of a schedule is a core.
 use Rattle.std.proofs.Common.{◌≡◌, ℕ, zero, suc, ◌+◌, ◌<◌, List, [], ◌∷◌, length, map, get_or, refl, ap, sym, ◌∙◌, subst, arith}
 use Rattle.std.proofs.lemmas.List.{length-map}
-use Rattle.sb_bundle.specs.declared.bundle.Bundle.{Bundle}
+use Rattle.sb_load.specs.Loading.{Load}
 use Rattle.sb_bundle.specs.Limits.{AllBelow}
 use Rattle.sb_trace.specs.State.{State}
 use Rattle.sb_trace.specs.Start.{ThreadEntry, start_threads}
@@ -16,10 +16,10 @@ count_threads : (thread : ℕ) (entries : List ThreadEntry) → length (start_th
 count_threads thread [] = refl
 count_threads thread (entry ∷ entries) = ap suc (count_threads (thread + 1) entries)
 
--- a bundle's machine has a thread for each entry of its schedule
-pub threads_enough : (bundle : Bundle) (state : State) (schedule : List ℕ) → state ≡ first_state bundle → schedule ≡ bundle.schedule
-    → AllBelow (length bundle.cores) bundle.schedule → AllBelow (length state.threads) schedule
-threads_enough bundle state schedule starts is all =
-    let counts : length state.threads ≡ length bundle.cores =
-    ap (λ (value : State). length value.threads) starts ∙ count_threads 0 (map entry_of bundle.cores) ∙ length-map bundle.cores entry_of in
-    subst (λ (count : ℕ). AllBelow count schedule) (sym counts) (subst (λ (entries : List ℕ). AllBelow (length bundle.cores) entries) (sym is) all)
+-- the machine of what was loaded has a thread for each entry of its schedule
+pub threads_enough : (load : Load) (state : State) (schedule : List ℕ) → state ≡ first_state load → schedule ≡ load.bundle.schedule
+    → AllBelow (length load.bundle.cores) load.bundle.schedule → AllBelow (length state.threads) schedule
+threads_enough load state schedule starts is all =
+    let counts : length state.threads ≡ length load.bundle.cores =
+    ap (λ (value : State). length value.threads) starts ∙ count_threads 0 (map entry_of load.bundle.cores) ∙ length-map load.bundle.cores entry_of in
+    subst (λ (count : ℕ). AllBelow count schedule) (sym counts) (subst (λ (entries : List ℕ). AllBelow (length load.bundle.cores) entries) (sym is) all)

@@ -8,27 +8,28 @@ use Rattle.sb_load.specs.declared.refusal.LoadRefusal.TheVariants as load_refusa
 use Rattle.sb_load.specs.Loading.{Load, IsLoadable, Loads}
 use Rattle.skybridge.specs.declared.replay.Refusal.{Refusal}
 use Rattle.skybridge.specs.declared.replay.Refusal.TheVariants as refusal
-use Rattle.skybridge.specs.Output.{IsReport}
+use Rattle.skybridge.specs.declared.words.Command.{Command}
+use Rattle.skybridge.specs.Output.{IsOutput}
 
 -- the loader accepts the bundle
 abbrev pub IsLoaded : Bundle → Type 0
 IsLoaded bundle = (load : Load) × (load.bundle ≡ bundle) × IsLoadable load
 
 -- The cases exclude each other, but for want of memory.
-abbrev pub ReportsBundle : {A : Type 0} → Bundle → Result (String A) Refusal → Type 0
-ReportsBundle bundle (Ok text) = IsLoaded bundle × IsReport bundle (string_bytes text)
-ReportsBundle bundle (Err (refusal.Bundle why)) = ⊥
-ReportsBundle bundle (Err (refusal.Load why)) = Loads bundle (Err why) × (why ≢ load_refusal.Memory)
-ReportsBundle bundle (Err refusal.Memory) = Unit {0}
+abbrev pub ReportsBundle : {A : Type 0} → Command → Bundle → Result (String A) Refusal → Type 0
+ReportsBundle command bundle (Ok text) = IsLoaded bundle × IsOutput command bundle (string_bytes text)
+ReportsBundle command bundle (Err (refusal.Bundle why)) = ⊥
+ReportsBundle command bundle (Err (refusal.Load why)) = Loads bundle (Err why) × (why ≢ load_refusal.Memory)
+ReportsBundle command bundle (Err refusal.Memory) = Unit {0}
 
 -- the bytes spell this bundle
 abbrev pub SpellsBundle : List ℕ → Bundle → Type 0
 SpellsBundle bytes bundle = IsBundle bundle × (bytes ≡ spelling bundle)
 
 -- the same for the bytes of an input
-abbrev pub Reports : {A : Type 0} → List ℕ → Result (String A) Refusal → Type 0
-Reports bytes (Ok text) = (bundle : Bundle) × SpellsBundle bytes bundle × IsLoaded bundle × IsReport bundle (string_bytes text)
-Reports bytes (Err (refusal.Bundle why)) = reading bytes ≡ Err why
-Reports bytes (Err (refusal.Load why)) =
+abbrev pub Reports : {A : Type 0} → Command → List ℕ → Result (String A) Refusal → Type 0
+Reports command bytes (Ok text) = (bundle : Bundle) × SpellsBundle bytes bundle × IsLoaded bundle × IsOutput command bundle (string_bytes text)
+Reports command bytes (Err (refusal.Bundle why)) = reading bytes ≡ Err why
+Reports command bytes (Err (refusal.Load why)) =
     (bundle : Bundle) × SpellsBundle bytes bundle × Loads bundle (Err why) × (why ≢ load_refusal.Memory)
-Reports bytes (Err refusal.Memory) = Unit {0}
+Reports command bytes (Err refusal.Memory) = Unit {0}

@@ -1,5 +1,5 @@
 -- What the program writes.
-use Rattle.std.specs.Prelude.{◌≡◌, ℕ, List, [], ◌++◌, Option, Some, None, take}
+use Rattle.std.specs.Prelude.{◌≡◌, ℕ, List, [], ◌++◌, Option, Some, None, Ok, take}
 use Rattle.sb_port.specs.Port.{Rose, Appended}
 use Rattle.sb_bundle.specs.declared.bundle.Bundle.{Bundle}
 use Rattle.sb_trace.specs.declared.event.Line.{Line}
@@ -8,16 +8,25 @@ use Rattle.sb_trace.specs.State.{State}
 use Rattle.sb_trace.specs.Step.{Steps}
 use Rattle.sb_trace.specs.End.{end_of}
 use Rattle.sb_trace.specs.Report.{report_text}
+use Rattle.sb_load.specs.Loading.{Load, Loads}
 use Rattle.sb_plain.specs.Start.{first_state}
 use Rattle.sb_bundle.specs.declared.refusal.BundleRefusal.{BundleRefusal}
 use Rattle.sb_load.specs.declared.refusal.LoadRefusal.{LoadRefusal}
+use Rattle.skybridge.specs.declared.words.Command.{Command}
+use Rattle.skybridge.specs.declared.words.Command.TheVariants.{Replay, Plain, Check, Rewrite}
+use Rattle.skybridge.specs.Words.{AreWordsOf}
+use Rattle.skybridge.specs.Listings.{check_text, rewrite_text, IsListing}
 use Rattle.skybridge.specs.Lines.{bundle_line, load_line}
 use Rattle.skybridge.specs.Input.{IsAccepted, IsNoBundle, IsNotLoadable}
+
+-- What was loaded runs by the bundle's schedule, with these lines, to this state.
+abbrev pub Runs : Load → List Line → State → Type 0
+Runs load lines end = RunBy Steps (first_state load) load.bundle.schedule lines end
 
 -- The text is the report of the plain machine's run on the bundle's schedule.
 abbrev pub IsReport : Bundle → List ℕ → Type 0
 IsReport bundle text =
-    (lines : List Line) × (end : State) × RunBy Steps (first_state bundle) bundle.schedule lines end × (text ≡ report_text lines (end_of end))
+    (load : Load) × (lines : List Line) × (end : State) × Loads bundle (Ok load) × Runs load lines end × (text ≡ report_text lines (end_of end))
 
 -- ---- bytes that may be told
 
@@ -47,15 +56,27 @@ pub record WritesLine (held held' : Option (List ℕ)) (faults faults' : ℕ) (l
 abbrev pub WasRead : Option (List ℕ) → Bundle → List ℕ → Type 0
 WasRead left' bundle bytes = IsAccepted bytes bundle × (left' ≡ Some [])
 
--- an accepted bundle was read, and its report was appended to what the sink held
-abbrev pub Reported : Option (List ℕ) → Option (List ℕ) → Option (List ℕ) → Option (List ℕ) → Type 0
-Reported left left' held held' =
-    (bundle : Bundle) × (text : List ℕ) × WhereTold left (WasRead left' bundle) × IsReport bundle text × Appended held held' text
+-- an accepted bundle was read, and a text of this kind was appended to what the sink held
+abbrev pub ReportedAs : (Bundle → List ℕ → Type 0) → Option (List ℕ) → Option (List ℕ) → Option (List ℕ) → Option (List ℕ) → Type 0
+ReportedAs IsText left left' held held' =
+    (bundle : Bundle) × (text : List ℕ) × WhereTold left (WasRead left' bundle) × IsText bundle text × Appended held held' text
 
--- an accepted bundle was read, and a front of its report was appended
-abbrev pub PartlyReported : Option (List ℕ) → Option (List ℕ) → Option (List ℕ) → Option (List ℕ) → Type 0
-PartlyReported left left' held held' =
-    (bundle : Bundle) × (text : List ℕ) × WhereTold left (WasRead left' bundle) × IsReport bundle text × PartlyAppended held held' text
+-- what each command writes of a bundle
+abbrev pub IsOutput : Command → Bundle → List ℕ → Type 0
+IsOutput Replay bundle text = IsReport bundle text
+IsOutput Plain bundle text = IsReport bundle text
+IsOutput Check bundle text = IsListing check_text bundle text
+IsOutput Rewrite bundle text = IsListing rewrite_text bundle text
+
+-- the words are a command, an accepted bundle was read, and the command's text was appended
+abbrev pub Wrote : List (List ℕ) → Option (List ℕ) → Option (List ℕ) → Option (List ℕ) → Option (List ℕ) → Type 0
+Wrote words left left' held held' = (command : Command) × AreWordsOf command words × ReportedAs (IsOutput command) left left' held held'
+
+-- the same with a front of the text
+abbrev pub PartlyWrote : List (List ℕ) → Option (List ℕ) → Option (List ℕ) → Option (List ℕ) → Option (List ℕ) → Type 0
+PartlyWrote words left left' held held' =
+    (command : Command) × (bundle : Bundle) × (text : List ℕ) × AreWordsOf command words × WhereTold left (WasRead left' bundle)
+    × IsOutput command bundle text × PartlyAppended held held' text
 
 -- ---- the refusals that name a place
 

@@ -1,11 +1,12 @@
-//! SkyBridge: guest images in, the report of their run out.
+//! SkyBridge: guest images in, the report of their run out; or what their texts are rewritten to.
 //!
 //! `bridge` is the top call: it takes the words of the command line, a source and a sink, and its contract says what is
 //! written and when each status comes. `main` hands it the standard streams.
 //!
-//! The way through: `top` (the command), `replay` (from the bytes of an input to the report of its run), `lines` (the
-//! lines of the refusals). What they call: `sb_bundle` reads the bundle, `sb_load` says whether it can be loaded,
-//! `sb_plain` runs it, and `sb_trace` writes the report.
+//! The way through: `words` (which command), `top` (reading, writing and statuses), `replay` (from the bytes of an input
+//! to what the command writes), `listings` (the text of `check` and `rewrite`), `lines` (the lines of the refusals). What
+//! they call: `sb_bundle` reads the bundle, `sb_load` rewrites its texts and says whether it can be loaded, `sb_plain` runs
+//! it, and `sb_trace` writes the report.
 //!
 //! ```text
 //! skybridge replay < five.bundle
@@ -13,20 +14,21 @@
 #![tactic(auto)]
 
 mod lines;
+mod listings;
 mod replay;
 #[cfg(test)]
 mod tests;
 mod top;
 mod words;
 
-pub use replay::{Refusal, report_of};
+pub use replay::{Refusal, output_of};
 use sb_port::{ReadSource, WriteSink};
 use std::alloc::{AllocError, Global};
 use std::io::ErrorKind;
 use std::process::ExitCode;
 use std::rt::Env;
 use std::{env, io};
-pub use top::{Status, bridge, one_report};
+pub use top::{Status, bridge, one_output};
 
 /// The words of the command line, without the program's name.
 fn command_words(alloc: Global, rt: &(impl Env + AllocGlobal)) -> io::Result<Vec<String>> {

@@ -1,20 +1,22 @@
-//! From the bytes of an input to the report of its run, or why there is none.
+//! From the bytes of an input to what a command writes of it, or why there is nothing to write.
 
 ghost use Rattle.std.specs.Prelude.{IfOk, length, string_bytes};
 ghost use Rattle.sb_trace.specs.Run.{RunBy};
 ghost use Rattle.sb_trace.specs.Step.{Steps};
 ghost use Rattle.sb_load.specs.Loading.{IsLoadable};
-ghost use Rattle.skybridge.specs.Output.{IsReport};
+ghost use Rattle.skybridge.specs.Output.{IsReport, IsOutput};
 ghost use Rattle.skybridge.specs.Answer.{Reports, ReportsBundle};
 ghost use Rattle.sb_bundle.specs.Limits.{IsBundle, AllBelow};
 
+use crate::listings::{check_text, rewrite_text};
+use crate::words::Command;
 use sb_bundle::{Bundle, BundleRefusal, read_bundle};
 use sb_load::{LoadRefusal, Loaded, load};
 use sb_plain::Plain;
 use sb_trace::{Lines, report_text};
 use std::alloc::{AllocError, Global};
 
-/// Why an input has no report.
+/// Why a command has nothing to write of an input.
 #[derive(Clone, Copy, Debug, PartialEq, Eq)]
 pub enum Refusal {
     /// Its bytes are no bundle.
@@ -48,27 +50,39 @@ fn report(alloc: Global, loaded: &Loaded) -> Result<String, AllocError>
     report_text(alloc, &lines, &end)
 }
 
-fn load_and_report(alloc: Global, bundle: &Bundle) -> Result<String, Refusal>
+// What the command writes of the loaded bundle.
+fn output(alloc: Global, command: Command, loaded: &Loaded) -> Result<String, AllocError>
+    requires { IsLoadable loaded.now }
+    ensures { IfOk result (λ text. IsOutput command loaded.now.bundle (string_bytes text)) }
+{
+    match command {
+        Command::Replay | Command::Plain => report(alloc, loaded),
+        Command::Check => check_text(alloc, loaded),
+        Command::Rewrite => rewrite_text(alloc, loaded),
+    }
+}
+
+fn load_and_report(alloc: Global, command: Command, bundle: &Bundle) -> Result<String, Refusal>
     requires { IsBundle bundle.now }
-    ensures { ReportsBundle bundle.now result }
+    ensures { ReportsBundle command bundle.now result }
 {
     match load(alloc, bundle) {
         Err(LoadRefusal::Memory) => Err(Refusal::Memory),
         Err(why) => Err(Refusal::Load(why)),
-        Ok(loaded) => match report(alloc, &loaded) {
+        Ok(loaded) => match output(alloc, command, &loaded) {
             Ok(text) => Ok(text),
             Err(AllocError) => Err(Refusal::Memory),
         },
     }
 }
 
-/// The report of the bundle that the bytes spell.
-pub fn report_of(alloc: Global, bytes: &[u8]) -> Result<String, Refusal>
-    ensures { Reports bytes.now result }
+/// What the command writes of the bundle that the bytes spell.
+pub fn output_of(alloc: Global, command: Command, bytes: &[u8]) -> Result<String, Refusal>
+    ensures { Reports command bytes.now result }
 {
     match read_bundle(alloc, bytes) {
         Err(BundleRefusal::Memory) => Err(Refusal::Memory),
         Err(why) => Err(Refusal::Bundle(why)),
-        Ok(bundle) => load_and_report(alloc, &bundle),
+        Ok(bundle) => load_and_report(alloc, command, &bundle),
     }
 }

@@ -102,7 +102,7 @@ fn quiet_outcome(alloc: Global, word: &str, bytes: Vec<u8>) -> Result<(Status, V
 #[test]
 fn threads_run_to_their_report(rt: HostRuntime) -> Result<(), Fail> {
     let alloc = rt.alloc();
-    let rows: [(&str, &[u8], u32, &str); 6] = [
+    let rows: [(&str, &[u8], u32, &str); 7] = [
         (
             "prints 7 and ends with status 7",
             &FIVE,
@@ -135,9 +135,15 @@ fn threads_run_to_their_report(rt: HostRuntime) -> Result<(), Fail> {
         ),
         (
             "a number that is no call is answered 21",
+            &[0xB8, 5, 0, 0, 0, 0x0F, 5],
+            2,
+            "0 step 400000\n0 sys 5 21\nthread 0 home 0 view 0 at 0 running\nregs 0 rip 400007 flags 0 15 400007 0 0 3008000 0 0 0 0 0 0 202 0 0 0 0\n",
+        ),
+        (
+            "no instruction starts at the handler of a register call",
             &[0xB8, 2, 0, 0, 0, 0x0F, 5],
             2,
-            "0 step 400000\n0 sys 2 21\nthread 0 home 0 view 0 at 0 running\nregs 0 rip 400007 flags 0 15 400007 0 0 3008000 0 0 0 0 0 0 202 0 0 0 0\n",
+            "0 step 400000\n0 sys 2 12\nthread 0 home 0 view 0 at 0 running\nregs 0 rip 400007 flags 0 c 400007 0 0 3008000 0 0 0 0 0 0 202 0 0 0 0\n",
         ),
     ];
     for (name, text, steps, lines) in rows {
@@ -187,11 +193,11 @@ fn refusals_write_one_line(rt: HostRuntime) -> Result<(), Fail> {
             "bundle Short 60\n",
         ),
         (
-            "the bytes of VMFUNC inside an instruction",
+            "the bytes of VMFUNC in a call through memory",
             "replay",
             bundle(alloc, 576, &[0xFF, 0x94, 0x24, 0x0F, 1, 0xD4, 0], 0, 0)?,
             Status::LoadRefused,
-            "process 0 Form 400003\n",
+            "process 0 Unmovable 400000\n",
         ),
         (
             "an entry inside an instruction",
@@ -219,6 +225,44 @@ fn refusals_write_one_line(rt: HostRuntime) -> Result<(), Fail> {
         let (status, held) = quiet_outcome(alloc, word, bytes)?;
         assert_eq!(rt; status, wanted, "{name}");
         assert_eq!(rt; held.as_slice(), line.as_bytes(), "{name}");
+    }
+    Ok(())
+}
+
+#[test]
+fn texts_are_checked_and_rewritten(rt: HostRuntime) -> Result<(), Fail> {
+    let alloc = rt.alloc();
+    let rows: [(&str, &str, &[u8], &str); 5] = [
+        (
+            "the frames that a bundle takes and has",
+            "check",
+            &FIVE,
+            "ok 25 64\n",
+        ),
+        ("no edit", "rewrite", &FIVE, "process 0\nend\n"),
+        (
+            "VMFUNC",
+            "rewrite",
+            &[0x0F, 1, 0xD4],
+            "process 0\nedit 400000 0f01d4 909090\nend\n",
+        ),
+        (
+            "in place",
+            "rewrite",
+            &[0x6A, 0x0F, 1, 0xD4],
+            "process 0\nedit 400002 01d4 03e2\nend\n",
+        ),
+        (
+            "moved",
+            "rewrite",
+            &[5, 0x0F, 1, 0xD4, 0],
+            "process 0\nedit 400000 050f01d400 e9fb0fc0ff\nslot 1000 48890c250040007048c7c10f00d400488d890001000001c8488b0c2500400070e9e0ef3f00\nend\n",
+        ),
+    ];
+    for (name, word, text, wanted) in rows {
+        let (status, held) = quiet_outcome(alloc, word, bundle(alloc, 576, text, 0, 0)?)?;
+        assert_eq!(rt; status, Status::Done, "{name}");
+        assert_eq!(rt; held.as_slice(), wanted.as_bytes(), "{name}");
     }
     Ok(())
 }

@@ -4,13 +4,15 @@ ghost use Rattle.std.specs.Prelude.{◌≡◌, ◌≤◌, ℕ, List, ◌↔◌, 
 ghost use Rattle.sb_port.specs.Port.{Rose};
 ghost use Rattle.sb_bundle.specs.declared.bundle.Bundle.{Bundle};
 ghost use Rattle.skybridge.specs.Input.{IsTooLong, SomeNoBundle, SomeNotLoadable, SomeAccepted};
-ghost use Rattle.skybridge.specs.Output.{IsReport, IsTold, WhereTold, Reported, PartlyReported, RefusedBundle, RefusedLoad, WritesLine};
+ghost use Rattle.skybridge.specs.declared.words.Command.{Command};
+ghost use Rattle.skybridge.specs.Output.{IsOutput, IsTold, WhereTold, Wrote, PartlyWrote, RefusedBundle, RefusedLoad, WritesLine};
+ghost use Rattle.skybridge.specs.Lawful.{WroteLawfully};
 ghost use Rattle.skybridge.specs.Words.{IsCommand, word_texts};
 ghost use Rattle.skybridge.specs.Lines.{usage_line, read_fault_line, too_long_line};
 
 use crate::lines::{bundle_line, load_line};
-use crate::replay::{Refusal, report_of};
-use crate::words::is_command;
+use crate::replay::{Refusal, output_of};
+use crate::words::command_of;
 use sb_port::{ReadAll, Sink, Source, read_all, write_all};
 use std::alloc::{AllocError, Global};
 
@@ -66,16 +68,20 @@ fn refuse_by<K: Sink>(sink: &mut K, line: Result<String, AllocError>, status: St
 ///
 /// A refusal keeps its status where its line could not be written whole. Causes are tried in the order words, reading,
 /// bundle, loading, writing; `NoMemory` may come anywhere between.
+#[tactic(auto, using(crate::proofs::Lawful::lawful))]
 pub fn bridge<S: Source, K: Sink>(
     alloc: Global,
     words: &Vec<String>,
     source: &mut S,
     sink: &mut K,
 ) -> Status
-    // An accepted bundle was read to the end of the source, and the report of its run was appended.
+    // The words are a command, an accepted bundle was read to the end of the source, and the command's text was appended.
     ensures done { result ≡ Status.Done
-        → Reported (S.left source.old) (S.left source.new) (K.held sink.old) (K.held sink.new) }
-    ensures command { result ≡ Status.Done → IsCommand (word_texts words.now.items) }
+        → Wrote (word_texts words.now.items) (S.left source.old) (S.left source.new) (K.held sink.old) (K.held sink.new) }
+    // The landing lines of a report can be left out: the others are the lines of a machine that calls in one step. And
+    // VMFUNC's bytes may be fetched at one address alone.
+    ensures lawful { result ≡ Status.Done
+        → WroteLawfully (word_texts words.now.items) (S.left source.old) (S.left source.new) (K.held sink.old) (K.held sink.new) }
 
     ensures bad_words { (result ≡ Status.BadWords) ↔ (¬ IsCommand (word_texts words.now.items)) }
     ensures unread { result ≡ Status.BadWords → source.new ≡ source.old }
@@ -107,7 +113,7 @@ pub fn bridge<S: Source, K: Sink>(
 
     ensures write_fault { result ≡ Status.WriteFault → Rose (K.faults sink.old) (K.faults sink.new) }
     ensures write_fault_part { result ≡ Status.WriteFault
-        → PartlyReported (S.left source.old) (S.left source.new) (K.held sink.old) (K.held sink.new) }
+        → PartlyWrote (word_texts words.now.items) (S.left source.old) (S.left source.new) (K.held sink.old) (K.held sink.new) }
 
     ensures no_memory { result ≡ Status.NoMemory → K.held sink.new ≡ K.held sink.old }
 
@@ -116,10 +122,10 @@ pub fn bridge<S: Source, K: Sink>(
         → ¬ Rose (S.faults source.old) (S.faults source.new) → ¬ Rose (K.faults sink.old) (K.faults sink.new)
         → (result ≡ Status.Done) ⊎ (result ≡ Status.NoMemory) }
 {
-    if !is_command(words) {
+    let Some(command) = command_of(words) else {
         refuse(sink, "usage: skybridge --help\n");
         return Status::BadWords;
-    }
+    };
     let bytes = match read_all(alloc, source, INPUT_LIMIT) {
         Ok(bytes) => bytes,
         Err(ReadAll::ReadFault) => {
@@ -132,7 +138,7 @@ pub fn bridge<S: Source, K: Sink>(
         }
         Err(ReadAll::Memory) => return Status::NoMemory,
     };
-    match report_of(alloc, &bytes) {
+    match output_of(alloc, command, &bytes) {
         Ok(text) => match write_all(sink, text.as_bytes()) {
             Ok(()) => Status::Done,
             Err(_) => Status::WriteFault,
@@ -147,7 +153,7 @@ pub fn bridge<S: Source, K: Sink>(
     }
 }
 
-/// The definitions give one report of a bundle: any two texts that are its report are equal.
-pub fn one_report()
-    ensures { (bundle : Bundle) (text other : List ℕ) → IsReport bundle text → IsReport bundle other → text ≡ other }
+/// The definitions give one text of a command and a bundle: any two are equal.
+pub fn one_output()
+    ensures { (command : Command) (bundle : Bundle) (text other : List ℕ) → IsOutput command bundle text → IsOutput command bundle other → text ≡ other }
 {}
