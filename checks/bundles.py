@@ -13,7 +13,7 @@ DATA = 0x800000
 STACK_TOP = 0x3008000  # of thread 0
 STACK_STRIDE = 0x8000  # from one thread's stack to the next one's
 FRAMES = 1024
-VMFUNC = bytes.fromhex("0f01d4")  # stands nowhere in a text that is loaded
+VMFUNC = bytes.fromhex("0f01d4")  # a text that holds it is rewritten
 
 
 class Thread(NamedTuple):

@@ -1,6 +1,6 @@
 """The instructions that the machine knows, row by row as in docs/FORMATS.md, and how one is spelled in bytes.
 
-VMFUNC is left out, since a text that holds it is not loaded.
+VMFUNC is left out, since a text that holds it is rewritten.
 """
 
 import dataclasses
