@@ -102,16 +102,17 @@ targets_checked text rest starts checked none =
 
 -- ---- what the form of an instruction asks for
 
+-- the starts are in a text
+pub in_text : (text : List ℕ) (insns : List Insn) → length text ≤ 2097152 → text ≡ spelled insns → AreInText (starts_of (places text insns))
+in_text text insns size whole start held =
+    let within = starts_within text_address insns start (subst (λ (list : List ℕ). Contains list start) (starts_placed text text_address area_address insns) held) in
+    (within.0, omega (arith, within.1, size, ap length whole))
+
 -- the text's jumps lead well
 pub record JumpsKnown (text : List ℕ) (insns : List Insn) : Type 0 where
   pub size : length text ≤ 2097152
   pub whole : text ≡ spelled insns
   pub well : LeadsWell (places text insns)
-
-in_text : (text : List ℕ) (insns : List Insn) → JumpsKnown text insns → AreInText (starts_of (places text insns))
-in_text text insns known start held =
-    let within = starts_within text_address insns start (subst (λ (list : List ℕ). Contains list start) (starts_placed text text_address area_address insns) held) in
-    (within.0, omega (arith, within.1, known.size, ap length known.whole))
 
 pub form_asks : NotInJumps → (text rest : List ℕ) (done more : List Insn) (front : Front) → Reads text rest done more → JumpsKnown text (done ++ more) → IsFront text rest front → 0 < length rest
     → IsDirect front.insn → HasNoPattern (spelling front.insn)
@@ -122,7 +123,7 @@ form_asks law text rest done more front reads known is some =
     let good_here : ¬ IsBadTarget starts (direct_target front.insn front.at) = subst (λ (at : ℕ). ¬ IsBadTarget starts (direct_target front.insn at)) (sym turned.here) good in
     let low : 0x400000 ≤ front.at = omega (arith, is.here) in
     let high : front.at < 0x600000 = omega (arith, is.here, known.size) in
-    jump_free law front.insn front.at starts is.valid low high (in_text text (done ++ more) known) good_here
+    jump_free law front.insn front.at starts is.valid low high (in_text text (done ++ more) known.size known.whole) good_here
 
 -- ---- what can be moved
 

@@ -6,10 +6,10 @@ use Rattle.sb_insn.specs.declared.insn.Imm.{Imm}
 use Rattle.sb_insn.specs.declared.insn.Imm.TheVariants as imm
 use Rattle.sb_insn.specs.Spelling.{spelling}
 use Rattle.sb_insn.specs.Grammar.{IsValid}
-use Rattle.sb_scan.specs.Pattern.{HasNoPattern}
-use Rattle.sb_forms.specs.Places.{IsDirect, IsPermitted, NotInJumps, target, distance as place_distance}
+use Rattle.sb_forms.specs.Places.{IsPermitted, HasForm, NotInJumps, target, distance as place_distance}
 use Rattle.sb_rewrite.specs.Listing.{spelled, starts_from}
 use Rattle.sb_rewrite.specs.Target.{is_direct, distance, direct_target, MayLeadTo, IsBadTarget}
+use Rattle.sb_rewrite.specs.Turns.{IsFar}
 use Rattle.sb_rewrite.proofs.OneListing.{some_spelling}
 use Rattle.sb_rewrite.proofs.Direct.{has_distance}
 
@@ -35,13 +35,23 @@ AreInText starts = (start : ℕ) → Contains starts start → (0x400000 ≤ sta
 permitted : (starts : List ℕ) (address : ℕ) → AreInText starts → MayLeadTo starts address → IsPermitted address
 permitted starts address in_text may = ⊎_elim (λ there. inr (there.0, omega (arith, there.1))) (λ start. inl (in_text address start)) may
 
-pub jump_free : NotInJumps → (insn : Insn) (at : ℕ) (starts : List ℕ) → IsValid insn → 0x400000 ≤ at → at < 0x600000 → AreInText starts
-    → ¬ IsBadTarget starts (direct_target insn at) → IsDirect insn → HasNoPattern (spelling insn)
+-- one that leads far away leads badly
+pub far_is_bad : (starts : List ℕ) (leads_to : Option ℕ) → AreInText starts → IsFar leads_to → IsBadTarget starts leads_to
+far_is_bad starts None in_text far = far
+far_is_bad starts (Some address) in_text far = λ may. far (permitted starts address in_text may)
+
+-- one that does not lead far away
+pub near_free : NotInJumps → (insn : Insn) (at : ℕ) → IsValid insn → 0x400000 ≤ at → at < 0x600000 → ¬ IsFar (direct_target insn at) → HasForm insn
 unfolding direct_target
-jump_free law insn at starts valid low high in_text leads direct place stands =
+near_free law insn at valid low high near direct place stands =
     let same : (at + length (spelling insn) + distance insn.imm) % 2 ^ 64 ≡ target insn at =
     ap (λ (far : ℕ). (at + length (spelling insn) + far) % 2 ^ 64) (same_distance insn.imm) in
     let target_is : (if is_direct insn.op then Some ((at + length (spelling insn) + distance insn.imm) % 2 ^ 64) else None) ≡ Some (target insn at) =
     rw (has_distance insn direct) (ap (λ (far : ℕ). Some far) same) in
-    let leads_well : ¬ IsBadTarget starts (Some (target insn at)) = subst (λ (leads_to : Option ℕ). ¬ IsBadTarget starts leads_to) target_is leads in
-    leads_well (λ may. law insn at valid direct low high (permitted starts (target insn at) in_text may) place stands)
+    let leads_near : ¬ IsFar (Some (target insn at)) = subst (λ (leads_to : Option ℕ). ¬ IsFar leads_to) target_is near in
+    leads_near (λ permitted. law insn at valid direct low high permitted place stands)
+
+-- one that leads where it may
+pub jump_free : NotInJumps → (insn : Insn) (at : ℕ) (starts : List ℕ) → IsValid insn → 0x400000 ≤ at → at < 0x600000 → AreInText starts
+    → ¬ IsBadTarget starts (direct_target insn at) → HasForm insn
+jump_free law insn at starts valid low high in_text leads = near_free law insn at valid low high (λ far. leads (far_is_bad starts (direct_target insn at) in_text far))

@@ -4,6 +4,7 @@ pub mod Direct
 pub mod FirstAt
 pub mod Jumps
 pub mod Putting
+pub mod Kept
 pub mod Listed
 pub mod Made
 pub mod OneListing
@@ -14,5 +15,6 @@ pub mod Originals
 pub mod Placed
 pub mod Reading
 pub mod Refused
+pub mod Remembered
 pub mod Search
 pub mod Unmovable

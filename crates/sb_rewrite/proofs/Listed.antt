@@ -9,7 +9,7 @@ use Rattle.sb_insn.specs.Grammar.{BeginsWith}
 use Rattle.sb_decode.specs.Decode.{Decodes}
 use Rattle.sb_decode.specs.declared.fault.DecodeFault.{DecodeFault}
 use Rattle.sb_decode.specs.declared.fault.DecodeFault.TheVariants.{Short, Undecoded}
-use Rattle.sb_rewrite.specs.Listing.{text_address, spelled, AllValid, starts_from, IsListing, IsUndecodedAt}
+use Rattle.sb_rewrite.specs.Listing.{text_address, spelled, AllValid, starts_from, IsListing, IsStuck, IsUndecodedAt}
 
 -- instructions spell the text up to its rest, and these are their starts
 pub record Partway (text rest starts : List ℕ) : Type 0 where
@@ -28,10 +28,10 @@ none_listed text starts none = record {
   starts_are = none;
 }
 
-spelled_push : (insns : List Insn) (insn : Insn) → spelled (insns ++ insn ∷ []) ≡ spelled insns ++ spelling insn
+pub spelled_push : (insns : List Insn) (insn : Insn) → spelled (insns ++ insn ∷ []) ≡ spelled insns ++ spelling insn
 spelled_push insns insn = flat_map-append spelling insns (insn ∷ []) ∙ ap (λ (bytes : List ℕ). spelled insns ++ bytes) (append-nil (spelling insn))
 
-starts_push : (at : ℕ) (insns : List Insn) (insn : Insn) → starts_from at (insns ++ insn ∷ []) ≡ starts_from at insns ++ (at + length (spelled insns)) ∷ []
+pub starts_push : (at : ℕ) (insns : List Insn) (insn : Insn) → starts_from at (insns ++ insn ∷ []) ≡ starts_from at insns ++ (at + length (spelled insns)) ∷ []
 unfolding starts_from
 starts_push at [] insn =
     let here : at ≡ at + 0 = omega arith in
@@ -40,19 +40,20 @@ starts_push at (first ∷ insns) insn =
     let behind : at + length (spelling first) + length (spelled insns) ≡ at + length (spelling first ++ spelled insns) = omega (arith, length-append (spelling first) (spelled insns)) in
     ap (λ (later : List ℕ). at ∷ later) (starts_push (at + length (spelling first)) insns insn ∙ ap (λ (place : ℕ). starts_from (at + length (spelling first)) insns ++ place ∷ []) behind)
 
-valid_push : (insns : List Insn) (insn : Insn) → AllValid insns → AllValid (insn ∷ []) → AllValid (insns ++ insn ∷ [])
+pub valid_push : (insns : List Insn) (insn : Insn) → AllValid insns → AllValid (insn ∷ []) → AllValid (insns ++ insn ∷ [])
 valid_push [] insn all one = one
 valid_push (first ∷ insns) insn all one = (all.0, valid_push insns insn all.1 one)
 
 -- where the rest of the text stands
-place_of : (text rest : List ℕ) (insns : List Insn) → text ≡ spelled insns ++ rest → length text - length rest ≡ length (spelled insns)
+pub place_of : (text rest : List ℕ) (insns : List Insn) → text ≡ spelled insns ++ rest → length text - length rest ≡ length (spelled insns)
 place_of text rest insns whole = omega (arith, ap length whole ∙ length-append (spelled insns) rest)
 
 -- behind the spelling of the first instruction
 behind : (text rest : List ℕ) (insn : Insn) → text ≡ spelling insn ++ rest → drop (length (spelling insn)) text ≡ rest
 behind text rest insn parts = ap (λ (bytes : List ℕ). drop (length (spelling insn)) bytes) parts ∙ drop-append_seam (spelling insn) rest
 
-more_of : (text rest tail starts : List ℕ) (insn : Insn) → Partway text rest starts → AllValid (insn ∷ []) → rest ≡ spelling insn ++ tail
+-- one more instruction begins it
+unfoldable pub more_of : (text rest tail starts : List ℕ) (insn : Insn) → Partway text rest starts → AllValid (insn ∷ []) → rest ≡ spelling insn ++ tail
     → Partway text tail (starts ++ (text_address + (length text - length rest)) ∷ [])
 more_of text rest tail starts insn partway one parts = record {
   insns = partway.insns ++ insn ∷ [];
@@ -76,10 +77,14 @@ one_more text rest starts insn count partway ((valid, (tail, parts)), is_length)
     let all : take (length rest - count) (drop count rest) ≡ tail = rw (← length-drop count rest) (take-length (drop count rest)) ∙ left in
     subst (λ (bytes : List ℕ). Partway text bytes (starts ++ (text_address + (length text - length rest)) ∷ [])) (sym all) (more_of text rest tail starts insn partway (valid, tt) parts)
 
+-- where nothing is left, they spell the whole text
+pub all_spelled : (text rest starts : List ℕ) (partway : Partway text rest starts) → length rest ≡ 0 → text ≡ spelled partway.insns
+all_spelled text [] starts partway none = partway.whole ∙ append-nil (spelled partway.insns)
+all_spelled text (byte ∷ rest) starts partway none = absurd (omega arith)
+
 -- all of the text is listed
 pub all_listed : (text rest starts : List ℕ) → Partway text rest starts → length rest ≡ 0 → IsListing text starts
-all_listed text [] starts partway none = (partway.insns, partway.valid, partway.whole ∙ append-nil (spelled partway.insns), partway.starts_are)
-all_listed text (byte ∷ rest) starts partway none = absurd (omega arith)
+all_listed text rest starts partway none = (partway.insns, partway.valid, all_spelled text rest starts partway none, partway.starts_are)
 
 -- no instruction begins what the decoder refuses
 pub none_begins : (rest : List ℕ) (fault : DecodeFault) → Decodes rest (Err fault) → (insn : Insn) → BeginsWith rest insn → ⊥
@@ -87,14 +92,18 @@ none_begins rest Short decodes insn begins = decodes.0 insn begins
 none_begins rest Undecoded decodes insn begins =
     decodes [] insn (subst (λ (bytes : List ℕ). BeginsWith bytes insn) (sym (append-nil rest)) begins)
 
--- nothing more is decoded
-pub stuck_there : (text rest starts : List ℕ) (fault : DecodeFault) → Partway text rest starts → 0 < length rest → Decodes rest (Err fault)
-    → IsUndecodedAt text (text_address + (length text - length rest))
-stuck_there text rest starts fault partway some decodes = (
+-- what is left begins with no instruction
+pub stuck_behind : (text rest starts : List ℕ) → Partway text rest starts → IsStuck rest → IsUndecodedAt text (text_address + (length text - length rest))
+stuck_behind text rest starts partway stuck = (
   partway.insns,
   rest,
   partway.valid,
   partway.whole,
-  (some, none_begins rest fault decodes),
+  stuck,
   ap (λ (place : ℕ). text_address + place) (place_of text rest partway.insns partway.whole),
 )
+
+-- nothing more is decoded
+pub stuck_there : (text rest starts : List ℕ) (fault : DecodeFault) → Partway text rest starts → 0 < length rest → Decodes rest (Err fault)
+    → IsUndecodedAt text (text_address + (length text - length rest))
+stuck_there text rest starts fault partway some decodes = stuck_behind text rest starts partway (some, none_begins rest fault decodes)

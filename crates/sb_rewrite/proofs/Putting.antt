@@ -1,22 +1,29 @@
 -- How far a draft has come.
-use Rattle.std.proofs.Common.{◌≡◌, ℕ, ◌+◌, ◌≤◌, List, [], ◌∷◌, ◌++◌, length, refl, ap, sym, ◌∙◌, subst}
-use Rattle.std.specs.Prelude.{flat_map}
-use Rattle.std.proofs.lemmas.List.{append-nil, flat_map_more}
+use Rattle.std.proofs.Common.{◌≡◌, ℕ, ◌+◌, ◌-◌, ◌<◌, ◌≤◌, List, [], ◌∷◌, ◌++◌, length, Ok, refl, ap, sym, ◌∙◌, subst, arith}
+use Rattle.std.specs.Prelude.{flat_map, Contains}
+use Rattle.std.specs.List.{All}
+use Rattle.std.specs.List.Sorted.{IsStrictlyIncreasing}
+use Rattle.std.proofs.lemmas.List.{flat_map_more}
+use Rattle.std.proofs.lemmas.List.Elements.{All-contains}
 use Rattle.sb_insn.specs.declared.insn.Insn.{Insn}
-use Rattle.sb_forms.specs.declared.answer.Form.{Form}
-use Rattle.sb_forms.specs.Table.{form_of}
+use Rattle.sb_forms.specs.Places.{HasForm, NotInJumps}
 use Rattle.sb_rewrite.specs.declared.edit.Edit.{Edit}
 use Rattle.sb_rewrite.specs.declared.edit.Move.{Move}
 use Rattle.sb_rewrite.specs.declared.front.Front.{Front}
-use Rattle.sb_rewrite.specs.Listing.{text_address, IsListing}
-use Rattle.sb_rewrite.specs.Placing.{Place, is_after_0f, place, places_from, places, area_address}
-use Rattle.sb_rewrite.specs.Output.{Output, output, starts_of, text_bytes, area_bytes, edits_of, moves_of}
-use Rattle.sb_rewrite.specs.Rewriting.{IsUnmovable, EndsBehindArea, NoneOf, ArePlaces}
-use Rattle.sb_rewrite.specs.Turns.{IsFront, JumpsLeadWell, IsFirstOf, started, next_place, with_place}
+use Rattle.sb_rewrite.specs.declared.target.Jump.{Jump}
+use Rattle.sb_rewrite.specs.Listing.{text_address, spelled, starts_from}
+use Rattle.sb_rewrite.specs.Target.{direct_target}
+use Rattle.sb_rewrite.specs.Placing.{Place, place, places_from, places, area_address}
+use Rattle.sb_rewrite.specs.Output.{Output, starts_of, text_bytes, area_bytes, edits_of, moves_of}
+use Rattle.sb_rewrite.specs.Rewriting.{HasBadTarget, IsUnmovable, EndsBehindArea, NoneOf, IsFirstAt, ArePlaces}
+use Rattle.sb_rewrite.specs.Turns.{IsFront, IsFar, jumps_to, started, with_start, with_place, Puts, IsAllPut}
+use Rattle.sb_rewrite.proofs.OneListing.{rising_starts}
+use Rattle.sb_rewrite.proofs.Listed.{Partway, place_of, more_of, all_spelled, all_listed}
 use Rattle.sb_rewrite.proofs.Placed.{starts_placed, slots_size, here, here_last}
-use Rattle.sb_rewrite.proofs.OneRewriting.{one_places}
-use Rattle.sb_rewrite.proofs.Reading.{Reads, placed, Turn, turn, all_read}
-use Rattle.sb_rewrite.proofs.Checked.{JumpsKnown, jumps_known, first_here, none_read}
+use Rattle.sb_rewrite.proofs.Reading.{read_so_far, turn}
+use Rattle.sb_rewrite.proofs.Jumps.{near_free}
+use Rattle.sb_rewrite.proofs.Checked.{first_here, not_here, none_read}
+use Rattle.sb_rewrite.proofs.Remembered.{jumps_of, HasFarTarget, all_lead}
 
 -- the draft has what stands in place of these instructions
 pub record IsMade (draft : Output) (of_text : List Place) : Type 0 where
@@ -25,96 +32,124 @@ pub record IsMade (draft : Output) (of_text : List Place) : Type 0 where
   pub edits : draft.edits ≡ flat_map edits_of of_text
   pub moves : draft.moves ≡ flat_map moves_of of_text
 
-pub record PutSoFar (text rest : List ℕ) (draft : Output) : Type 0 where
-  pub done : List Insn
-  pub more : List Insn
-  pub reads : Reads text rest done more
-  pub known : JumpsKnown text (done ++ more)
-  pub starts_are : draft.starts ≡ starts_of (places text (done ++ more))
-  pub made : IsMade draft (places text done)
-  pub movable : NoneOf IsUnmovable (places text done)
-  pub fits : NoneOf EndsBehindArea (places text done)
+-- it is made of the instructions that spell the text up to its rest, and these are their jumps
+pub record PutSoFar (text rest : List ℕ) (draft : Output) (jumps : List Jump) : Type 0 where
+  pub partway : Partway text rest draft.starts
+  pub made : IsMade draft (places text partway.insns)
+  pub jumps_are : jumps ≡ flat_map jumps_of (places text partway.insns)
+  pub near : NoneOf HasFarTarget (places text partway.insns)
+  pub movable : NoneOf IsUnmovable (places text partway.insns)
+  pub fits : NoneOf EndsBehindArea (places text partway.insns)
 
-pub nothing_put : (text starts : List ℕ) → length text ≤ 2097152 → IsListing text starts → JumpsLeadWell text → PutSoFar text text (started starts)
-unfolding places_from
-nothing_put text starts size (insns, valid, whole, starts_are) well =
-    let known = jumps_known text size well in
-    let same : places text insns ≡ places text known.0 =
-    one_places text (places text insns) (places text known.0) (record { insns = insns; valid = valid; whole = whole; places_are = refl }) (placed text text [] known.0 known.1) in
-    record {
-      done = [];
-      more = known.0;
-      reads = known.1;
-      known = known.2;
-      starts_are = starts_are ∙ sym (starts_placed text text_address area_address insns) ∙ ap (λ (of_text : List Place). starts_of of_text) same;
-      made = record { text = refl; area = refl; edits = refl; moves = refl };
-      movable = tt;
-      fits = tt;
-    }
+pub nothing_put : (text : List ℕ) (jumps : List Jump) → jumps ≡ [] → PutSoFar text text started jumps
+unfolding places_from starts_from
+nothing_put text jumps none = record {
+  partway = record { insns = []; valid = tt; whole = refl; starts_are = refl };
+  made = record { text = refl; area = refl; edits = refl; moves = refl };
+  jumps_are = none;
+  near = tt;
+  movable = tt;
+  fits = tt;
+}
+
+-- ---- one more instruction
+
+-- an instruction that does not lead far away has a form
+pub form_asks_here : NotInJumps → (text rest : List ℕ) (front : Front) → length text ≤ 2097152 → IsFront text rest front → 0 < length rest
+    → ¬ IsFar (direct_target front.insn front.at) → HasForm front.insn
+form_asks_here law text rest front size is some near =
+    let low : 0x400000 ≤ front.at = omega (arith, is.here) in
+    let high : front.at < 0x600000 = omega (arith, is.here) in
+    near_free law front.insn front.at is.valid low high near
+
+module _ (text rest starts : List ℕ) (partway : Partway text rest starts) (front : Front) (is : IsFront text rest front) where
+  pub stands_here : front.at ≡ text_address + length (spelled partway.insns)
+  stands_here = is.here ∙ ap (λ (size : ℕ). text_address + size) (place_of text rest partway.insns partway.whole)
+
+  -- what holds of it, and of none before it, holds of it first
+  pub first_so_far : (Holds : Place → Type 0) → NoneOf Holds (places text partway.insns) → Holds (here text partway.insns front.insn)
+      → (of_text : List Place) → ArePlaces text of_text → IsFirstAt Holds of_text front.at
+  first_so_far Holds none holds of_text are =
+      let read = read_so_far text rest partway.insns of_text partway.valid partway.whole are in
+      let turned = turn text rest partway.insns read.0 front read.1 is in
+      subst (λ (list : List Place). IsFirstAt Holds list front.at) (sym read.2) (first_here Holds text rest partway.insns read.0 front turned none holds)
+
+  -- what holds of none of the text's does not hold of it
+  pub not_so_far : (Holds : Place → Type 0) (of_text : List Place) → ArePlaces text of_text → NoneOf Holds of_text → ¬ Holds (here text partway.insns front.insn)
+  not_so_far Holds of_text are none =
+      let read = read_so_far text rest partway.insns of_text partway.valid partway.whole are in
+      let turned = turn text rest partway.insns read.0 front read.1 is in
+      not_here Holds text rest partway.insns read.0 front turned (subst (λ (list : List Place). NoneOf Holds list) read.2 none)
 
 -- what is put is the instruction's place
-next_is : (text rest : List ℕ) (draft : Output) (front : Front) (form : Form) (so_far : PutSoFar text rest draft) → Turn text rest so_far.done so_far.more front
-    → form ≡ form_of front.insn front.at (area_address + length draft.area) (is_after_0f text front.at) → next_place draft front.insn front.at form ≡ here text so_far.done front.insn
-next_is text rest draft front form so_far turned is =
-    let slot : area_address + length draft.area ≡ area_address + slots_size (places text so_far.done) = ap (λ (area : List ℕ). area_address + length area) so_far.made.area in
-    ap (λ (one : Form). next_place draft front.insn front.at one) is
-    ∙ (λ i. place text (turned.here i) (slot i) front.insn)
+pub next_is : (text rest : List ℕ) (draft : Output) (jumps : List Jump) (front : Front) (so_far : PutSoFar text rest draft jumps) → IsFront text rest front
+    → place text front.at (area_address + length draft.area) front.insn ≡ here text so_far.partway.insns front.insn
+next_is text rest draft jumps front so_far is i =
+    let at : front.at ≡ text_address + length (spelled so_far.partway.insns) = stands_here text rest draft.starts so_far.partway front is in
+    let slot : area_address + length draft.area ≡ area_address + slots_size (places text so_far.partway.insns) = ap (λ (area : List ℕ). area_address + length area) so_far.made.area in
+    place text (at i) (slot i) front.insn
 
 -- one more place is put
-made_more : (draft : Output) (of_text : List Place) (one : Place) → IsMade draft of_text → IsMade (with_place draft one) (of_text ++ one ∷ [])
-made_more draft of_text one made = record {
+made_more : (draft : Output) (at : ℕ) (of_text : List Place) (one : Place) → IsMade draft of_text → IsMade (with_place (with_start draft at) one) (of_text ++ one ∷ [])
+made_more draft at of_text one made = record {
   text = ap (λ (bytes : List ℕ). bytes ++ text_bytes one) made.text ∙ flat_map_more text_bytes [] of_text one;
   area = ap (λ (bytes : List ℕ). bytes ++ area_bytes one) made.area ∙ flat_map_more area_bytes [] of_text one;
   edits = ap (λ (edits : List Edit). edits ++ edits_of one) made.edits ∙ flat_map_more edits_of [] of_text one;
   moves = ap (λ (moves : List Move). moves ++ moves_of one) made.moves ∙ flat_map_more moves_of [] of_text one;
 }
 
-pub one_put : (text rest : List ℕ) (draft new : Output) (front : Front) (form : Form) → PutSoFar text rest draft → IsFront text rest front
-    → form ≡ form_of front.insn front.at (area_address + length draft.area) (is_after_0f text front.at)
-    → ¬ IsUnmovable (next_place draft front.insn front.at form) → ¬ EndsBehindArea (next_place draft front.insn front.at form)
-    → new ≡ with_place draft (next_place draft front.insn front.at form) → PutSoFar text front.rest.now new
-one_put text rest draft new front form so_far is form_is movable fits new_is =
-    let turned = turn text rest so_far.done so_far.more front so_far.reads is in
-    let next : next_place draft front.insn front.at form ≡ here text so_far.done front.insn = next_is text rest draft front form so_far turned form_is in
-    let new_here : new ≡ with_place draft (here text so_far.done front.insn) = new_is ∙ ap (λ (one : Place). with_place draft one) next in
-    let made : IsMade (with_place draft (here text so_far.done front.insn)) (places text (so_far.done ++ front.insn ∷ [])) =
-    subst (λ (of_text : List Place). IsMade (with_place draft (here text so_far.done front.insn)) of_text) (sym (here_last text so_far.done front.insn)) (made_more draft (places text so_far.done) (here text so_far.done front.insn) so_far.made) in
+pub one_put : (text rest : List ℕ) (draft new : Output) (jumps more_jumps : List Jump) (front : Front) → PutSoFar text rest draft jumps → IsFront text rest front
+    → ¬ IsFar (direct_target front.insn front.at) → more_jumps ≡ jumps ++ jumps_to front.at (direct_target front.insn front.at)
+    → Puts (with_start draft front.at) new (place text front.at (area_address + length draft.area) front.insn) (Ok tt) → PutSoFar text front.rest.now new more_jumps
+unfolding more_of
+one_put text rest draft new jumps more_jumps front so_far is near more_are (movable, fits, new_is) =
+    let done : List Insn = so_far.partway.insns in
+    let one : Place = here text done front.insn in
+    let at : front.at ≡ one.at = stands_here text rest draft.starts so_far.partway front is in
+    let next : place text front.at (area_address + length draft.area) front.insn ≡ one = next_is text rest draft jumps front so_far is in
+    let last : places text (done ++ front.insn ∷ []) ≡ places text done ++ one ∷ [] = here_last text done front.insn in
+    let new_here : new ≡ with_place (with_start draft front.at) one = new_is ∙ ap (λ (put : Place). with_place (with_start draft front.at) put) next in
+    let new_starts : draft.starts ++ (text_address + (length text - length rest)) ∷ [] ≡ new.starts =
+    ap (λ (start : ℕ). draft.starts ++ start ∷ []) (sym is.here) ∙ ap (λ (made : Output). made.starts) (sym new_here) in
+    let partway : Partway text front.rest.now (draft.starts ++ (text_address + (length text - length rest)) ∷ []) =
+    more_of text rest front.rest.now draft.starts front.insn so_far.partway (is.valid, tt) is.parts in
     record {
-      done = so_far.done ++ front.insn ∷ [];
-      more = turned.others;
-      reads = turned.reads;
-      known = subst (λ (list : List Insn). JumpsKnown text list) (sym turned.all) so_far.known;
-      starts_are =
-          ap (λ (one : Output). one.starts) new_here
-          ∙ so_far.starts_are
-          ∙ ap (λ (list : List Insn). starts_of (places text list)) (sym turned.all);
-      made = subst (λ (one : Output). IsMade one (places text (so_far.done ++ front.insn ∷ []))) (sym new_here) made;
-      movable = none_read IsUnmovable text so_far.done front.insn so_far.movable (subst (λ (one : Place). ¬ IsUnmovable one) next movable);
-      fits = none_read EndsBehindArea text so_far.done front.insn so_far.fits (subst (λ (one : Place). ¬ EndsBehindArea one) next fits);
+      partway = record { insns = done ++ front.insn ∷ []; valid = partway.valid; whole = partway.whole; starts_are = sym new_starts ∙ partway.starts_are };
+      made =
+          subst (λ (made : Output). IsMade made (places text (done ++ front.insn ∷ []))) (sym new_here)
+          (subst (λ (of_text : List Place). IsMade (with_place (with_start draft front.at) one) of_text) (sym last) (made_more draft front.at (places text done) one so_far.made));
+      jumps_are =
+          more_are
+          ∙ (λ i. so_far.jumps_are i ++ jumps_to (at i) (direct_target front.insn (at i)))
+          ∙ flat_map_more jumps_of [] (places text done) one
+          ∙ ap (λ (of_text : List Place). flat_map jumps_of of_text) (sym last);
+      near = none_read HasFarTarget text done front.insn so_far.near (subst (λ (place : ℕ). ¬ IsFar (direct_target front.insn place)) at near);
+      movable = none_read IsUnmovable text done front.insn so_far.movable (subst (λ (put : Place). ¬ IsUnmovable put) next movable);
+      fits = none_read EndsBehindArea text done front.insn so_far.fits (subst (λ (put : Place). ¬ EndsBehindArea put) next fits);
     }
 
--- what is the first of its kind
-pub first_put : (Holds : Place → Type 0) (text rest : List ℕ) (draft : Output) (front : Front) (form : Form) (so_far : PutSoFar text rest draft) → NoneOf Holds (places text so_far.done)
-    → IsFront text rest front → form ≡ form_of front.insn front.at (area_address + length draft.area) (is_after_0f text front.at) → Holds (next_place draft front.insn front.at form)
-    → IsFirstOf (λ of_text. Holds) text front.at
-first_put Holds text rest draft front form so_far none is form_is holds =
-    let turned = turn text rest so_far.done so_far.more front so_far.reads is in
-    let next : next_place draft front.insn front.at form ≡ here text so_far.done front.insn = next_is text rest draft front form so_far turned form_is in (
-      places text (so_far.done ++ so_far.more),
-      placed text rest so_far.done so_far.more so_far.reads,
-      first_here Holds text rest so_far.done so_far.more front turned none (subst (λ (one : Place). Holds one) next holds),
-    )
+-- ---- all instructions
 
-is_output : (draft : Output) (of_text : List Place) → IsMade draft of_text → draft.starts ≡ starts_of of_text → draft ≡ output of_text
-is_output draft of_text made starts i = record { text = made.text i; area = made.area i; starts = starts i; edits = made.edits i; moves = made.moves i }
+module _ (text rest : List ℕ) (draft : Output) (jumps : List Jump) (so_far : PutSoFar text rest draft jumps) (none : length rest ≡ 0) where
+  -- the starts come in order
+  pub rising_so_far : IsStrictlyIncreasing draft.starts
+  rising_so_far = rising_starts text draft.starts (all_listed text rest draft.starts so_far.partway none)
 
-pub all_put : (text rest : List ℕ) (draft : Output) → PutSoFar text rest draft → length rest ≡ 0
-    → (of_text : List Place) × ArePlaces text of_text × NoneOf IsUnmovable of_text × NoneOf EndsBehindArea of_text × (draft ≡ output of_text)
-all_put text rest draft so_far none =
-    let all : so_far.done ≡ so_far.done ++ so_far.more = sym (append-nil so_far.done) ∙ ap (λ (list : List Insn). so_far.done ++ list) (sym (all_read text rest so_far.done so_far.more so_far.reads none)) in (
-      places text (so_far.done ++ so_far.more),
-      placed text rest so_far.done so_far.more so_far.reads,
-      subst (λ (list : List Insn). NoneOf IsUnmovable (places text list)) all so_far.movable,
-      subst (λ (list : List Insn). NoneOf EndsBehindArea (places text list)) all so_far.fits,
-      is_output draft (places text (so_far.done ++ so_far.more)) (subst (λ (list : List Insn). IsMade draft (places text list)) all so_far.made) so_far.starts_are,
-    )
+  pub all_placed : ArePlaces text (places text so_far.partway.insns)
+  all_placed =
+      record { insns = so_far.partway.insns; valid = so_far.partway.valid; whole = all_spelled text rest draft.starts so_far.partway none; places_are = refl }
+
+  pub starts_are_placed : draft.starts ≡ starts_of (places text so_far.partway.insns)
+  starts_are_placed = so_far.partway.starts_are ∙ sym (starts_placed text text_address area_address so_far.partway.insns)
+
+  pub all_put : All (λ jump. Contains draft.starts jump.target) jumps → IsAllPut text draft
+  all_put checked =
+      let of_text : List Place = places text so_far.partway.insns in
+      let lead : NoneOf (HasBadTarget draft.starts) of_text =
+      all_lead draft.starts of_text so_far.near (λ jump held. All-contains (λ (one : Jump). Contains draft.starts one.target) jumps jump checked
+      (subst (λ (list : List Jump). Contains list jump) (sym so_far.jumps_are) held)) in (
+        of_text,
+        all_placed,
+        ((subst (λ (list : List ℕ). NoneOf (HasBadTarget list) of_text) starts_are_placed lead, so_far.movable), so_far.fits),
+        (λ i. record { text = so_far.made.text i; area = so_far.made.area i; starts = starts_are_placed i; edits = so_far.made.edits i; moves = so_far.made.moves i }),
+      )

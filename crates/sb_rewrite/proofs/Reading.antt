@@ -8,7 +8,7 @@ use Rattle.sb_insn.specs.Grammar.{IsValid, BeginsWith}
 use Rattle.sb_decode.proofs.Exact.{one_begins}
 use Rattle.sb_rewrite.specs.declared.front.Front.{Front}
 use Rattle.sb_rewrite.specs.Listing.{text_address, spelled, AllValid}
-use Rattle.sb_rewrite.specs.Placing.{places}
+use Rattle.sb_rewrite.specs.Placing.{Place, places}
 use Rattle.sb_rewrite.specs.Rewriting.{ArePlaces}
 use Rattle.sb_rewrite.specs.Turns.{IsFront}
 use Rattle.sb_rewrite.proofs.OneListing.{some_spelling}
@@ -80,3 +80,33 @@ pub all_read : (text rest : List ℕ) (done more : List Insn) → Reads text res
 all_read text rest done [] reads none = refl
 all_read text rest done (insn ∷ others) reads none =
     absurd (omega (arith, some_spelling insn, ap length reads.rest_is ∙ length-append (spelling insn) (spelled others)))
+
+-- ---- a front of a text
+
+-- the instructions of a text begin with those that spell a front of it
+goes_on : (done insns : List Insn) (rest : List ℕ) → AllValid done → AllValid insns → spelled insns ≡ spelled done ++ rest → (more : List Insn) × (insns ≡ done ++ more)
+goes_on [] insns rest valid valid' same = (insns, refl)
+goes_on (first ∷ done) [] rest valid valid' same =
+    absurd (omega (arith, some_spelling first, ap length same, length-append (spelling first ++ spelled done) rest, length-append (spelling first) (spelled done)))
+goes_on (first ∷ done) (insn ∷ insns) rest valid valid' same =
+    let parts : spelled (insn ∷ insns) ≡ spelling first ++ (spelled done ++ rest) = same ∙ append_assoc (spelling first) (spelled done) rest in
+    let is : insn ≡ first = one_begins (spelled (insn ∷ insns)) insn first (valid'.0, (spelled insns, refl)) (valid.0, (spelled done ++ rest, parts)) in
+    let behind : spelled insns ≡ spelled done ++ rest =
+    append_cancel_left (spelling first) (spelled insns) (spelled done ++ rest) (ap (λ (one : Insn). spelling one ++ spelled insns) (sym is) ∙ parts) in
+    let later = goes_on done insns rest valid.1 valid'.1 behind in
+    (later.0, λ i. is i ∷ later.1 i)
+
+-- so a text that is listed is read so far
+pub read_so_far : (text rest : List ℕ) (done : List Insn) (of_text : List Place) → AllValid done → text ≡ spelled done ++ rest → ArePlaces text of_text
+    → (more : List Insn) × Reads text rest done more × (of_text ≡ places text (done ++ more))
+read_so_far text rest done of_text valid front are =
+    let found = goes_on done are.insns rest valid are.valid (sym are.whole ∙ front) in
+    let whole : text ≡ spelled (done ++ found.0) = are.whole ∙ ap (λ (list : List Insn). spelled list) found.1 in (
+      found.0,
+      record {
+        valid = subst (λ (list : List Insn). AllValid list) found.1 are.valid;
+        whole = whole;
+        rest_is = append_cancel_left (spelled done) rest (spelled found.0) (sym front ∙ whole ∙ flat_map-append spelling done found.0);
+      },
+      are.places_are ∙ ap (λ (list : List Insn). places text list) found.1,
+    )

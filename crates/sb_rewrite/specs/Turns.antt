@@ -1,17 +1,20 @@
 -- What one turn of a rewriter's loop does: an instruction is decoded, and what stands in its place is put.
-use Rattle.std.specs.Prelude.{◌≡◌, ℕ, ◌+◌, ◌-◌, ◌≤◌, List, [], ◌++◌, length, Option, Some, None, Result, Ok, Err}
+use Rattle.std.specs.Prelude.{◌≡◌, ℕ, ◌+◌, ◌-◌, ◌≤◌, Bool, if◌then◌else◌, List, [], ◌∷◌, ◌++◌, length, All, Contains, Option, Some, None, Result, Ok, Err}
 use Rattle.sb_insn.specs.declared.insn.Insn.{Insn}
 use Rattle.sb_insn.specs.Spelling.{spelling}
 use Rattle.sb_insn.specs.Grammar.{IsValid, BeginsWith}
 use Rattle.sb_rewrite.specs.declared.front.Front.{Front}
 use Rattle.sb_rewrite.specs.declared.refusal.RewriteRefusal.{RewriteRefusal}
 use Rattle.sb_rewrite.specs.declared.refusal.RewriteRefusal.TheVariants.{Undecoded, BadTarget, Unmovable, AreaFull, Left, Memory}
-use Rattle.sb_rewrite.specs.Listing.{text_address}
+use Rattle.sb_rewrite.specs.declared.target.Jump.{Jump}
+use Rattle.sb_rewrite.specs.Listing.{text_address, IsUndecodedAt}
+use Rattle.sb_rewrite.specs.Target.{direct_target, is_from_to}
+use Rattle.sb_forms.specs.Places.{IsPermitted}
 use Rattle.sb_forms.specs.declared.answer.Form.{Form}
 use Rattle.sb_forms.specs.declared.answer.Form.TheVariants as form
 use Rattle.sb_rewrite.specs.Placing.{Place, area_address}
 use Rattle.sb_rewrite.specs.Output.{Output, output, starts_of, text_bytes, area_bytes, edits_of, moves_of}
-use Rattle.sb_rewrite.specs.Rewriting.{HasBadTarget, IsUnmovable, EndsBehindArea, NoneOf, IsFirstAt, ArePlaces, LeadsWell, IsMovable, FitsArea, IsFree, IsLeftAt}
+use Rattle.sb_rewrite.specs.Rewriting.{HasBadTarget, IsUnmovable, EndsBehindArea, NoneOf, IsFirstAt, ArePlaces, LeadsWell, FitsArea, IsFree, IsLeftAt}
 
 -- ---- an instruction
 
@@ -34,6 +37,9 @@ pub record IsFrontOfText (front : Front) : Type 0 where
 
 -- ---- what stands in its place
 
+abbrev pub keep : Form
+keep = form.Keep
+
 abbrev pub in_place : List ℕ → Form
 in_place bytes = form.InPlace bytes
 
@@ -41,14 +47,18 @@ abbrev pub moved : List ℕ → List ℕ → List ℕ → Form
 moved pre main post = form.Moved pre main post
 
 -- nothing is put yet
-abbrev pub started : List ℕ → Output
-started starts = record { text = []; area = []; starts = starts; edits = []; moves = [] }
+abbrev pub started : Output
+started = record { text = []; area = []; starts = []; edits = []; moves = [] }
 
 -- an instruction with this in its place, and the slot that comes next
 abbrev pub next_place : Output → Insn → ℕ → Form → Place
 next_place old insn at form = record { insn = insn; at = at; slot = area_address + length old.area; form = form }
 
--- what stands in place of one more instruction is put
+-- one more instruction starts
+abbrev pub with_start : Output → ℕ → Output
+with_start old at = record { text = old.text; area = old.area; starts = old.starts ++ at ∷ []; edits = old.edits; moves = old.moves }
+
+-- what stands in its place is put
 abbrev pub with_place : Output → Place → Output
 with_place old place = record {
   text = old.text ++ text_bytes place;
@@ -67,6 +77,36 @@ Puts old new place (Err (AreaFull at)) = (at ≡ place.at) × ¬ IsUnmovable pla
 Puts old new place (Err (Left at)) = ⊥
 Puts old new place (Err Memory) = Unit {0}
 
+-- ---- where a direct jump or call leads before all starts are known
+
+-- an address that a text can have
+abbrev pub is_in_text : ℕ → Bool
+is_in_text address = is_from_to 0x400000 0x5FFFFF address
+
+-- there is a target, and it is neither such an address nor in the trampoline
+abbrev pub IsFar : Option ℕ → Type 0
+IsFar None = ⊥
+IsFar (Some target) = ¬ IsPermitted target
+
+-- the jump at this address, if it leads to such an address
+abbrev pub jumps_to : ℕ → Option ℕ → List Jump
+jumps_to at None = []
+jumps_to at (Some target) = if is_in_text target then record { at = at; target = target } ∷ [] else []
+
+-- a jump that leads into the text is remembered, and one that leads far away is refused
+abbrev pub Remembers : List Jump → List Jump → Front → Result (Unit {0}) RewriteRefusal → Type 0
+Remembers old new front (Ok done) =
+    ¬ IsFar (direct_target front.insn front.at) × (new ≡ old ++ jumps_to front.at (direct_target front.insn front.at))
+Remembers old new front (Err (BadTarget at)) = IsFar (direct_target front.insn front.at)
+Remembers old new front (Err Memory) = Unit {0}
+Remembers old new front (Err _) = ⊥
+
+-- all remembered jumps lead to starts, or one does not
+abbrev pub ChecksJumps : List Jump → List ℕ → Result (Unit {0}) RewriteRefusal → Type 0
+ChecksJumps jumps starts (Ok done) = All (λ jump. Contains starts jump.target) jumps
+ChecksJumps jumps starts (Err (BadTarget at)) = (jump : Jump) × Contains jumps jump × ¬ Contains starts jump.target
+ChecksJumps jumps starts (Err _) = ⊥
+
 -- ---- a whole text
 
 -- each direct jump and call of the text leads where it may
@@ -82,37 +122,31 @@ ChecksTargets text (Ok done) = JumpsLeadWell text
 ChecksTargets text (Err (BadTarget at)) = IsFirstOf (λ of_text. HasBadTarget (starts_of of_text)) text at
 ChecksTargets text (Err _) = ⊥
 
+-- something can stand in place of each instruction of the text
+abbrev pub AllMovable : List ℕ → Type 0
+AllMovable text = (of_text : List Place) × ArePlaces text of_text × NoneOf IsUnmovable of_text
+
 abbrev pub ChecksMovable : List ℕ → Result (Unit {0}) RewriteRefusal → Type 0
-ChecksMovable text (Ok done) = (of_text : List Place) × ArePlaces text of_text × NoneOf IsUnmovable of_text
+ChecksMovable text (Ok done) = AllMovable text
 ChecksMovable text (Err (Unmovable at)) = IsFirstOf (λ of_text. IsUnmovable) text at
 ChecksMovable text (Err _) = ⊥
 
--- Why what stands in place of an instruction cannot be put, behind others that can.
+-- What stands in place of the instructions, where it all can be put.
+abbrev pub IsAllPut : List ℕ → Output → Type 0
+IsAllPut text draft = (of_text : List Place) × ArePlaces text of_text × FitsArea of_text × (draft ≡ output of_text)
+
+-- Why it cannot. Another cause may come first: what stands behind the address was not looked at.
 abbrev pub IsPutRefusal : List ℕ → RewriteRefusal → Type 0
-IsPutRefusal text (Undecoded at) = ⊥
-IsPutRefusal text (BadTarget at) = ⊥
-IsPutRefusal text (Unmovable at) = IsFirstOf (λ of_text. IsUnmovable) text at
-IsPutRefusal text (AreaFull at) = IsFirstOf (λ of_text. EndsBehindArea) text at
+IsPutRefusal text (Undecoded at) = IsUndecodedAt text at
+IsPutRefusal text (BadTarget at) = ¬ JumpsLeadWell text
+IsPutRefusal text (Unmovable at) = ¬ AllMovable text
+IsPutRefusal text (AreaFull at) = (of_text : List Place) → ArePlaces text of_text → IsFirstAt EndsBehindArea of_text at
 IsPutRefusal text (Left at) = ⊥
 IsPutRefusal text Memory = Unit {0}
 
 abbrev pub PutsAll : List ℕ → Result Output RewriteRefusal → Type 0
-PutsAll text (Ok made) =
-    (of_text : List Place) × ArePlaces text of_text × NoneOf IsUnmovable of_text × NoneOf EndsBehindArea of_text × (made ≡ output of_text)
+PutsAll text (Ok draft) = IsAllPut text draft
 PutsAll text (Err refusal) = IsPutRefusal text refusal
-
--- Why nothing can stand in place of the instructions of a text whose jumps lead well.
-abbrev pub IsFirstRefusal : List ℕ → RewriteRefusal → Type 0
-IsFirstRefusal text (Undecoded at) = ⊥
-IsFirstRefusal text (BadTarget at) = ⊥
-IsFirstRefusal text (Unmovable at) = (of_text : List Place) × ArePlaces text of_text × LeadsWell of_text × IsFirstAt IsUnmovable of_text at
-IsFirstRefusal text (AreaFull at) = (of_text : List Place) × ArePlaces text of_text × IsMovable of_text × IsFirstAt EndsBehindArea of_text at
-IsFirstRefusal text (Left at) = ⊥
-IsFirstRefusal text Memory = Unit {0}
-
-abbrev pub Replaces : List ℕ → Result Output RewriteRefusal → Type 0
-Replaces text (Ok made) = (of_text : List Place) × ArePlaces text of_text × FitsArea of_text × (made ≡ output of_text)
-Replaces text (Err refusal) = IsFirstRefusal text refusal
 
 -- ---- what was made
 

@@ -6,7 +6,7 @@ ghost use Rattle.sb_forms.specs.Pieces.{jump};
 ghost use Rattle.sb_forms.specs.Answers.{HasRoom, FitsSlot};
 ghost use Rattle.sb_rewrite.specs.Placing.{area_address, area_end};
 ghost use Rattle.sb_rewrite.specs.Output.{IsOrdered};
-ghost use Rattle.sb_rewrite.specs.Turns.{IsFrontOfText, started, moved, in_place, next_place, with_place, Puts, IsFirstLeft};
+ghost use Rattle.sb_rewrite.specs.Turns.{IsFrontOfText, started, keep, moved, in_place, next_place, with_start, Puts, IsFirstLeft};
 
 use crate::edit::{Edit, Move};
 use crate::front::Front;
@@ -29,8 +29,8 @@ pub const AREA_SIZE: usize = 0x1_0000;
 pub struct Draft {
     text: Vec<u8>,
     area: Vec<u8>,
-    /// The starts of all instructions of the text.
-    starts: Starts,
+    /// The starts of the instructions so far.
+    starts: Vec<u64>,
     edits: Vec<Edit>,
     moves: Vec<Move>,
 }
@@ -41,7 +41,7 @@ impl Model for Draft {
 
     ghost Value = { Output };
 
-    ghost view = { λ draft. record { text = draft.text.items; area = draft.area.items; starts = draft.starts; edits = draft.edits.items; moves = draft.moves.items } };
+    ghost view = { λ draft. record { text = draft.text.items; area = draft.area.items; starts = draft.starts.items; edits = draft.edits.items; moves = draft.moves.items } };
 
     ghost invariant = { λ draft. length draft.area.items ≤ 0x10000 };
 }
@@ -72,16 +72,31 @@ fn put_nops(text: &mut Vec<u8>, count: usize) -> Result<(), AllocError>
 
 impl Draft {
     /// Nothing is made yet.
-    pub fn new(alloc: Global, starts: Starts) -> Draft
-        ensures { result ≡ started starts }
+    pub fn new(alloc: Global) -> Draft
+        ensures { result ≡ started }
     {
         Draft {
             text: Vec::new(alloc),
             area: Vec::new(alloc),
-            starts,
+            starts: Vec::new(alloc),
             edits: Vec::new(alloc),
             moves: Vec::new(alloc),
         }
+    }
+
+    /// One more instruction starts at this address.
+    pub fn start(&mut self, at: u64) -> Result<(), AllocError>
+        ensures { IfOk result (λ done. self.new ≡ with_start self.old at) }
+    {
+        self.starts.push(at)?;
+        Ok(())
+    }
+
+    /// The starts of the instructions so far, in order.
+    pub fn starts(&self) -> &[u64]
+        ensures { result.now ≡ self.now.starts }
+    {
+        &self.starts
     }
 
     /// The address at which the next slot begins.
@@ -141,6 +156,15 @@ impl Draft {
         Ok(())
     }
 
+    /// Puts an instruction itself.
+    pub fn keep(&mut self, front: &Front) -> Result<(), RewriteRefusal>
+        requires { IsFrontOfText front.now }
+        ensures { Puts self.old self.new (next_place self.old front.now.insn front.now.at keep) result }
+    {
+        self.text.extend_from_slice(front.bytes)?;
+        Ok(())
+    }
+
     /// Puts what stands in place of an instruction.
     ///
     /// # Errors
@@ -152,7 +176,7 @@ impl Draft {
         ensures { Puts self.old self.new (next_place self.old front.now.insn front.now.at form.now) result }
     {
         match form {
-            Form::Keep => self.text.extend_from_slice(front.bytes)?,
+            Form::Keep => self.keep(front)?,
             Form::InPlace(code) => self.put_in_place(front, code)?,
             Form::Moved { pre, main, post } => self.put_slot(front, pre, main, post)?,
             Form::Unmovable => return Err(RewriteRefusal::Unmovable { at: front.at }),
@@ -175,6 +199,12 @@ impl Draft {
         requires { IsOrdered self }
         ensures { result ≡ self }
     {
-        Rewritten::new(self.text, self.area, self.starts, self.edits, self.moves)
+        Rewritten::new(
+            self.text,
+            self.area,
+            Starts::new(self.starts),
+            self.edits,
+            self.moves,
+        )
     }
 }

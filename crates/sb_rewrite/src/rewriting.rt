@@ -1,18 +1,19 @@
 //! The rewriting of a text.
 
-ghost use Rattle.std.specs.Prelude.{◌≡◌, ◌+◌, ◌≤◌, IfOk, length};
+ghost use Rattle.std.specs.Prelude.{◌≡◌, ◌+◌, ◌<◌, ◌≤◌, IfOk, Err, length};
 ghost use Rattle.sb_forms.specs.Answers.{IsClean};
+ghost use Rattle.sb_forms.specs.Places.{HasForm};
 ghost use Rattle.sb_rewrite.specs.Listing.{text_address, IsListing};
-ghost use Rattle.sb_rewrite.specs.Placing.{is_after_0f as is_after_0f_at};
-ghost use Rattle.sb_rewrite.specs.Turns.{JumpsLeadWell, ChecksTargets, ChecksMovable, IsPutRefusal, PutsAll, IsFirstRefusal, Replaces};
+ghost use Rattle.sb_rewrite.specs.Placing.{place, area_address, is_after_0f as is_after_0f_at};
+ghost use Rattle.sb_rewrite.specs.Turns.{IsFrontOfText, JumpsLeadWell, ChecksTargets, ChecksMovable, with_start, Puts, IsPutRefusal, PutsAll};
 ghost use Rattle.sb_rewrite.specs.Rewriting.{Rewrites, OneRewriting, OneOriginal};
 
 use crate::draft::{AREA_ADDRESS, Draft};
-use crate::front::decode_front;
+use crate::front::{Front, decode_front};
 use crate::listing::{Listing, TEXT_ADDRESS, list};
 use crate::refusal::RewriteRefusal;
 use crate::rewritten::Rewritten;
-use crate::target::{direct_target, is_bad_target};
+use crate::target::{check_jumps, direct_target, is_bad_target, remember_jump};
 use sb_forms::{Form, form};
 use std::alloc::Global;
 
@@ -59,51 +60,81 @@ fn check_movable(text: &[u8]) -> Result<(), RewriteRefusal>
     Ok(())
 }
 
-/// Puts what stands in place of each instruction, one after another, as far as the area has room.
-fn put_all(alloc: Global, text: &[u8], listing: Listing) -> Result<Draft, RewriteRefusal>
+/// The byte with which the bytes of VMFUNC end.
+const LAST_BYTE: u8 = 0xD4;
+
+/// Puts what the table of forms gives in place of an instruction of a text.
+///
+/// It is not part of `put_front`, so that the space for a form is set up only for the few instructions that need one.
+fn put_form(draft: &mut Draft, text: &[u8], front: &Front) -> Result<(), RewriteRefusal>
     requires size { length text.now ≤ 2097152 }
-    requires listed { IsListing text.now listing }
-    requires jumps { JumpsLeadWell text.now }
+    requires front { IsFrontOfText front.now }
+    requires form { HasForm front.now.insn }
+    requires within { (text_address ≤ front.now.at) × (front.now.at < text_address + length text.now) }
+    ensures { Puts draft.old draft.new (place text.now front.now.at (area_address + length draft.old.area) front.now.insn) result }
+{
+    let after_0f = is_after_0f(text, front.at);
+    let form = form(&front.insn, front.at, draft.next_slot(), after_0f);
+    draft.put(front, &form)
+}
+
+/// Puts the start of an instruction of a text, and what stands in its place.
+fn put_front(draft: &mut Draft, text: &[u8], front: &Front) -> Result<(), RewriteRefusal>
+    requires size { length text.now ≤ 2097152 }
+    requires front { IsFrontOfText front.now }
+    requires form { HasForm front.now.insn }
+    requires within { (text_address ≤ front.now.at) × (front.now.at < text_address + length text.now) }
+    ensures { Puts (with_start draft.old front.now.at) draft.new (place text.now front.now.at (area_address + length draft.old.area) front.now.insn) result }
+{
+    draft.start(front.at)?;
+    // ADD ESP, EDX ends with this byte too, so an instruction without it is kept.
+    if front.bytes.contains(&LAST_BYTE) {
+        put_form(draft, text, front)
+    } else {
+        draft.keep(front)
+    }
+}
+
+/// Puts what stands in place of each instruction, one after another, until one is refused.
+///
+/// Jumps into the text are checked at last, when all starts are known.
+fn put_all(alloc: Global, text: &[u8]) -> Result<Draft, RewriteRefusal>
+    requires { length text.now ≤ 2097152 }
     ensures { PutsAll text.now result }
 {
-    let mut draft = Draft::new(alloc, listing.into_starts());
+    let mut draft = Draft::new(alloc);
+    let mut jumps = Vec::new(alloc);
     let mut rest = text;
     while !rest.is_empty() {
         let front = decode_front(text, rest)?;
-        let after_0f = is_after_0f(text, front.at);
-        let form = form(&front.insn, front.at, draft.next_slot(), after_0f);
-        draft.put(&front, &form)?;
+        remember_jump(&mut jumps, &front)?;
+        put_front(&mut draft, text, &front)?;
         rest = front.rest;
     }
+    check_jumps(&jumps, draft.starts())?;
     Ok(draft)
 }
 
-/// Why nothing can stand in place of the instructions, where putting it met this refusal.
+/// Why a text cannot be rewritten, where putting it met this refusal.
 ///
-/// An instruction that cannot be moved, wherever it stands, comes before a full area.
-fn first_refusal(text: &[u8], refusal: RewriteRefusal) -> RewriteRefusal
+/// A place at which nothing can be decoded, wherever it is, comes before a jump that leads elsewhere, that before an
+/// instruction that cannot be moved, and that before a full area.
+fn first_refusal(alloc: Global, text: &[u8], met: RewriteRefusal) -> RewriteRefusal
     requires size { length text.now ≤ 2097152 }
-    requires jumps { JumpsLeadWell text.now }
-    requires put { IsPutRefusal text.now refusal }
-    ensures { IsFirstRefusal text.now result }
+    requires met { IsPutRefusal text.now met }
+    ensures { Rewrites text.now (Err result) }
 {
-    match (refusal, check_movable(text)) {
-        (RewriteRefusal::AreaFull { .. }, Err(unmovable)) => unmovable,
-        _ => refusal,
+    let listing = match list(alloc, text) {
+        Ok(listing) => listing,
+        Err(refusal) => return RewriteRefusal::from(refusal),
+    };
+    if let Err(bad_target) = check_targets(text, &listing) {
+        return bad_target;
     }
-}
-
-/// Puts what stands in place of each instruction of a text whose jumps lead where they may.
-fn replace_all(alloc: Global, text: &[u8], listing: Listing) -> Result<Draft, RewriteRefusal>
-    requires size { length text.now ≤ 2097152 }
-    requires listed { IsListing text.now listing }
-    requires jumps { JumpsLeadWell text.now }
-    ensures { Replaces text.now result }
-{
-    match put_all(alloc, text, listing) {
-        Ok(draft) => Ok(draft),
-        Err(refusal) => Err(first_refusal(text, refusal)),
+    if let Err(unmovable) = check_movable(text) {
+        return unmovable;
     }
+    met
 }
 
 /// Rewrites a text, which stands at `TEXT_ADDRESS`, so that it does the same and the bytes of VMFUNC stand nowhere.
@@ -122,9 +153,10 @@ pub fn rewrite(alloc: Global, text: &[u8]) -> Result<Rewritten, RewriteRefusal>
     ensures text { IfOk result (λ made. IsClean made.text) }
     ensures area { IfOk result (λ made. IsClean made.area) }
 {
-    let listing = list(alloc, text)?;
-    check_targets(text, &listing)?;
-    let draft = replace_all(alloc, text, listing)?;
+    let draft = match put_all(alloc, text) {
+        Ok(draft) => draft,
+        Err(met) => return Err(first_refusal(alloc, text, met)),
+    };
     match draft.first_pattern() {
         Some(at) => Err(RewriteRefusal::Left { at }),
         None => Ok(draft.finish()),

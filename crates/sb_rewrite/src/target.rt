@@ -1,10 +1,23 @@
 //! Where a direct jump or call leads, and where it may.
 
 ghost use Rattle.std.specs.Prelude.{◌≡◌, ◌↔◌, IsTrue};
+ghost use Rattle.std.specs.List.Sorted.{IsStrictlyIncreasing};
 ghost use Rattle.sb_rewrite.specs.Target.{direct_target, distance, is_direct, InTrampoline, IsBadTarget};
+ghost use Rattle.sb_rewrite.specs.Turns.{is_in_text as is_in_text_at, Remembers, ChecksJumps};
 
-use crate::listing::Listing;
+use crate::front::Front;
+use crate::listing::{Listing, TEXT_ADDRESS};
+use crate::refusal::RewriteRefusal;
 use sb_insn::{Imm, Insn, Op};
+
+/// A direct jump or call that leads to an address that a text can have.
+#[derive(Clone, Copy, Debug)]
+pub(crate) struct Jump {
+    /// Its own address.
+    pub at: u64,
+    /// Where it leads.
+    pub target: u64,
+}
 
 /// Whether it is JMP, Jcc or CALL with a distance (SDM volume 2).
 fn is_direct(op: Op) -> bool
@@ -59,4 +72,49 @@ pub(crate) fn is_bad_target(listing: &Listing, target: Option<u64>) -> bool
         Some(target) => !is_in_trampoline(target) && !listing.is_start(target),
         None => false,
     }
+}
+
+/// The last address that a text can have.
+const LAST_TEXT_ADDRESS: u64 = 0x5F_FFFF;
+
+/// Whether it is an address that a text can have.
+fn is_in_text(address: u64) -> bool
+    ensures { result ≡ is_in_text_at address }
+{
+    TEXT_ADDRESS <= address && address <= LAST_TEXT_ADDRESS
+}
+
+/// Remembers a direct jump or call that leads into the text, until all starts are known.
+///
+/// # Errors
+///
+/// `BadTarget` where one leads neither there nor into the trampoline page.
+pub(crate) fn remember_jump(jumps: &mut Vec<Jump>, front: &Front) -> Result<(), RewriteRefusal>
+    ensures { Remembers jumps.old.items jumps.new.items front.now result }
+{
+    let Some(target) = direct_target(&front.insn, front.at) else {
+        return Ok(());
+    };
+    if is_in_text(target) {
+        jumps.push(Jump {
+            at: front.at,
+            target,
+        })?;
+    } else if !is_in_trampoline(target) {
+        return Err(RewriteRefusal::BadTarget { at: front.at });
+    }
+    Ok(())
+}
+
+/// Refuses a jump that leads to no start.
+pub(crate) fn check_jumps(jumps: &[Jump], starts: &[u64]) -> Result<(), RewriteRefusal>
+    requires { IsStrictlyIncreasing starts.now }
+    ensures { ChecksJumps jumps.now starts.now result }
+{
+    for jump in jumps {
+        if starts.binary_search(&jump.target).is_err() {
+            return Err(RewriteRefusal::BadTarget { at: jump.at });
+        }
+    }
+    Ok(())
 }

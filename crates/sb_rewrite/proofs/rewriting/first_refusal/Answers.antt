@@ -1,11 +1,8 @@
-use Rattle.sb_rewrite.proofs.Refused.{unmovable_first, refused_first}
+use Rattle.sb_rewrite.proofs.Refused.{unmovable_first, area_first}
 use Rattle.sb_rewrite.proofs.rewriting.first_refusal.Goals as goal
 
-pub returns-in-AreaFull-Err : goal.returns-in-AreaFull-Err
-returns-in-AreaFull-Err c = unmovable_first _ _ c.requires.jumps c.in-AreaFull-Err.ensures
+pub returns-in-Err-check_movable : goal.returns-in-Err-check_movable
+returns-in-Err-check_movable c = unmovable_first _ _ c.in_default.ensures c.in-Err-check_movable.ensures
 
-pub returns-in_default : goal.returns-in_default
-returns-in_default c = refused_first _ _ c.requires.jumps (λ at is. c.in_default.ensures) c.requires.put
-
-pub returns-in_default-2 : goal.returns-in_default-2
-returns-in_default-2 c = refused_first _ _ c.requires.jumps (λ at is. absurd (c.in_default.not-AreaFull-0 at is)) c.requires.put
+pub returns : goal.returns
+returns c = area_first _ _ _ c.in-Ok.ensures c.in_default.ensures c.in_default-check_movable.ensures c.requires.met

@@ -1,39 +1,56 @@
--- Each turn puts what stands in place of one more instruction.
-use Rattle.std.proofs.Common.{◌≡◌, ◌<◌, length, rules}
+-- Each turn puts what stands in place of one more instruction, and remembers its jump.
+use Rattle.std.proofs.Common.{◌≡◌, ◌<◌, Err, length, subst, rules}
 use Rattle.std.proofs.lemmas.Result.{err_from_is_err_and}
 use Rattle.sb_forms.proofs.Where.{not_in_jumps}
-use Rattle.sb_rewrite.proofs.Reading.{never_stuck}
-use Rattle.sb_rewrite.proofs.Checked.{form_asks}
-use Rattle.sb_rewrite.proofs.Putting.{nothing_put, one_put, all_put}
-use Rattle.sb_rewrite.proofs.Refused.{put_refused}
+use Rattle.sb_rewrite.specs.Turns.{ChecksJumps}
+use Rattle.sb_rewrite.proofs.Putting.{nothing_put, form_asks_here, one_put, rising_so_far, all_put}
+use Rattle.sb_rewrite.proofs.Refused.{front_refused, jump_refused, put_refused, check_refused}
 use Rattle.sb_rewrite.proofs.rewriting.put_all.Goals as goal
 
 pub loop-rest-init : goal.loop-rest-init
-loop-rest-init c = rw (c.new-draft.ensures, c.into_starts.ensures) (nothing_put _ _ c.requires.size c.requires.listed c.requires.jumps)
+loop-rest-init c = rw c.new-draft.ensures (nothing_put _ _ c.new-jumps.ensures.items)
 
 pub returns-in_err-front : goal.returns-in_err-front
 returns-in_err-front c =
     let some : 0 < length c.loop-rest.rest.now = search rules in
-    absurd (never_stuck _ _ _ _ c.loop-rest.invariant.reads some c.in_err-front.ensures.1)
+    let error = err_from_is_err_and c.from_residual.result c.from_residual.ensures.1 in
+    rw (error.1, error.2) (front_refused _ _ _ _ _ c.loop-rest.invariant some c.in_err-front.ensures)
 
-pub form-form-requires-clause-taken : goal.form-form-requires-clause-taken
-form-form-requires-clause-taken c =
+pub returns-in_err-remember_jump : goal.returns-in_err-remember_jump
+returns-in_err-remember_jump c =
+    let error = err_from_is_err_and c.from_residual-in_err-remember_jump.result c.from_residual-in_err-remember_jump.ensures.1 in
+    rw (error.1, error.2) (jump_refused _ _ _ _ c.remember_jump.new.jumps.items _ _ c.loop-rest.invariant c.in_ok-front.ensures c.requires c.in_err-remember_jump.ensures)
+
+pub put_front-requires-clause-form : goal.put_front-requires-clause-form
+put_front-requires-clause-form c =
     let some : 0 < length c.loop-rest.rest.now = search rules in
-    form_asks not_in_jumps _ _ _ _ _ c.loop-rest.invariant.reads c.loop-rest.invariant.known c.in_ok-front.ensures some
+    form_asks_here not_in_jumps _ _ _ c.requires c.in_ok-front.ensures some c.in_ok-remember_jump.ensures.0
 
-pub returns-in_err-put : goal.returns-in_err-put
-returns-in_err-put c =
-    let table = rw (c.next_slot.ensures.address, c.is_after_0f-after_0f.ensures) at c.form-form.ensures.table in
-    let error = err_from_is_err_and c.from_residual-in_err-put.result c.from_residual-in_err-put.ensures.1 in
-    rw (error.1, error.2) (put_refused _ _ _ c.put.new.self _ _ _ c.loop-rest.invariant c.in_ok-front.ensures table c.in_err-put.ensures)
+pub returns-in_err-put_front : goal.returns-in_err-put_front
+returns-in_err-put_front c =
+    let error = err_from_is_err_and c.from_residual-in_err-put_front.result c.from_residual-in_err-put_front.ensures.1 in
+    rw (error.1, error.2) (put_refused _ _ _ c.put_front.new.draft _ _ _ c.loop-rest.invariant c.in_ok-front.ensures c.in_err-put_front.ensures)
 
 pub loop-rest-preserved : goal.loop-rest-preserved
 loop-rest-preserved c =
-    let table = rw (c.next_slot.ensures.address, c.is_after_0f-after_0f.ensures) at c.form-form.ensures.table in
-    let put = c.in_ok-put.ensures in
-    one_put _ _ _ _ _ _ c.loop-rest.invariant c.in_ok-front.ensures table put.0 put.1 put.2
+    let remembered = c.in_ok-remember_jump.ensures in
+    one_put _ _ _ _ _ _ _ c.loop-rest.invariant c.in_ok-front.ensures remembered.0 remembered.1 c.in_ok-put_front.ensures
+
+pub check_jumps-requires : goal.check_jumps-requires
+check_jumps-requires c =
+    let none : length c.loop-rest.rest.now ≡ 0 = search rules in
+    rw c.starts.ensures (rising_so_far _ _ _ _ c.loop-rest.invariant none)
+
+pub returns-in_err-check_jumps : goal.returns-in_err-check_jumps
+returns-in_err-check_jumps c =
+    let none : length c.loop-rest.rest.now ≡ 0 = search rules in
+    let checks = subst (λ jumps. ChecksJumps jumps c.starts.result.now (Err c.in_err-check_jumps.field-0.0)) c.deref.ensures.value c.in_err-check_jumps.ensures in
+    let checks_starts = subst (λ starts. ChecksJumps c.loop-rest.jumps.items starts (Err c.in_err-check_jumps.field-0.0)) c.starts.ensures checks in
+    let error = err_from_is_err_and c.from_residual-in_err-check_jumps.result c.from_residual-in_err-check_jumps.ensures.1 in
+    rw (error.1, error.2) (check_refused _ _ _ _ _ c.loop-rest.invariant none checks_starts)
 
 pub returns : goal.returns
 returns c =
     let none : length c.loop-rest.rest.now ≡ 0 = search rules in
-    all_put _ _ _ c.loop-rest.invariant none
+    let checks = rw (c.starts.ensures, c.deref.ensures.value) at c.in_ok-check_jumps.ensures in
+    all_put _ _ _ _ c.loop-rest.invariant none checks

@@ -3,10 +3,10 @@ use Rattle.sb_rewrite.proofs.Made.{made_ordered, left_refused}
 use Rattle.sb_rewrite.proofs.rewriting.rewrite.Goals as goal
 
 pub finish-requires : goal.finish-requires
-finish-requires c = made_ordered _ _ c.in_ok-draft.ensures
+finish-requires c = made_ordered _ c.in-Ok.draft c.in-Ok.ensures
 
 pub returns-in-Some-clause-answer : goal.returns-in-Some-clause-answer
-returns-in-Some-clause-answer c = left_refused _ _ _ c.in_ok-draft.ensures c.in-Some.ensures
+returns-in-Some-clause-answer c = left_refused _ c.in-Ok.draft _ c.in-Ok.ensures c.in-Some.ensures
 
 pub returns-in-None-clause-text : goal.returns-in-None-clause-text
 returns-in-None-clause-text c = rw c.finish.ensures (clean_around _ c.in-None.ensures.1)
