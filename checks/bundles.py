@@ -3,7 +3,7 @@
 import os
 import pathlib
 import subprocess
-from typing import List, NamedTuple, Tuple
+from typing import List, NamedTuple, Sequence, Tuple
 
 ROOT = pathlib.Path(__file__).resolve().parent.parent
 PROGRAM = os.environ.get("PROGRAM", str(ROOT / "crates/skybridge/out/skybridge"))
@@ -31,11 +31,16 @@ def little(number: int, size: int) -> bytes:
 
 
 def bundle(
-    processes: List[Tuple[bytes, bytes]], cores: List[Tuple[int, int]], schedule: bytes, frames: int = FRAMES
+    processes: List[Tuple[bytes, bytes]],
+    cores: List[Tuple[int, int]],
+    schedule: bytes,
+    frames: int = FRAMES,
+    keys: Sequence[int] = (),
 ) -> bytes:
     """A bundle of processes, each a text and initial data, and of cores, each a process and an entry."""
-    counts = (len(cores), 1), (len(processes), 1), (frames, 4), (0, 4), (len(schedule), 4)
+    counts = (len(cores), 1), (len(processes), 1), (frames, 4), (len(keys), 4), (len(schedule), 4)
     parts = [b"SKYB", little(1, 2)] + [little(count, size) for count, size in counts]
+    parts += [little(key, 8) for key in keys]
     for text, data in processes:
         parts += [little(len(text), 4), little(len(data), 4), little(0, 4), text, data]
     for process, entry in cores:

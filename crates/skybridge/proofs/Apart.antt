@@ -12,7 +12,7 @@ use Rattle.sb_load.proofs.OneAnswer.{one_answer}
 use Rattle.skybridge.specs.declared.replay.Refusal.{Refusal}
 use Rattle.skybridge.specs.declared.replay.Refusal.TheVariants as variant
 use Rattle.skybridge.specs.Input.{input_limit, IsNotLoadable, SomeNoBundle, SomeNotLoadable, SomeAccepted}
-use Rattle.skybridge.specs.declared.words.Command.{Command}
+use Rattle.skybridge.specs.declared.words.BundleCommand.{BundleCommand}
 use Rattle.skybridge.specs.Output.{IsOutput, IsTold, WhereTold, WasRefused}
 use Rattle.skybridge.specs.Answer.{SpellsBundle, IsLoaded, Reports}
 
@@ -60,16 +60,16 @@ told (Some old) left' bytes now Claim read same claim = subst Claim (sym (same �
 -- ---- a report
 
 -- the bytes spell a bundle of which the command writes this text
-abbrev HasOutput : Command → List ℕ → List ℕ → Type 0
+abbrev HasOutput : BundleCommand → List ℕ → List ℕ → Type 0
 HasOutput command bytes text = (bundle : Bundle) × SpellsBundle bytes bundle × IsLoaded bundle × IsOutput command bundle text
 
-pub reported_spelled : (command : Command) (left left' : Option (List ℕ)) (bytes now text : List ℕ) → ReadWhole left left' bytes → now ≡ bytes
+pub reported_spelled : (command : BundleCommand) (left left' : Option (List ℕ)) (bytes now text : List ℕ) → ReadWhole left left' bytes → now ≡ bytes
     → HasOutput command now text → ¬ IsTold left SomeNoBundle
 reported_spelled command left left' bytes now text read same report claim =
     let (why, bad) = told left left' bytes now SomeNoBundle read same claim in
     is_read now report.0 why report.1 bad.1
 
-pub reported_loaded : (command : Command) (left left' : Option (List ℕ)) (bytes now text : List ℕ) → ReadWhole left left' bytes → now ≡ bytes
+pub reported_loaded : (command : BundleCommand) (left left' : Option (List ℕ)) (bytes now text : List ℕ) → ReadWhole left left' bytes → now ≡ bytes
     → HasOutput command now text → ¬ IsTold left SomeNotLoadable
 reported_loaded command left left' bytes now text read same report claim =
     let (why, bad) = told left left' bytes now SomeNotLoadable read same claim in
@@ -77,16 +77,16 @@ reported_loaded command left left' bytes now text read same report claim =
 
 -- ---- no bundle
 
-read_refused : (command : Command) (now : List ℕ) (refusal : Refusal) (why : BundleRefusal) → refusal ≡ variant.Bundle why → Reports {A = Unit {0}} command now (Err refusal) → reading now ≡ Err why
+read_refused : (command : BundleCommand) (now : List ℕ) (refusal : Refusal) (why : BundleRefusal) → refusal ≡ variant.Bundle why → Reports {A = Unit {0}} command now (Err refusal) → reading now ≡ Err why
 read_refused command now refusal why is refused = subst (λ (value : Refusal). Reports {A = Unit {0}} command now (Err value)) is refused
 
-pub unread_spelled : (command : Command) (left left' : Option (List ℕ)) (bytes now : List ℕ) (refusal : Refusal) (why : BundleRefusal) → ReadWhole left left' bytes → now ≡ bytes
+pub unread_spelled : (command : BundleCommand) (left left' : Option (List ℕ)) (bytes now : List ℕ) (refusal : Refusal) (why : BundleRefusal) → ReadWhole left left' bytes → now ≡ bytes
     → refusal ≡ variant.Bundle why → Reports {A = Unit {0}} command now (Err refusal) → ¬ IsTold left SomeNotLoadable
 unread_spelled command left left' bytes now refusal why read same is refused claim =
     let (other, bad) = told left left' bytes now SomeNotLoadable read same claim in
     is_read now bad.0 why (bad.1.1, bad.1.2) (read_refused command now refusal why is refused)
 
-pub unread_accepted : (command : Command) (left left' : Option (List ℕ)) (bytes now : List ℕ) (refusal : Refusal) (why : BundleRefusal) → ReadWhole left left' bytes → now ≡ bytes
+pub unread_accepted : (command : BundleCommand) (left left' : Option (List ℕ)) (bytes now : List ℕ) (refusal : Refusal) (why : BundleRefusal) → ReadWhole left left' bytes → now ≡ bytes
     → refusal ≡ variant.Bundle why → Reports {A = Unit {0}} command now (Err refusal) → ¬ IsTold left SomeAccepted
 unread_accepted command left left' bytes now refusal why read same is refused claim =
     let (bundle, good) = told left left' bytes now SomeAccepted read same claim in
@@ -98,17 +98,17 @@ unread_accepted command left left' bytes now refusal why read same is refused cl
 abbrev Unloaded : List ℕ → LoadRefusal → Type 0
 Unloaded bytes why = (bundle : Bundle) × SpellsBundle bytes bundle × Loads bundle (Err why) × (why ≢ Memory)
 
-load_refused : (command : Command) (now : List ℕ) (refusal : Refusal) (why : LoadRefusal) → refusal ≡ variant.Load why → Reports {A = Unit {0}} command now (Err refusal) → Unloaded now why
+load_refused : (command : BundleCommand) (now : List ℕ) (refusal : Refusal) (why : LoadRefusal) → refusal ≡ variant.Load why → Reports {A = Unit {0}} command now (Err refusal) → Unloaded now why
 load_refused command now refusal why is refused = subst (λ (value : Refusal). Reports {A = Unit {0}} command now (Err value)) is refused
 
-pub unloaded_spelled : (command : Command) (left left' : Option (List ℕ)) (bytes now : List ℕ) (refusal : Refusal) (why : LoadRefusal) → ReadWhole left left' bytes → now ≡ bytes
+pub unloaded_spelled : (command : BundleCommand) (left left' : Option (List ℕ)) (bytes now : List ℕ) (refusal : Refusal) (why : LoadRefusal) → ReadWhole left left' bytes → now ≡ bytes
     → refusal ≡ variant.Load why → Reports {A = Unit {0}} command now (Err refusal) → ¬ IsTold left SomeNoBundle
 unloaded_spelled command left left' bytes now refusal why read same is answer claim =
     let refused = load_refused command now refusal why is answer in
     let (other, bad) = told left left' bytes now SomeNoBundle read same claim in
     is_read now refused.0 other refused.1 bad.1
 
-pub unloaded_accepted : (command : Command) (left left' : Option (List ℕ)) (bytes now : List ℕ) (refusal : Refusal) (why : LoadRefusal) → ReadWhole left left' bytes → now ≡ bytes
+pub unloaded_accepted : (command : BundleCommand) (left left' : Option (List ℕ)) (bytes now : List ℕ) (refusal : Refusal) (why : LoadRefusal) → ReadWhole left left' bytes → now ≡ bytes
     → refusal ≡ variant.Load why → Reports {A = Unit {0}} command now (Err refusal) → ¬ IsTold left SomeAccepted
 unloaded_accepted command left left' bytes now refusal why read same is answer claim =
     let refused = load_refused command now refusal why is answer in
@@ -116,7 +116,7 @@ unloaded_accepted command left left' bytes now refusal why read same is answer c
     is_loaded now bundle refused.0 why (good.0.1, good.0.2) good.1 refused.1 refused.2 refused.3
 
 -- what a refusal of the loader says of the bytes
-pub unloaded_told : (command : Command) (left left' : Option (List ℕ)) (bytes now : List ℕ) (refusal : Refusal) (why : LoadRefusal) → ReadWhole left left' bytes → now ≡ bytes
+pub unloaded_told : (command : BundleCommand) (left left' : Option (List ℕ)) (bytes now : List ℕ) (refusal : Refusal) (why : LoadRefusal) → ReadWhole left left' bytes → now ≡ bytes
     → length bytes ≤ input_limit → refusal ≡ variant.Load why → Reports {A = Unit {0}} command now (Err refusal) → WhereTold left (WasRefused left' (λ bytes. IsNotLoadable bytes why))
 unloaded_told command None left' bytes now refusal why read same within is answer = tt
 unloaded_told command (Some old) left' bytes now refusal why read same within is answer =

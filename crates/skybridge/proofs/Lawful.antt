@@ -7,7 +7,6 @@ use Rattle.sb_rewrite.specs.Output.{Output}
 use Rattle.sb_load.specs.Loading.{Load, AreRewritten, IsLoadable}
 use Rattle.sb_load.specs.Need.{need_of, have_of}
 use Rattle.sb_trace.specs.declared.event.Line.{Line}
-use Rattle.sb_trace.specs.State.{State}
 use Rattle.sb_trace.specs.Laws.{HasCleanCode}
 use Rattle.sb_trace.specs.Sound.{IsSound}
 use Rattle.sb_trace.proofs.Beginning.{start_is_sound}
@@ -15,8 +14,8 @@ use Rattle.sb_trace.proofs.SoundRuns.{runs_keep_sound}
 use Rattle.sb_trace.proofs.Landings.{landings_drop}
 use Rattle.sb_trace.proofs.Fetchable.{one_pattern}
 use Rattle.sb_plain.specs.Start.{images_of, images_loaded, entry_of, first_state}
-use Rattle.skybridge.specs.declared.words.Command.{Command}
-use Rattle.skybridge.specs.declared.words.Command.TheVariants.{Replay, Plain, Check, Rewrite}
+use Rattle.skybridge.specs.declared.words.BundleCommand.{BundleCommand}
+use Rattle.skybridge.specs.declared.words.BundleCommand.TheVariants.{Replay, Plain, Check, Rewrite}
 use Rattle.skybridge.specs.Output.{IsReport, IsOutput}
 use Rattle.skybridge.specs.Lawful.{KeepsOneSwitch, IsLawfulReport, IsLawfulOutput}
 
@@ -49,7 +48,7 @@ lawful_report bundle text (load, lines, end, loads, runs, is) = (
   one_switch load lines loads.1,
 )
 
-pub lawful : (command : Command) (bundle : Bundle) (text : List ℕ) → IsOutput command bundle text → IsLawfulOutput command bundle text
+pub lawful : (command : BundleCommand) (bundle : Bundle) (text : List ℕ) → IsOutput command bundle text → IsLawfulOutput command bundle text
 unfolding IsLawfulOutput
 lawful Replay bundle text report = lawful_report bundle text report
 lawful Plain bundle text report = lawful_report bundle text report

@@ -3,3 +3,11 @@ pub mod Schedule
 pub mod Determined
 pub mod Apart
 pub mod Lawful
+pub mod Numbers
+pub mod TextInsns
+pub mod Kept
+pub mod Jumps
+pub mod KeptTexts
+pub mod Loadable
+pub mod Drawn
+pub mod Generated

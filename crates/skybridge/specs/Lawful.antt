@@ -11,10 +11,12 @@ use Rattle.sb_trace.specs.OneStep.{StepsOnce, without_flights, without_landings,
 use Rattle.sb_trace.specs.Report.{report_text}
 use Rattle.sb_trace.specs.Laws.{HasOneSwitch}
 use Rattle.sb_plain.specs.Start.{first_state}
-use Rattle.skybridge.specs.declared.words.Command.{Command}
-use Rattle.skybridge.specs.declared.words.Command.TheVariants.{Replay, Plain}
+use Rattle.skybridge.specs.declared.words.Command.TheVariants.{OfBundle}
+use Rattle.skybridge.specs.declared.words.BundleCommand.{BundleCommand}
+use Rattle.skybridge.specs.declared.words.BundleCommand.TheVariants.{Replay, Plain}
 use Rattle.skybridge.specs.Words.{AreWordsOf}
-use Rattle.skybridge.specs.Output.{Runs, IsOutput, ReportedAs}
+use Rattle.skybridge.specs.Runs.{Runs}
+use Rattle.skybridge.specs.Output.{IsOutput, ReportedAs}
 
 -- Without its landing lines and their entries of the schedule, the run is one of the machine that calls in one step.
 abbrev pub RunsAtOnce : Load → List Line → State → Type 0
@@ -33,12 +35,12 @@ IsLawfulReport bundle text =
     × RunsAtOnce load lines end × KeepsOneSwitch load lines
 
 -- what a command writes, where the laws hold of the run that a report is of
-unfoldable pub IsLawfulOutput : Command → Bundle → List ℕ → Type 0
+unfoldable pub IsLawfulOutput : BundleCommand → Bundle → List ℕ → Type 0
 IsLawfulOutput Replay bundle text = IsLawfulReport bundle text
 IsLawfulOutput Plain bundle text = IsLawfulReport bundle text
 IsLawfulOutput command bundle text = IsOutput command bundle text
 
--- the words are a command, an accepted bundle was read, and the command's text was appended
+-- the words are a command that reads a bundle, an accepted one was read, and the command's text was appended
 abbrev pub WroteLawfully : List (List ℕ) → Option (List ℕ) → Option (List ℕ) → Option (List ℕ) → Option (List ℕ) → Type 0
 WroteLawfully words left left' held held' =
-    (command : Command) × AreWordsOf command words × ReportedAs (IsLawfulOutput command) left left' held held'
+    (command : BundleCommand) × AreWordsOf (OfBundle command) words × ReportedAs (IsLawfulOutput command) left left' held held'

@@ -2,6 +2,10 @@ pub mod Words
 pub mod Lines
 pub mod Input
 pub mod Listings
+pub mod Runs
+pub mod Generator
+pub mod Summary
 pub mod Output
 pub mod Answer
 pub mod Lawful
+pub mod Status

@@ -1,32 +1,26 @@
 -- What the program writes.
-use Rattle.std.specs.Prelude.{◌≡◌, ℕ, List, [], ◌++◌, Option, Some, None, Ok, take}
+use Rattle.std.specs.Prelude.{◌≡◌, ℕ, List, [], ◌++◌, Option, Some, None, take, ⊤}
 use Rattle.sb_port.specs.Port.{Rose, Appended}
 use Rattle.sb_bundle.specs.declared.bundle.Bundle.{Bundle}
-use Rattle.sb_trace.specs.declared.event.Line.{Line}
-use Rattle.sb_trace.specs.Run.{RunBy}
-use Rattle.sb_trace.specs.State.{State}
-use Rattle.sb_trace.specs.Step.{Steps}
-use Rattle.sb_trace.specs.End.{end_of}
+use Rattle.sb_bundle.specs.Spelling.{spelling}
 use Rattle.sb_trace.specs.Report.{report_text}
-use Rattle.sb_load.specs.Loading.{Load, Loads}
-use Rattle.sb_plain.specs.Start.{first_state}
 use Rattle.sb_bundle.specs.declared.refusal.BundleRefusal.{BundleRefusal}
 use Rattle.sb_load.specs.declared.refusal.LoadRefusal.{LoadRefusal}
 use Rattle.skybridge.specs.declared.words.Command.{Command}
-use Rattle.skybridge.specs.declared.words.Command.TheVariants.{Replay, Plain, Check, Rewrite}
+use Rattle.skybridge.specs.declared.words.Command.TheVariants.{OfBundle, Generate, GenerateBundle, Help}
+use Rattle.skybridge.specs.declared.words.BundleCommand.{BundleCommand}
+use Rattle.skybridge.specs.declared.words.BundleCommand.TheVariants.{Replay, Plain, Check, Rewrite}
 use Rattle.skybridge.specs.Words.{AreWordsOf}
+use Rattle.skybridge.specs.Runs.{IsTextOfRun}
+use Rattle.skybridge.specs.Generator.{generated}
+use Rattle.skybridge.specs.Summary.{IsSummary}
 use Rattle.skybridge.specs.Listings.{check_text, rewrite_text, IsListing}
 use Rattle.skybridge.specs.Lines.{bundle_line, load_line}
 use Rattle.skybridge.specs.Input.{IsAccepted, IsNoBundle, IsNotLoadable}
 
--- What was loaded runs by the bundle's schedule, with these lines, to this state.
-abbrev pub Runs : Load → List Line → State → Type 0
-Runs load lines end = RunBy Steps (first_state load) load.bundle.schedule lines end
-
 -- The text is the report of the plain machine's run on the bundle's schedule.
 abbrev pub IsReport : Bundle → List ℕ → Type 0
-IsReport bundle text =
-    (load : Load) × (lines : List Line) × (end : State) × Loads bundle (Ok load) × Runs load lines end × (text ≡ report_text lines (end_of end))
+IsReport bundle text = IsTextOfRun report_text bundle text
 
 -- ---- bytes that may be told
 
@@ -62,21 +56,39 @@ ReportedAs IsText left left' held held' =
     (bundle : Bundle) × (text : List ℕ) × WhereTold left (WasRead left' bundle) × IsText bundle text × Appended held held' text
 
 -- what each command writes of a bundle
-abbrev pub IsOutput : Command → Bundle → List ℕ → Type 0
+abbrev pub IsOutput : BundleCommand → Bundle → List ℕ → Type 0
 IsOutput Replay bundle text = IsReport bundle text
 IsOutput Plain bundle text = IsReport bundle text
 IsOutput Check bundle text = IsListing check_text bundle text
 IsOutput Rewrite bundle text = IsListing rewrite_text bundle text
 
--- the words are a command, an accepted bundle was read, and the command's text was appended
+-- what the other commands write; the help text is free
+abbrev pub IsMade : Command → List ℕ → Type 0
+IsMade (OfBundle command) text = ⊥
+IsMade (Generate number) text = IsSummary number text
+IsMade (GenerateBundle number) text = text ≡ spelling (generated number)
+IsMade Help text = ⊤
+
+-- An accepted bundle was read, if the command reads one, and the command's text was appended.
+abbrev pub WroteOf : Command → Option (List ℕ) → Option (List ℕ) → Option (List ℕ) → Option (List ℕ) → Type 0
+WroteOf (OfBundle command) left left' held held' = ReportedAs (IsOutput command) left left' held held'
+WroteOf command left left' held held' = (text : List ℕ) × IsMade command text × Appended held held' text
+
+-- the words are a command, whose text was written
 abbrev pub Wrote : List (List ℕ) → Option (List ℕ) → Option (List ℕ) → Option (List ℕ) → Option (List ℕ) → Type 0
-Wrote words left left' held held' = (command : Command) × AreWordsOf command words × ReportedAs (IsOutput command) left left' held held'
+Wrote words left left' held held' = (command : Command) × AreWordsOf command words × WroteOf command left left' held held'
 
 -- the same with a front of the text
+abbrev pub PartlyReported : BundleCommand → Option (List ℕ) → Option (List ℕ) → Option (List ℕ) → Option (List ℕ) → Type 0
+PartlyReported command left left' held held' =
+    (bundle : Bundle) × (text : List ℕ) × WhereTold left (WasRead left' bundle) × IsOutput command bundle text × PartlyAppended held held' text
+
+abbrev pub PartlyWroteOf : Command → Option (List ℕ) → Option (List ℕ) → Option (List ℕ) → Option (List ℕ) → Type 0
+PartlyWroteOf (OfBundle command) left left' held held' = PartlyReported command left left' held held'
+PartlyWroteOf command left left' held held' = (text : List ℕ) × IsMade command text × PartlyAppended held held' text
+
 abbrev pub PartlyWrote : List (List ℕ) → Option (List ℕ) → Option (List ℕ) → Option (List ℕ) → Option (List ℕ) → Type 0
-PartlyWrote words left left' held held' =
-    (command : Command) × (bundle : Bundle) × (text : List ℕ) × AreWordsOf command words × WhereTold left (WasRead left' bundle)
-    × IsOutput command bundle text × PartlyAppended held held' text
+PartlyWrote words left left' held held' = (command : Command) × AreWordsOf command words × PartlyWroteOf command left left' held held'
 
 -- ---- the refusals that name a place
 

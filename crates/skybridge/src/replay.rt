@@ -4,16 +4,17 @@ ghost use Rattle.std.specs.Prelude.{IfOk, length, string_bytes};
 ghost use Rattle.sb_trace.specs.Run.{RunBy};
 ghost use Rattle.sb_trace.specs.Step.{Steps};
 ghost use Rattle.sb_load.specs.Loading.{IsLoadable};
+ghost use Rattle.skybridge.specs.Runs.{RunsTo};
 ghost use Rattle.skybridge.specs.Output.{IsReport, IsOutput};
 ghost use Rattle.skybridge.specs.Answer.{Reports, ReportsBundle};
 ghost use Rattle.sb_bundle.specs.Limits.{IsBundle, AllBelow};
 
 use crate::listings::{check_text, rewrite_text};
-use crate::words::Command;
+use crate::words::BundleCommand;
 use sb_bundle::{Bundle, BundleRefusal, read_bundle};
 use sb_load::{LoadRefusal, Loaded, load};
 use sb_plain::Plain;
-use sb_trace::{Lines, report_text};
+use sb_trace::{EndState, Lines, report_text};
 use std::alloc::{AllocError, Global};
 
 /// Why a command has nothing to write of an input.
@@ -39,30 +40,43 @@ fn run(alloc: Global, plain: &mut Plain, schedule: &[u8]) -> Result<Lines, Alloc
     Ok(Lines::new(lines))
 }
 
+/// The lines of the plain machine's run on the bundle's schedule, and its last state.
+pub fn whole_run(alloc: Global, loaded: &Loaded) -> Result<(Lines, EndState), AllocError>
+    requires { IsLoadable loaded.now }
+    ensures { IfOk result (λ run. RunsTo loaded.now run.0 run.1) }
+{
+    let mut plain = Plain::new(alloc, loaded)?;
+    let lines = run(alloc, &mut plain, loaded.bundle().schedule.items())?;
+    let end = plain.end(alloc)?;
+    Ok((lines, end))
+}
+
 // The report of the plain machine's run on the bundle's schedule.
 fn report(alloc: Global, loaded: &Loaded) -> Result<String, AllocError>
     requires { IsLoadable loaded.now }
     ensures { IfOk result (λ text. IsReport loaded.now.bundle (string_bytes text)) }
 {
-    let mut plain = Plain::new(alloc, loaded)?;
-    let lines = run(alloc, &mut plain, loaded.bundle().schedule.items())?;
-    let end = plain.end(alloc)?;
+    let (lines, end) = whole_run(alloc, loaded)?;
     report_text(alloc, &lines, &end)
 }
 
 // What the command writes of the loaded bundle.
-fn output(alloc: Global, command: Command, loaded: &Loaded) -> Result<String, AllocError>
+fn output(alloc: Global, command: BundleCommand, loaded: &Loaded) -> Result<String, AllocError>
     requires { IsLoadable loaded.now }
     ensures { IfOk result (λ text. IsOutput command loaded.now.bundle (string_bytes text)) }
 {
     match command {
-        Command::Replay | Command::Plain => report(alloc, loaded),
-        Command::Check => check_text(alloc, loaded),
-        Command::Rewrite => rewrite_text(alloc, loaded),
+        BundleCommand::Replay | BundleCommand::Plain => report(alloc, loaded),
+        BundleCommand::Check => check_text(alloc, loaded),
+        BundleCommand::Rewrite => rewrite_text(alloc, loaded),
     }
 }
 
-fn load_and_report(alloc: Global, command: Command, bundle: &Bundle) -> Result<String, Refusal>
+fn load_and_report(
+    alloc: Global,
+    command: BundleCommand,
+    bundle: &Bundle,
+) -> Result<String, Refusal>
     requires { IsBundle bundle.now }
     ensures { ReportsBundle command bundle.now result }
 {
@@ -77,7 +91,7 @@ fn load_and_report(alloc: Global, command: Command, bundle: &Bundle) -> Result<S
 }
 
 /// What the command writes of the bundle that the bytes spell.
-pub fn output_of(alloc: Global, command: Command, bytes: &[u8]) -> Result<String, Refusal>
+pub fn output_of(alloc: Global, command: BundleCommand, bytes: &[u8]) -> Result<String, Refusal>
     ensures { Reports command bytes.now result }
 {
     match read_bundle(alloc, bytes) {

@@ -2,6 +2,7 @@
 
 ghost use Rattle.std.specs.Prelude.{◌<◌, ◌^◌, length};
 
+use crate::help::described;
 use crate::{Status, bridge};
 use sb_port::{MemorySink, MemorySource};
 use std::alloc::Global;
@@ -41,6 +42,59 @@ keys 0
 end
 ";
 
+/// Two other programs, written from the description of the format, gave these counts.
+const SUMMARY_OF_42: &str = "gen 42
+step 53741
+print 1309
+sys 11
+exit 8
+fault 0
+server fault 0
+server exit 0
+entered 1309
+wrong key 0
+pool empty 0
+unbound 0
+bad leaf 0
+return 1309
+turn 0
+landing 23677
+idle 118636
+free 235
+end
+";
+
+const HELP: &str = "A call facility between guest processes that needs no kernel on its path
+
+Usage: skybridge replay | plain | check | rewrite
+       skybridge gen <NUMBER> [--bundle]
+       skybridge --help
+
+Commands:
+  replay   Reads a bundle; writes the report of its run, step by step
+  plain    Reads a bundle; writes the report of its run on the plain machine
+  check    Reads a bundle; writes ok, the frames that it takes, and those that it has
+  rewrite  Reads a bundle; writes for each process the instructions that are rewritten
+  gen      Reads nothing; generates a bundle from a number (0 to 18446744073709551615) and runs it;
+           writes how many lines of each kind its report has, or with --bundle the bundle itself
+
+Options:
+      --help  Reads nothing; writes this text
+
+A bundle is read from standard input; what is written goes to standard output.
+
+Statuses:
+  0  the whole output was written
+  2  the words are no command; writes: usage: skybridge --help
+  3  standard input failed; writes: read fault
+  4  standard output failed
+  5  the input is no bundle; writes: bundle <NAME> <OFFSET>
+  6  the bundle cannot be loaded; writes: process <NUMBER> <NAME> <ADDRESS>, or
+     entry <CORE> <ADDRESS>, or frames <NEED> <HAVE>
+  7  memory did not suffice; writes nothing
+  8  the input is longer than 64 MiB; writes: input too long
+";
+
 /// A bundle of one process and one core, with so many frames, this text, an entry so far behind its first byte, and so
 /// many steps.
 fn bundle(alloc: Global, frames: u32, text: &[u8], entry: u8, steps: u32) -> Result<Vec<u8>, Fail>
@@ -78,25 +132,28 @@ fn two_memories(alloc: Global) -> Result<Vec<u8>, Fail> {
     Ok(bytes)
 }
 
-/// What `bridge` answers and writes for one word, where the listed calls of the source and the sink fail.
+/// What `bridge` answers and writes for words with a blank between them, where the listed calls of the source and the sink
+/// fail.
 fn outcome(
     alloc: Global,
-    word: &str,
+    words: &str,
     bytes: Vec<u8>,
     read_fails: Vec<u64>,
     write_fails: Vec<u64>,
 ) -> Result<(Status, Vec<u8>), Fail> {
-    let mut words = Vec::new(alloc);
-    words.push(String::from_str(alloc, word)?)?;
+    let mut list = Vec::new(alloc);
+    for word in words.split(' ') {
+        list.push(String::from_str(alloc, word)?)?;
+    }
     let mut source = MemorySource::new(bytes, 7, read_fails);
-    let mut sink = MemorySink::new(alloc, 4096, 16, write_fails)?;
-    let status = bridge(alloc, &words, &mut source, &mut sink);
+    let mut sink = MemorySink::new(alloc, 262_144, 16, write_fails)?;
+    let status = bridge(alloc, &list, &mut source, &mut sink);
     Ok((status, Vec::from_slice(alloc, sink.held())?))
 }
 
 /// The same where nothing fails.
-fn quiet_outcome(alloc: Global, word: &str, bytes: Vec<u8>) -> Result<(Status, Vec<u8>), Fail> {
-    outcome(alloc, word, bytes, Vec::new(alloc), Vec::new(alloc))
+fn quiet_outcome(alloc: Global, words: &str, bytes: Vec<u8>) -> Result<(Status, Vec<u8>), Fail> {
+    outcome(alloc, words, bytes, Vec::new(alloc), Vec::new(alloc))
 }
 
 #[test]
@@ -170,11 +227,39 @@ fn each_process_has_its_own_memory(rt: HostRuntime) -> Result<(), Fail> {
 fn refusals_write_one_line(rt: HostRuntime) -> Result<(), Fail> {
     let alloc = rt.alloc();
     let five = bundle(alloc, 576, &FIVE, 0, 5)?;
-    let rows: [(&str, &str, Vec<u8>, Status, &str); 7] = [
+    let rows: [(&str, &str, Vec<u8>, Status, &str); 11] = [
         (
             "another word",
             "run",
             Vec::from_slice(alloc, &five)?,
+            Status::BadWords,
+            "usage: skybridge --help\n",
+        ),
+        (
+            "a number with a leading zero",
+            "gen 042",
+            Vec::new(alloc),
+            Status::BadWords,
+            "usage: skybridge --help\n",
+        ),
+        (
+            "a number with a sign",
+            "gen +42",
+            Vec::new(alloc),
+            Status::BadWords,
+            "usage: skybridge --help\n",
+        ),
+        (
+            "2^64",
+            "gen 18446744073709551616 --bundle",
+            Vec::new(alloc),
+            Status::BadWords,
+            "usage: skybridge --help\n",
+        ),
+        (
+            "a word too many",
+            "gen 42 --bundle check",
+            Vec::new(alloc),
             Status::BadWords,
             "usage: skybridge --help\n",
         ),
@@ -263,6 +348,69 @@ fn texts_are_checked_and_rewritten(rt: HostRuntime) -> Result<(), Fail> {
         let (status, held) = quiet_outcome(alloc, word, bundle(alloc, 576, text, 0, 0)?)?;
         assert_eq!(rt; status, Status::Done, "{name}");
         assert_eq!(rt; held.as_slice(), wanted.as_bytes(), "{name}");
+    }
+    Ok(())
+}
+
+#[test]
+fn a_generated_bundle_has_one_summary(rt: HostRuntime) -> Result<(), Fail> {
+    let alloc = rt.alloc();
+    for _ in 0..2 {
+        let (status, held) = quiet_outcome(alloc, "gen 42", Vec::new(alloc))?;
+        assert_eq!(rt; status, Status::Done);
+        assert_eq!(rt; held.as_slice(), SUMMARY_OF_42.as_bytes());
+    }
+    Ok(())
+}
+
+#[test]
+fn a_generated_bundle_is_read_back(rt: HostRuntime) -> Result<(), Fail> {
+    let alloc = rt.alloc();
+    for words in [
+        "gen 42 --bundle",
+        "gen 0 --bundle",
+        "gen 18446744073709551615 --bundle",
+    ] {
+        let (status, bytes) = quiet_outcome(alloc, words, Vec::new(alloc))?;
+        assert_eq!(rt; status, Status::Done, "{words}");
+        let (status, held) = quiet_outcome(alloc, "check", bytes)?;
+        assert_eq!(rt; status, Status::Done, "{words}");
+        assert_eq!(rt; held.as_slice(), b"ok 203 512\n".as_slice(), "{words}");
+    }
+    Ok(())
+}
+
+#[test]
+fn the_help_text_names_each_command(rt: HostRuntime) -> Result<(), Fail> {
+    let alloc = rt.alloc();
+    let (status, held) = quiet_outcome(alloc, "--help", Vec::new(alloc))?;
+    assert_eq!(rt; status, Status::Done);
+    assert_eq!(rt; held.as_slice(), HELP.as_bytes());
+    Ok(())
+}
+
+/// `clap` describes the words that the program takes, but for the form of a number.
+#[test]
+fn the_help_text_describes_the_words(rt: HostRuntime) -> Result<(), Fail> {
+    let alloc = rt.alloc();
+    let rows: [(&[&str], bool); 10] = [
+        (&["replay"], true),
+        (&["plain"], true),
+        (&["check"], true),
+        (&["rewrite"], true),
+        (&["gen", "42"], true),
+        (&["gen", "42", "--bundle"], true),
+        (&["gen"], false),
+        (&["replay", "42"], false),
+        (&["run"], false),
+        (&["-h"], false),
+    ];
+    for (words, described_so) in rows {
+        let mut named: Vec<&str> = Vec::new(alloc);
+        named.push("skybridge")?;
+        named.extend_from_slice(words)?;
+        let matches = described(alloc)?.try_get_matches_from(named.as_slice());
+        assert_eq!(rt; matches.is_ok(), described_so);
     }
     Ok(())
 }

@@ -1,18 +1,22 @@
 //! The top call.
 
-ghost use Rattle.std.specs.Prelude.{◌≡◌, ◌≤◌, ℕ, List, ◌↔◌, ◌⊎◌, MatchResult, string_bytes};
-ghost use Rattle.sb_port.specs.Port.{Rose};
+ghost use Rattle.std.specs.Prelude.{◌≡◌, ◌≤◌, ℕ, List, ◌↔◌, ◌⊎◌, IfOk, IsOkAnd, MatchResult, string_bytes};
+ghost use Rattle.sb_port.specs.Port.{Rose, Appended};
 ghost use Rattle.sb_bundle.specs.declared.bundle.Bundle.{Bundle};
 ghost use Rattle.skybridge.specs.Input.{IsTooLong, SomeNoBundle, SomeNotLoadable, SomeAccepted};
-ghost use Rattle.skybridge.specs.declared.words.Command.{Command};
-ghost use Rattle.skybridge.specs.Output.{IsOutput, IsTold, WhereTold, Wrote, PartlyWrote, RefusedBundle, RefusedLoad, WritesLine};
-ghost use Rattle.skybridge.specs.Lawful.{WroteLawfully};
-ghost use Rattle.skybridge.specs.Words.{IsCommand, word_texts};
+ghost use Rattle.skybridge.specs.declared.words.BundleCommand.{BundleCommand};
+ghost use Rattle.skybridge.specs.Output.{IsOutput, IsTold, WhereTold, PartlyAppended, ReportedAs, PartlyReported, Wrote, PartlyWrote, RefusedBundle, RefusedLoad, WritesLine};
+ghost use Rattle.skybridge.specs.Lawful.{IsLawfulOutput, WroteLawfully};
+ghost use Rattle.skybridge.specs.Words.{IsCommand, ReadsBundle, word_texts};
+ghost use Rattle.skybridge.specs.Status.{IsOwn};
+ghost use Rattle.skybridge.specs.Summary.{IsSummary};
 ghost use Rattle.skybridge.specs.Lines.{usage_line, read_fault_line, too_long_line};
 
+use crate::help::help_text;
 use crate::lines::{bundle_line, load_line};
+use crate::made::{generated_bytes, summary};
 use crate::replay::{Refusal, output_of};
-use crate::words::command_of;
+use crate::words::{BundleCommand, Command, command_of};
 use sb_port::{ReadAll, Sink, Source, read_all, write_all};
 use std::alloc::{AllocError, Global};
 
@@ -64,68 +68,78 @@ fn refuse_by<K: Sink>(sink: &mut K, line: Result<String, AllocError>, status: St
     }
 }
 
-/// Runs the command of the words, from the source to the sink.
-///
-/// A refusal keeps its status where its line could not be written whole. Causes are tried in the order words, reading,
-/// bundle, loading, writing; `NoMemory` may come anywhere between.
+// Writes bytes, as far as the sink takes them.
+fn write_bytes<K: Sink>(sink: &mut K, bytes: &[u8]) -> Status
+    ensures done { result ≡ Status.Done → Appended (K.held sink.old) (K.held sink.new) bytes.now }
+    ensures write_fault { result ≡ Status.WriteFault → Rose (K.faults sink.old) (K.faults sink.new) }
+    ensures write_fault_part { result ≡ Status.WriteFault → PartlyAppended (K.held sink.old) (K.held sink.new) bytes.now }
+    ensures kinds { (result ≡ Status.Done) ⊎ (result ≡ Status.WriteFault) }
+{
+    match write_all(sink, bytes) {
+        Ok(()) => Status::Done,
+        Err(_) => Status::WriteFault,
+    }
+}
+
+// Writes what was made, where there was memory for it.
+fn write_made<K: Sink>(sink: &mut K, made: Result<Vec<u8>, AllocError>) -> Status
+    ensures done { result ≡ Status.Done → IsOkAnd made (λ bytes. Appended (K.held sink.old) (K.held sink.new) bytes.items) }
+    ensures write_fault { result ≡ Status.WriteFault → Rose (K.faults sink.old) (K.faults sink.new) }
+    ensures write_fault_part { result ≡ Status.WriteFault
+        → IsOkAnd made (λ bytes. PartlyAppended (K.held sink.old) (K.held sink.new) bytes.items) }
+    ensures no_memory { result ≡ Status.NoMemory → K.held sink.new ≡ K.held sink.old }
+    ensures kinds { (result ≡ Status.Done) ⊎ ((result ≡ Status.WriteFault) ⊎ (result ≡ Status.NoMemory)) }
+{
+    match made {
+        Ok(bytes) => write_bytes(sink, &bytes),
+        Err(AllocError) => Status::NoMemory,
+    }
+}
+
+// Runs a command on the bundle that the source gives.
 #[tactic(auto, using(crate::proofs::Lawful::lawful))]
-pub fn bridge<S: Source, K: Sink>(
+fn run_on_bundle<S: Source, K: Sink>(
     alloc: Global,
-    words: &Vec<String>,
+    command: BundleCommand,
     source: &mut S,
     sink: &mut K,
 ) -> Status
-    // The words are a command, an accepted bundle was read to the end of the source, and the command's text was appended.
+    ensures known { ¬ (result ≡ Status.BadWords) }
     ensures done { result ≡ Status.Done
-        → Wrote (word_texts words.now.items) (S.left source.old) (S.left source.new) (K.held sink.old) (K.held sink.new) }
-    // The landing lines of a report can be left out: the others are the lines of a machine that calls in one step. And
-    // VMFUNC's bytes may be fetched at one address alone.
+        → ReportedAs (IsOutput command) (S.left source.old) (S.left source.new) (K.held sink.old) (K.held sink.new) }
     ensures lawful { result ≡ Status.Done
-        → WroteLawfully (word_texts words.now.items) (S.left source.old) (S.left source.new) (K.held sink.old) (K.held sink.new) }
-
-    ensures bad_words { (result ≡ Status.BadWords) ↔ (¬ IsCommand (word_texts words.now.items)) }
-    ensures unread { result ≡ Status.BadWords → source.new ≡ source.old }
-    ensures bad_words_line { result ≡ Status.BadWords
-        → WritesLine (K.held sink.old) (K.held sink.new) (K.faults sink.old) (K.faults sink.new) usage_line }
+        → ReportedAs (IsLawfulOutput command) (S.left source.old) (S.left source.new) (K.held sink.old) (K.held sink.new) }
 
     ensures read_fault { result ≡ Status.ReadFault → Rose (S.faults source.old) (S.faults source.new) }
     ensures read_fault_line { result ≡ Status.ReadFault
         → WritesLine (K.held sink.old) (K.held sink.new) (K.faults sink.old) (K.faults sink.new) read_fault_line }
 
-    // An input that is longer than the limit is refused as such, and no other input is.
     ensures too_long { result ≡ Status.TooLong → WhereTold (S.left source.old) IsTooLong }
-    ensures long { IsCommand (word_texts words.now.items) → IsTold (S.left source.old) IsTooLong
+    ensures long { IsTold (S.left source.old) IsTooLong
         → ¬ Rose (S.faults source.old) (S.faults source.new) → (result ≡ Status.TooLong) ⊎ (result ≡ Status.NoMemory) }
     ensures too_long_line { result ≡ Status.TooLong
         → WritesLine (K.held sink.old) (K.held sink.new) (K.faults sink.old) (K.faults sink.new) too_long_line }
 
-    // An input that is no bundle is refused as such, and no other input is.
     ensures bundle_refused { result ≡ Status.BundleRefused
         → RefusedBundle (S.left source.old) (S.left source.new) (K.held sink.old) (K.held sink.new) (K.faults sink.old) (K.faults sink.new) }
-    ensures no_bundle { IsCommand (word_texts words.now.items) → IsTold (S.left source.old) SomeNoBundle
+    ensures no_bundle { IsTold (S.left source.old) SomeNoBundle
         → ¬ Rose (S.faults source.old) (S.faults source.new) → (result ≡ Status.BundleRefused) ⊎ (result ≡ Status.NoMemory) }
 
-    // A bundle that the loader refuses is refused as such, and no other input is.
     ensures load_refused { result ≡ Status.LoadRefused
         → RefusedLoad (S.left source.old) (S.left source.new) (K.held sink.old) (K.held sink.new) (K.faults sink.old) (K.faults sink.new) }
-    ensures not_loadable { IsCommand (word_texts words.now.items) → IsTold (S.left source.old) SomeNotLoadable
+    ensures not_loadable { IsTold (S.left source.old) SomeNotLoadable
         → ¬ Rose (S.faults source.old) (S.faults source.new) → (result ≡ Status.LoadRefused) ⊎ (result ≡ Status.NoMemory) }
 
     ensures write_fault { result ≡ Status.WriteFault → Rose (K.faults sink.old) (K.faults sink.new) }
     ensures write_fault_part { result ≡ Status.WriteFault
-        → PartlyWrote (word_texts words.now.items) (S.left source.old) (S.left source.new) (K.held sink.old) (K.held sink.new) }
+        → PartlyReported command (S.left source.old) (S.left source.new) (K.held sink.old) (K.held sink.new) }
 
     ensures no_memory { result ≡ Status.NoMemory → K.held sink.new ≡ K.held sink.old }
 
-    // Where nothing fails, a command on an accepted bundle is done, unless memory runs out.
-    ensures complete { IsCommand (word_texts words.now.items) → IsTold (S.left source.old) SomeAccepted
+    ensures complete { IsTold (S.left source.old) SomeAccepted
         → ¬ Rose (S.faults source.old) (S.faults source.new) → ¬ Rose (K.faults sink.old) (K.faults sink.new)
         → (result ≡ Status.Done) ⊎ (result ≡ Status.NoMemory) }
 {
-    let Some(command) = command_of(words) else {
-        refuse(sink, "usage: skybridge --help\n");
-        return Status::BadWords;
-    };
     let bytes = match read_all(alloc, source, INPUT_LIMIT) {
         Ok(bytes) => bytes,
         Err(ReadAll::ReadFault) => {
@@ -139,10 +153,7 @@ pub fn bridge<S: Source, K: Sink>(
         Err(ReadAll::Memory) => return Status::NoMemory,
     };
     match output_of(alloc, command, &bytes) {
-        Ok(text) => match write_all(sink, text.as_bytes()) {
-            Ok(()) => Status::Done,
-            Err(_) => Status::WriteFault,
-        },
+        Ok(text) => write_bytes(sink, text.as_bytes()),
         Err(Refusal::Bundle(why)) => refuse_by(
             sink,
             bundle_line(alloc, why),
@@ -153,7 +164,95 @@ pub fn bridge<S: Source, K: Sink>(
     }
 }
 
-/// The definitions give one text of a command and a bundle: any two are equal.
+// The bytes of a text.
+fn bytes_of(text: Result<String, AllocError>) -> Result<Vec<u8>, AllocError>
+    ensures { IfOk result (λ bytes. IsOkAnd text (λ text. bytes.items ≡ string_bytes text)) }
+{
+    match text {
+        Ok(text) => Ok(text.into_bytes()),
+        Err(AllocError) => Err(AllocError),
+    }
+}
+
+/// Runs the command of the words, from the source to the sink.
+///
+/// A refusal keeps its status where its line could not be written whole. Causes are tried in the order words, reading,
+/// bundle, loading, run, writing; once the words are a command, `NoMemory` may come anywhere between. Commands that read no bundle leave the source as it is.
+pub fn bridge<S: Source, K: Sink>(
+    alloc: Global,
+    words: &Vec<String>,
+    source: &mut S,
+    sink: &mut K,
+) -> Status
+    // The words are a command, and its text was appended: of an accepted bundle, which was read to the end of the source;
+    // the summary of the generated bundle's run; that bundle itself; or the help text.
+    ensures done { result ≡ Status.Done
+        → Wrote (word_texts words.now.items) (S.left source.old) (S.left source.new) (K.held sink.old) (K.held sink.new) }
+    // The landing lines of a report can be left out: the others are the lines of a machine that calls in one step. And
+    // VMFUNC's bytes may be fetched at one address alone.
+    ensures lawful { result ≡ Status.Done → ReadsBundle (word_texts words.now.items)
+        → WroteLawfully (word_texts words.now.items) (S.left source.old) (S.left source.new) (K.held sink.old) (K.held sink.new) }
+
+    ensures bad_words { (result ≡ Status.BadWords) ↔ (¬ IsCommand (word_texts words.now.items)) }
+    ensures bad_words_line { result ≡ Status.BadWords
+        → WritesLine (K.held sink.old) (K.held sink.new) (K.faults sink.old) (K.faults sink.new) usage_line }
+
+    // Where the words are no command that reads a bundle, nothing is read, and no answer speaks of reading.
+    ensures unread { ¬ ReadsBundle (word_texts words.now.items) → source.new ≡ source.old }
+    ensures own { ¬ ReadsBundle (word_texts words.now.items) → IsOwn result }
+
+    ensures read_fault { result ≡ Status.ReadFault → Rose (S.faults source.old) (S.faults source.new) }
+    ensures read_fault_line { result ≡ Status.ReadFault
+        → WritesLine (K.held sink.old) (K.held sink.new) (K.faults sink.old) (K.faults sink.new) read_fault_line }
+
+    // An input that is longer than the limit is refused as such, and no other input is.
+    ensures too_long { result ≡ Status.TooLong → WhereTold (S.left source.old) IsTooLong }
+    ensures long { ReadsBundle (word_texts words.now.items) → IsTold (S.left source.old) IsTooLong
+        → ¬ Rose (S.faults source.old) (S.faults source.new) → (result ≡ Status.TooLong) ⊎ (result ≡ Status.NoMemory) }
+    ensures too_long_line { result ≡ Status.TooLong
+        → WritesLine (K.held sink.old) (K.held sink.new) (K.faults sink.old) (K.faults sink.new) too_long_line }
+
+    // An input that is no bundle is refused as such, and no other input is.
+    ensures bundle_refused { result ≡ Status.BundleRefused
+        → RefusedBundle (S.left source.old) (S.left source.new) (K.held sink.old) (K.held sink.new) (K.faults sink.old) (K.faults sink.new) }
+    ensures no_bundle { ReadsBundle (word_texts words.now.items) → IsTold (S.left source.old) SomeNoBundle
+        → ¬ Rose (S.faults source.old) (S.faults source.new) → (result ≡ Status.BundleRefused) ⊎ (result ≡ Status.NoMemory) }
+
+    // A bundle that the loader refuses is refused as such, and no other input is.
+    ensures load_refused { result ≡ Status.LoadRefused
+        → RefusedLoad (S.left source.old) (S.left source.new) (K.held sink.old) (K.held sink.new) (K.faults sink.old) (K.faults sink.new) }
+    ensures not_loadable { ReadsBundle (word_texts words.now.items) → IsTold (S.left source.old) SomeNotLoadable
+        → ¬ Rose (S.faults source.old) (S.faults source.new) → (result ≡ Status.LoadRefused) ⊎ (result ≡ Status.NoMemory) }
+
+    ensures write_fault { result ≡ Status.WriteFault → Rose (K.faults sink.old) (K.faults sink.new) }
+    ensures write_fault_part { result ≡ Status.WriteFault
+        → PartlyWrote (word_texts words.now.items) (S.left source.old) (S.left source.new) (K.held sink.old) (K.held sink.new) }
+
+    ensures no_memory { result ≡ Status.NoMemory → K.held sink.new ≡ K.held sink.old }
+
+    // Where nothing fails, a command on an accepted bundle is done, and so is each of the other commands, unless memory
+    // runs out.
+    ensures complete { ReadsBundle (word_texts words.now.items) → IsTold (S.left source.old) SomeAccepted
+        → ¬ Rose (S.faults source.old) (S.faults source.new) → ¬ Rose (K.faults sink.old) (K.faults sink.new)
+        → (result ≡ Status.Done) ⊎ (result ≡ Status.NoMemory) }
+    ensures complete_alone { IsCommand (word_texts words.now.items) → ¬ ReadsBundle (word_texts words.now.items)
+        → ¬ Rose (K.faults sink.old) (K.faults sink.new) → (result ≡ Status.Done) ⊎ (result ≡ Status.NoMemory) }
+{
+    match command_of(words) {
+        None => {
+            refuse(sink, "usage: skybridge --help\n");
+            Status::BadWords
+        }
+        Some(Command::OfBundle(command)) => run_on_bundle(alloc, command, source, sink),
+        Some(Command::Generate(number)) => write_made(sink, bytes_of(summary(alloc, number))),
+        Some(Command::GenerateBundle(number)) => write_made(sink, generated_bytes(alloc, number)),
+        Some(Command::Help) => write_made(sink, bytes_of(help_text(alloc))),
+    }
+}
+
+/// A law, which does nothing when it is called: the definitions give one text of a command and a bundle, and one summary of
+/// a generated bundle's run.
 pub fn one_output()
-    ensures { (command : Command) (bundle : Bundle) (text other : List ℕ) → IsOutput command bundle text → IsOutput command bundle other → text ≡ other }
+    ensures of_bundle { (command : BundleCommand) (bundle : Bundle) (text other : List ℕ) → IsOutput command bundle text → IsOutput command bundle other → text ≡ other }
+    ensures made { (number : ℕ) (text other : List ℕ) → IsSummary number text → IsSummary number other → text ≡ other }
 {}

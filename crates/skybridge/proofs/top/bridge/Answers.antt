@@ -1,42 +1,14 @@
-use Rattle.skybridge.proofs.Apart.{reported_spelled, reported_loaded, unread_spelled, unread_accepted, unloaded_spelled, unloaded_accepted, unloaded_told}
-use Rattle.skybridge.proofs.Parts.{line_of_refusal}
+use Rattle.skybridge.specs.declared.words.Command.TheVariants.{OfBundle}
 use Rattle.skybridge.proofs.top.bridge.Goals as goal
 
-pub returns-in-Ok-write_all-clause-no_bundle : goal.returns-in-Ok-write_all-clause-no_bundle
-returns-in-Ok-write_all-clause-no_bundle g c words told quiet =
-    absurd (reported_spelled _ _ _ _ _ _ c.in-Ok.ensures.read c.deref.ensures.value c.in-Ok-output_of.ensures told)
+pub returns-in-None-clause-long : goal.returns-in-None-clause-long
+returns-in-None-clause-long g c (command, are) told quiet = absurd (c.in-None.ensures.none (OfBundle command, are))
 
-pub returns-in-Ok-write_all-clause-not_loadable : goal.returns-in-Ok-write_all-clause-not_loadable
-returns-in-Ok-write_all-clause-not_loadable g c words told quiet =
-    absurd (reported_loaded _ _ _ _ _ _ c.in-Ok.ensures.read c.deref.ensures.value c.in-Ok-output_of.ensures told)
+pub returns-in-None-clause-no_bundle : goal.returns-in-None-clause-no_bundle
+returns-in-None-clause-no_bundle g c (command, are) told quiet = absurd (c.in-None.ensures.none (OfBundle command, are))
 
-pub returns-in-Ok-output_of-clause-no_bundle : goal.returns-in-Ok-output_of-clause-no_bundle
-returns-in-Ok-output_of-clause-no_bundle g c words told quiet =
-    absurd (reported_spelled _ _ _ _ _ _ c.in-Ok.ensures.read c.deref.ensures.value c.in-Ok-output_of.ensures told)
+pub returns-in-None-clause-not_loadable : goal.returns-in-None-clause-not_loadable
+returns-in-None-clause-not_loadable g c (command, are) told quiet = absurd (c.in-None.ensures.none (OfBundle command, are))
 
-pub returns-in-Ok-output_of-clause-not_loadable : goal.returns-in-Ok-output_of-clause-not_loadable
-returns-in-Ok-output_of-clause-not_loadable g c words told quiet =
-    absurd (reported_loaded _ _ _ _ _ _ c.in-Ok.ensures.read c.deref.ensures.value c.in-Ok-output_of.ensures told)
-
-pub returns-in-Err-Bundle-clause-not_loadable : goal.returns-in-Err-Bundle-clause-not_loadable
-returns-in-Err-Bundle-clause-not_loadable g c words told quiet =
-    absurd (unread_spelled c.in-Some.command _ _ _ _ _ _ c.in-Ok.ensures.read c.deref.ensures.value c.in-Err-Bundle.field-0-is c.in-Err-Bundle.ensures told)
-
-pub returns-in-Err-Bundle-clause-complete : goal.returns-in-Err-Bundle-clause-complete
-returns-in-Err-Bundle-clause-complete g c words told quiet silent =
-    absurd (unread_accepted c.in-Some.command _ _ _ _ _ _ c.in-Ok.ensures.read c.deref.ensures.value c.in-Err-Bundle.field-0-is c.in-Err-Bundle.ensures told)
-
-pub returns-in-Err-Load-clause-no_bundle : goal.returns-in-Err-Load-clause-no_bundle
-returns-in-Err-Load-clause-no_bundle g c words told quiet =
-    absurd (unloaded_spelled c.in-Some.command _ _ _ _ _ _ c.in-Ok.ensures.read c.deref.ensures.value c.in-Err-Load.field-0-is c.in-Err-Load.ensures told)
-
-pub returns-in-Err-Load-clause-load_refused : goal.returns-in-Err-Load-clause-load_refused
-returns-in-Err-Load-clause-load_refused g c refused = (
-  c.in-Err-Load.why,
-  unloaded_told c.in-Some.command _ _ _ _ _ _ c.in-Ok.ensures.read c.deref.ensures.value c.in-Ok.ensures.within c.in-Err-Load.field-0-is c.in-Err-Load.ensures,
-  line_of_refusal _ _ _ _ _ _ c.load_line.result c.load_line.ensures c.refuse_by-in-Err-Load.ensures.written refused,
-)
-
-pub returns-in-Err-Load-clause-complete : goal.returns-in-Err-Load-clause-complete
-returns-in-Err-Load-clause-complete g c words told quiet silent =
-    absurd (unloaded_accepted c.in-Some.command _ _ _ _ _ _ c.in-Ok.ensures.read c.deref.ensures.value c.in-Err-Load.field-0-is c.in-Err-Load.ensures told)
+pub returns-in-None-clause-complete : goal.returns-in-None-clause-complete
+returns-in-None-clause-complete g c (command, are) told quiet silent = absurd (c.in-None.ensures.none (OfBundle command, are))

@@ -1,0 +1,155 @@
+//! The summary of a run: how many lines of each kind its report has.
+
+ghost use Rattle.std.specs.Prelude.{◌≡◌, ◌++◌, IfOk, OnOk, flat_map, string_bytes};
+ghost use Rattle.skybridge.specs.Summary.{counts_as as counts_as_at, count_of as count_in, count_line, counts_text, summary_text as text_of_summary};
+
+use sb_trace::{EndState, Event, Line, Lines};
+use std::alloc::{AllocError, Global};
+use std::fmt;
+
+/// What a line of a report counts as.
+#[derive(Clone, Copy, Debug, PartialEq, Eq)]
+enum Kind {
+    /// An instruction: listed, added by the rewriter, or strayed.
+    Step,
+    Print,
+    /// A system call that neither prints nor exits.
+    Sys,
+    Exit,
+    Fault,
+    ServerFault,
+    ServerExit,
+    Entered,
+    WrongKey,
+    PoolEmpty,
+    Unbound,
+    BadLeaf,
+    Return,
+    Turn,
+    Landing,
+    Idle,
+}
+
+/// All kinds, in the order of the summary.
+const KINDS: [Kind; 16] = [
+    Kind::Step,
+    Kind::Print,
+    Kind::Sys,
+    Kind::Exit,
+    Kind::Fault,
+    Kind::ServerFault,
+    Kind::ServerExit,
+    Kind::Entered,
+    Kind::WrongKey,
+    Kind::PoolEmpty,
+    Kind::Unbound,
+    Kind::BadLeaf,
+    Kind::Return,
+    Kind::Turn,
+    Kind::Landing,
+    Kind::Idle,
+];
+
+impl fmt::Display for Kind {
+    ghost use Rattle.std.specs.Prelude.{Some};
+    ghost use Rattle.skybridge.specs.Summary.{kind_text};
+
+    ghost output = { λ kind. Some (kind_text kind) };
+
+    fn fmt<W: fmt::Write>(&self, f: &mut fmt::Formatter<W>) -> fmt::Result {
+        f.write_str(match self {
+            Kind::Step => "step",
+            Kind::Print => "print",
+            Kind::Sys => "sys",
+            Kind::Exit => "exit",
+            Kind::Fault => "fault",
+            Kind::ServerFault => "server fault",
+            Kind::ServerExit => "server exit",
+            Kind::Entered => "entered",
+            Kind::WrongKey => "wrong key",
+            Kind::PoolEmpty => "pool empty",
+            Kind::Unbound => "unbound",
+            Kind::BadLeaf => "bad leaf",
+            Kind::Return => "return",
+            Kind::Turn => "turn",
+            Kind::Landing => "landing",
+            Kind::Idle => "idle",
+        })
+    }
+}
+
+/// Whether a line with this event counts as one of the kind.
+fn counts_as(kind: Kind, event: Event) -> bool
+    ensures { result ≡ counts_as_at kind event }
+{
+    match event {
+        Event::Step { .. } | Event::Extra { .. } | Event::Stray { .. } => matches!(
+            kind,
+            Kind::Step
+        ),
+        Event::Printed { .. } => matches!(kind, Kind::Print),
+        Event::Sys { .. } => matches!(kind, Kind::Sys),
+        Event::Exit { .. } => matches!(kind, Kind::Exit),
+        Event::Fault { .. } => matches!(kind, Kind::Fault),
+        Event::ServerFault { .. } => matches!(kind, Kind::ServerFault),
+        Event::ServerExit { .. } => matches!(kind, Kind::ServerExit),
+        Event::Entered { .. } => matches!(kind, Kind::Entered),
+        Event::WrongKey { .. } => matches!(kind, Kind::WrongKey),
+        Event::PoolEmpty { .. } => matches!(kind, Kind::PoolEmpty),
+        Event::Unbound { .. } => matches!(kind, Kind::Unbound),
+        Event::BadLeaf { .. } => matches!(kind, Kind::BadLeaf),
+        Event::Return => matches!(kind, Kind::Return),
+        Event::Turn => matches!(kind, Kind::Turn),
+        Event::Landing { .. } => matches!(kind, Kind::Landing),
+        Event::Idle => matches!(kind, Kind::Idle),
+    }
+}
+
+/// How many lines are of the kind.
+fn count_of(lines: &[Line], kind: Kind) -> usize
+    ensures { result ≡ count_in lines.now kind }
+{
+    let mut count = 0;
+    for line in lines {
+        if counts_as(kind, line.event) {
+            count += 1;
+        }
+    }
+    count
+}
+
+/// Puts a line for each of these kinds.
+fn push_counts(out: &mut String, lines: &[Line], kinds: &[Kind]) -> Result<(), AllocError>
+    ensures { OnOk result (string_bytes out.new ≡ string_bytes out.old ++ flat_map (count_line lines.now) kinds.now) }
+{
+    for kind in kinds {
+        let count = count_of(lines, *kind);
+        write!(out, "{kind} {count}\n")?;
+    }
+    Ok(())
+}
+
+/// Puts a line for each kind.
+#[tactic(auto, unfolding(crate::specs::Summary::counts_text))]
+fn push_all_counts(out: &mut String, lines: &[Line]) -> Result<(), AllocError>
+    ensures { OnOk result (string_bytes out.new ≡ string_bytes out.old ++ counts_text lines.now) }
+{
+    push_counts(out, lines, &KINDS)
+}
+
+/// The summary of a run with these lines and this last state, of the bundle that is generated from the number.
+pub fn summary_text(
+    alloc: Global,
+    number: u64,
+    lines: &Lines,
+    end: &EndState,
+) -> Result<String, AllocError>
+    ensures { IfOk result (λ text. string_bytes text ≡ text_of_summary number lines.now end.now) }
+{
+    let mut out = String::new(alloc);
+    write!(out, "gen {number}\n")?;
+    push_all_counts(&mut out, lines.items())?;
+    let free = end.free;
+    write!(out, "free {free}\nend\n")?;
+    Ok(out)
+}
