@@ -1,6 +1,6 @@
 //! The top call.
 
-ghost use Rattle.std.specs.Prelude.{◌≡◌, ◌≤◌, ℕ, List, ◌↔◌, ◌⊎◌, IfOk, IsOkAnd, MatchResult, string_bytes};
+ghost use Rattle.std.specs.Prelude.{◌≡◌, ◌≤◌, ℕ, List, ◌↔◌, ◌⊎◌, IsErr, IsOkAnd, MatchResult, string_bytes};
 ghost use Rattle.sb_port.specs.Port.{Rose, Appended};
 ghost use Rattle.sb_bundle.specs.declared.bundle.Bundle.{Bundle};
 ghost use Rattle.skybridge.specs.Input.{IsTooLong, SomeNoBundle, SomeNotLoadable, SomeAccepted};
@@ -164,14 +164,11 @@ fn run_on_bundle<S: Source, K: Sink>(
     }
 }
 
-// The bytes of a text.
+// The bytes of a text, where there was memory for it.
 fn bytes_of(text: Result<String, AllocError>) -> Result<Vec<u8>, AllocError>
-    ensures { IfOk result (λ bytes. IsOkAnd text (λ text. bytes.items ≡ string_bytes text)) }
+    ensures { MatchResult text (λ text. IsOkAnd result (λ bytes. bytes.items ≡ string_bytes text)) (λ _. IsErr result) }
 {
-    match text {
-        Ok(text) => Ok(text.into_bytes()),
-        Err(AllocError) => Err(AllocError),
-    }
+    text.map(String::into_bytes)
 }
 
 /// Runs the command of the words, from the source to the sink.
