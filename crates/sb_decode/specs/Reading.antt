@@ -1,6 +1,9 @@
 -- Reading from left to right: a reader gives a field and the bytes behind it, or says why it cannot.
 use Rattle.std.specs.Prelude.{◌≡◌, List, ℕ, Result, Ok, Err}
 use Rattle.std.specs.Borrow.{Bor}
+use Rattle.sb_insn.specs.declared.opcode_map.Cell.{Cell}
+use Rattle.sb_insn.specs.OpcodeMap.{cell_of}
+use Rattle.sb_decode.specs.declared.front.Front.{Front}
 use Rattle.sb_decode.specs.declared.fault.DecodeFault.{DecodeFault}
 
 -- What reading gives: a field and the bytes behind it.
@@ -11,6 +14,11 @@ Read Field = Result (Field × List ℕ) DecodeFault
 abbrev pub Gives : {Field : Type 0} → Result (Field × Bor (List ℕ)) DecodeFault → Read Field → Type 0
 Gives (Ok got) read = read ≡ Ok (got.0, got.1.now)
 Gives (Err fault) read = read ≡ Err fault
+
+-- a function that returned the front of an instruction, with what the opcode maps say of it, and a slice gave what is read
+abbrev pub GivesFront : Result ((Front × Cell) × Bor (List ℕ)) DecodeFault → Read Front → Type 0
+GivesFront (Ok got) read = (read ≡ Ok (got.0.0, got.1.now)) × (got.0.1 ≡ cell_of got.0.0.op)
+GivesFront (Err fault) read = read ≡ Err fault
 
 -- go on with what was read
 infixl 10 ◌>>=◌

@@ -10,6 +10,7 @@ use crate::number::{number_8, number_32, number_64};
 use sb_insn::{Cell, Disp, DispKind, Imm, ImmKind, permits_modrm, wants_sib};
 
 /// Whether an opcode has no ModRM byte.
+#[inline(always)]
 fn is_alone(cell: Cell) -> bool
     ensures { result ≡ is_alone cell }
 {
@@ -17,6 +18,7 @@ fn is_alone(cell: Cell) -> bool
 }
 
 /// ModRM, where the opcode has it.
+#[inline(always)]
 #[tactic(auto, unfolding(crate::specs::FieldReaders::modrm_at))]
 pub fn modrm(cell: Cell, front: Front, bytes: &[u8]) -> Result<(Option<u8>, &[u8]), DecodeFault>
     ensures { Gives result (modrm_at cell front.lock front.rex bytes.now) }
@@ -37,6 +39,7 @@ pub fn modrm(cell: Cell, front: Front, bytes: &[u8]) -> Result<(Option<u8>, &[u8
 }
 
 /// SIB, where ModRM wants it.
+#[inline(always)]
 #[tactic(auto, unfolding(crate::specs::FieldReaders::sib_at))]
 pub fn sib(modrm: Option<u8>, bytes: &[u8]) -> Result<(Option<u8>, &[u8]), DecodeFault>
     ensures { Gives result (sib_at modrm bytes.now) }
@@ -51,6 +54,7 @@ pub fn sib(modrm: Option<u8>, bytes: &[u8]) -> Result<(Option<u8>, &[u8]), Decod
 }
 
 /// The displacement.
+#[inline(always)]
 pub fn disp(kind: DispKind, bytes: &[u8]) -> Result<(Disp, &[u8]), DecodeFault>
     ensures { Gives result (disp_at kind bytes.now) }
 {
@@ -68,6 +72,7 @@ pub fn disp(kind: DispKind, bytes: &[u8]) -> Result<(Disp, &[u8]), DecodeFault>
 }
 
 /// The immediate.
+#[inline(always)]
 pub fn imm(kind: ImmKind, bytes: &[u8]) -> Result<(Imm, &[u8]), DecodeFault>
     ensures { Gives result (imm_at kind bytes.now) }
 {

@@ -2,7 +2,7 @@
 
 ghost use Rattle.std.specs.Prelude.{◌≡◌, [], ◌∷◌};
 ghost use Rattle.sb_decode.specs.FrontReader.{front_of, group_locks, takes_prefixes, is_front, checked, ending, second_at, opcode_at, rex_at, front_at};
-ghost use Rattle.sb_decode.specs.Reading.{Gives};
+ghost use Rattle.sb_decode.specs.Reading.{GivesFront};
 
 use crate::fault::DecodeFault;
 use sb_insn::{Cell, Group, Op, RexRule, cell_of, is_rex};
@@ -19,6 +19,7 @@ pub struct Front {
 }
 
 /// Whether some instruction of the group has LOCK.
+#[inline(always)]
 fn group_locks(group: Group) -> bool
     ensures { result ≡ group_locks group }
 {
@@ -29,6 +30,7 @@ fn group_locks(group: Group) -> bool
 }
 
 /// Whether some instruction with this opcode has these prefixes.
+#[inline(always)]
 fn takes_prefixes(cell: Cell, lock: bool, rex: Option<u8>) -> bool
     ensures { result ≡ takes_prefixes cell lock rex }
 {
@@ -43,68 +45,66 @@ fn takes_prefixes(cell: Cell, lock: bool, rex: Option<u8>) -> bool
     }
 }
 
-impl Front {
-    /// Whether some instruction begins with it.
-    fn is_begun(&self) -> bool
-        ensures { result ≡ is_front self.now }
-    {
-        takes_prefixes(cell_of(self.op), self.lock, self.rex)
-    }
-}
-
 /// The whole front is read: does its opcode go with its prefixes?
-fn checked(front: Front, rest: &[u8]) -> Result<(Front, &[u8]), DecodeFault>
-    ensures { Gives result (checked front rest.now) }
+#[inline(always)]
+fn checked(front: Front, rest: &[u8]) -> Result<((Front, Cell), &[u8]), DecodeFault>
+    ensures { GivesFront result (checked front rest.now) }
 {
-    if front.is_begun() {
-        Ok((front, rest))
+    let cell = cell_of(front.op);
+    if takes_prefixes(cell, front.lock, front.rex) {
+        Ok(((front, cell), rest))
     } else {
         Err(DecodeFault::Undecoded)
     }
 }
 
 /// The bytes behind 0F 01: D4 makes VMFUNC.
-fn vmfunc(lock: bool, rex: Option<u8>, bytes: &[u8]) -> Result<(Front, &[u8]), DecodeFault>
-    ensures { Gives result (ending (0xD4 ∷ []) (front_of lock rex Op.Vmfunc) bytes.now) }
+#[inline(always)]
+fn vmfunc(lock: bool, rex: Option<u8>, bytes: &[u8]) -> Result<((Front, Cell), &[u8]), DecodeFault>
+    ensures { GivesFront result (ending (0xD4 ∷ []) (front_of lock rex Op.Vmfunc) bytes.now) }
 {
     let front = Front {
         lock,
         rex,
         op: Op::Vmfunc,
     };
-    if !front.is_begun() {
+    let cell = cell_of(front.op);
+    if !takes_prefixes(cell, lock, rex) {
         return Err(DecodeFault::Undecoded);
     }
     match bytes {
         [] => Err(DecodeFault::Short),
-        [0xD4, rest @ ..] => Ok((front, rest)),
+        [0xD4, rest @ ..] => Ok(((front, cell), rest)),
         [_, ..] => Err(DecodeFault::Undecoded),
     }
 }
 
 /// The bytes behind F3: 0F 1E FA make ENDBR64.
-fn endbr64(lock: bool, rex: Option<u8>, bytes: &[u8]) -> Result<(Front, &[u8]), DecodeFault>
-    ensures { Gives result (ending (0x0F ∷ 0x1E ∷ 0xFA ∷ []) (front_of lock rex Op.Endbr) bytes.now) }
+#[inline(always)]
+fn endbr64(lock: bool, rex: Option<u8>, bytes: &[u8]) -> Result<((Front, Cell), &[u8]), DecodeFault>
+    ensures { GivesFront result (ending (0x0F ∷ 0x1E ∷ 0xFA ∷ []) (front_of lock rex Op.Endbr) bytes.now) }
 {
     let front = Front {
         lock,
         rex,
         op: Op::Endbr,
     };
-    if !front.is_begun() {
+    let cell = cell_of(front.op);
+    if !takes_prefixes(cell, lock, rex) {
         return Err(DecodeFault::Undecoded);
     }
     match bytes {
         [] | [0x0F] | [0x0F, 0x1E] => Err(DecodeFault::Short),
-        [0x0F, 0x1E, 0xFA, rest @ ..] => Ok((front, rest)),
+        [0x0F, 0x1E, 0xFA, rest @ ..] => Ok(((front, cell), rest)),
         _ => Err(DecodeFault::Undecoded),
     }
 }
 
 /// The bytes behind 0F, which leads to the two-byte opcode map.
+#[inline(always)]
 #[tactic(auto, unfolding(crate::specs::FrontReader::second_at))]
-fn second(lock: bool, rex: Option<u8>, bytes: &[u8]) -> Result<(Front, &[u8]), DecodeFault>
-    ensures { Gives result (second_at lock rex bytes.now) }
+fn second(lock: bool, rex: Option<u8>, bytes: &[u8]) -> Result<((Front, Cell), &[u8]), DecodeFault>
+    ensures { GivesFront result (second_at lock rex bytes.now) }
 {
     match bytes {
         [] => Err(DecodeFault::Short),
@@ -117,9 +117,10 @@ fn second(lock: bool, rex: Option<u8>, bytes: &[u8]) -> Result<(Front, &[u8]), D
 }
 
 /// The bytes behind the prefixes.
+#[inline(always)]
 #[tactic(auto, unfolding(crate::specs::FrontReader::opcode_at))]
-fn opcode(lock: bool, rex: Option<u8>, bytes: &[u8]) -> Result<(Front, &[u8]), DecodeFault>
-    ensures { Gives result (opcode_at lock rex bytes.now) }
+fn opcode(lock: bool, rex: Option<u8>, bytes: &[u8]) -> Result<((Front, Cell), &[u8]), DecodeFault>
+    ensures { GivesFront result (opcode_at lock rex bytes.now) }
 {
     match bytes {
         [] => Err(DecodeFault::Short),
@@ -133,9 +134,10 @@ fn opcode(lock: bool, rex: Option<u8>, bytes: &[u8]) -> Result<(Front, &[u8]), D
 }
 
 /// The bytes behind LOCK, or the first ones where it does not stand.
+#[inline(always)]
 #[tactic(auto, unfolding(crate::specs::FrontReader::rex_at))]
-fn rex(lock: bool, bytes: &[u8]) -> Result<(Front, &[u8]), DecodeFault>
-    ensures { Gives result (rex_at lock bytes.now) }
+fn rex(lock: bool, bytes: &[u8]) -> Result<((Front, Cell), &[u8]), DecodeFault>
+    ensures { GivesFront result (rex_at lock bytes.now) }
 {
     match bytes {
         [] => Err(DecodeFault::Short),
@@ -149,10 +151,11 @@ fn rex(lock: bool, bytes: &[u8]) -> Result<(Front, &[u8]), DecodeFault>
     }
 }
 
-/// The front of an instruction, and the bytes behind it.
+/// The front of an instruction with the cell of its opcode, and the bytes behind it.
+#[inline(always)]
 #[tactic(auto, unfolding(crate::specs::FrontReader::front_at))]
-pub fn read(bytes: &[u8]) -> Result<(Front, &[u8]), DecodeFault>
-    ensures { Gives result (front_at bytes.now) }
+pub fn read(bytes: &[u8]) -> Result<((Front, Cell), &[u8]), DecodeFault>
+    ensures { GivesFront result (front_at bytes.now) }
 {
     match bytes {
         [] => Err(DecodeFault::Short),

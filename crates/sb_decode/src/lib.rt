@@ -22,7 +22,7 @@ ghost use Rattle.sb_decode.specs.InsnReader.{parts_at, from_parts};
 ghost use Rattle.sb_decode.specs.Decode.{Decodes, NoneBeginsAnother, OneBegins, SpelledApart, OneAnswer};
 
 pub use fault::DecodeFault;
-use sb_insn::{Insn, cell_of, disp_kind, imm_kind};
+use sb_insn::{Insn, disp_kind, imm_kind};
 
 /// The instruction with which the bytes begin, and its length in bytes (SDM volume 2, chapter 2).
 ///
@@ -53,12 +53,12 @@ pub fn one_spelling()
 {}
 
 /// The instruction, and the bytes behind it.
+#[inline(always)]
 #[tactic(auto, unfolding(crate::specs::InsnReader::parts_at))]
 fn insn(bytes: &[u8]) -> Result<(Insn, &[u8]), DecodeFault>
     ensures { Gives result (from_parts (parts_at bytes.now)) }
 {
-    let (front, rest) = front::read(bytes)?;
-    let cell = cell_of(front.op);
+    let ((front, cell), rest) = front::read(bytes)?;
     let (modrm, rest) = fields::modrm(cell, front, rest)?;
     let (sib, rest) = fields::sib(modrm, rest)?;
     let (disp, rest) = fields::disp(disp_kind(modrm, sib), rest)?;

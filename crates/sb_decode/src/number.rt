@@ -7,6 +7,7 @@ ghost use Rattle.sb_decode.specs.FieldReaders.{number_at};
 use crate::fault::DecodeFault;
 
 /// A number of one byte, and the bytes behind it.
+#[inline(always)]
 #[tactic(auto, unfolding(crate::specs::FieldReaders::number_at))]
 pub fn number_8(bytes: &[u8]) -> Result<(i8, &[u8]), DecodeFault>
     ensures { Gives result (number_at w8 bytes.now) }
@@ -19,6 +20,7 @@ pub fn number_8(bytes: &[u8]) -> Result<(i8, &[u8]), DecodeFault>
 }
 
 /// A number of four bytes, and the bytes behind it.
+#[inline(always)]
 #[tactic(auto, unfolding(crate::specs::FieldReaders::number_at))]
 pub fn number_32(bytes: &[u8]) -> Result<(i32, &[u8]), DecodeFault>
     ensures { Gives result (number_at w32 bytes.now) }
@@ -32,6 +34,7 @@ pub fn number_32(bytes: &[u8]) -> Result<(i32, &[u8]), DecodeFault>
 }
 
 /// A number of eight bytes, and the bytes behind it.
+#[inline(always)]
 #[tactic(auto, unfolding(crate::specs::FieldReaders::number_at))]
 pub fn number_64(bytes: &[u8]) -> Result<(i64, &[u8]), DecodeFault>
     ensures { Gives result (number_at w64 bytes.now) }

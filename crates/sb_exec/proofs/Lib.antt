@@ -8,6 +8,7 @@ pub mod Stopping
 pub mod Laws
 pub mod Fetched
 pub mod OneFetch
+pub mod AtOnce
 pub mod Stops
 pub mod Keeps
 pub mod Simulation

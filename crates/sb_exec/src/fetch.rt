@@ -1,7 +1,7 @@
 //! Instructions fetched from memory.
 
-ghost use Rattle.std.specs.Prelude.{◌≡◌, IfOk};
-ghost use Rattle.sb_insn.specs.Grammar.{IsValid};
+ghost use Rattle.std.specs.Prelude.{◌≡◌, IfOk, IfSome};
+ghost use Rattle.sb_insn.specs.Grammar.{IsValid, BeginsWith};
 ghost use Rattle.sb_exec.specs.Fetching.{FetchesOn, OneFetch, OneFetchOn};
 
 use crate::bus::Bus;
@@ -38,6 +38,19 @@ pub fn fetch_insn<B: Bus>(bus: &mut B, rip: u64) -> Result<Insn, BusStop>
                 len += 1;
             }
         }
+    }
+}
+
+/// The instruction with which bytes begin, where one does.
+///
+/// Where these bytes stand in memory from an address on, it is the one that `fetch_insn` gives there
+/// (`proofs/AtOnce.antt`), so a bus that has the bytes of a page at hand need not ask for each of them.
+pub fn first_insn(bytes: &[u8]) -> Option<Insn>
+    ensures { IfSome result (λ insn. BeginsWith bytes.now insn) }
+{
+    match decode(bytes) {
+        Ok((insn, _)) => Some(insn),
+        Err(_) => None,
     }
 }
 

@@ -42,7 +42,7 @@ pub use action::{
     Action, After, Effect, Exchange, Load, MemoryUse, Operation, Outcome, Place, Store,
 };
 pub use bus::Bus;
-pub use fetch::{fetch_insn, one_fetch, one_fetch_on};
+pub use fetch::{fetch_insn, first_insn, one_fetch, one_fetch_on};
 pub use pair::{
     Pair, executes_agreeing, executes_told, rows_agreeing, rows_alike, rows_in, rows_told,
 };

@@ -8,6 +8,7 @@ use crate::opcode_map::{Cell, ImmRule, Operand, RexRule, RmRule};
 use crate::opcodes::operand_of;
 
 /// Whether the byte is a REX prefix: 40 to 4F.
+#[inline(always)]
 pub fn is_rex(byte: u8) -> bool
     ensures { result ≡ is_rex byte }
 {
@@ -15,6 +16,7 @@ pub fn is_rex(byte: u8) -> bool
 }
 
 /// Whether the operand that rm names is a register: mod is 3.
+#[inline(always)]
 fn is_register(modrm: u8) -> bool
     ensures { result ≡ is_register modrm }
 {
@@ -22,6 +24,7 @@ fn is_register(modrm: u8) -> bool
 }
 
 /// Whether a byte register is named that only a REX byte gives: without one, 4 to 7 are AH, CH, DH and BH.
+#[inline(always)]
 fn needs_rex(operand: &Operand, modrm: u8) -> bool
     ensures { result ≡ needs_rex operand.now modrm }
 {
@@ -30,6 +33,7 @@ fn needs_rex(operand: &Operand, modrm: u8) -> bool
 }
 
 /// Whether this REX field may stand before an opcode without ModRM byte.
+#[inline(always)]
 fn permits_rex(rule: RexRule, rex: Option<u8>) -> bool
     ensures { result ≡ permits_rex rule rex }
 {
@@ -40,6 +44,7 @@ fn permits_rex(rule: RexRule, rex: Option<u8>) -> bool
 }
 
 /// Whether rm names what the opcode takes.
+#[inline(always)]
 fn permits_rm(rule: RmRule, modrm: u8) -> bool
     ensures { result ≡ permits_rm rule modrm }
 {
@@ -50,6 +55,7 @@ fn permits_rm(rule: RmRule, modrm: u8) -> bool
 }
 
 /// Whether an opcode with these operands permits this ModRM byte behind these prefixes.
+#[inline(always)]
 #[tactic(auto, unfolding(crate::specs::Fields::permits))]
 fn permits(operand: &Operand, lock: bool, rex: Option<u8>, modrm: u8) -> bool
     ensures { result ≡ permits operand.now lock rex modrm }
@@ -59,6 +65,7 @@ fn permits(operand: &Operand, lock: bool, rex: Option<u8>, modrm: u8) -> bool
 }
 
 /// Whether an opcode behind these prefixes permits this ModRM byte.
+#[inline(always)]
 pub fn permits_modrm(cell: Cell, lock: bool, rex: Option<u8>, modrm: u8) -> bool
     ensures { result ≡ is_modrm_field cell lock rex (Some modrm) }
 {
@@ -69,6 +76,7 @@ pub fn permits_modrm(cell: Cell, lock: bool, rex: Option<u8>, modrm: u8) -> bool
 }
 
 /// Whether an opcode has no ModRM byte and permits these prefixes.
+#[inline(always)]
 pub fn stands_alone(cell: Cell, lock: bool, rex: Option<u8>) -> bool
     ensures { result ≡ stands_alone cell lock rex }
 {
@@ -79,6 +87,7 @@ pub fn stands_alone(cell: Cell, lock: bool, rex: Option<u8>) -> bool
 }
 
 /// Whether an SIB byte stands behind this ModRM byte.
+#[inline(always)]
 #[tactic(auto, unfolding(crate::specs::Fields::has_sib))]
 fn has_sib(modrm: u8) -> bool
     ensures { result ≡ has_sib modrm }
@@ -87,6 +96,7 @@ fn has_sib(modrm: u8) -> bool
 }
 
 /// Whether an SIB byte stands behind this ModRM field.
+#[inline(always)]
 pub fn wants_sib(modrm: Option<u8>) -> bool
     ensures { result ≡ wants_sib modrm }
 {
@@ -97,6 +107,7 @@ pub fn wants_sib(modrm: Option<u8>) -> bool
 }
 
 /// Whether the SIB byte names no base register where mod is 0: base is 5.
+#[inline(always)]
 fn has_no_base(sib: Option<u8>) -> bool
     ensures { result ≡ has_no_base sib }
 {
@@ -107,6 +118,7 @@ fn has_no_base(sib: Option<u8>) -> bool
 }
 
 /// Which displacement stands behind this ModRM byte and this SIB field.
+#[inline(always)]
 #[tactic(auto, unfolding(crate::specs::Fields::modrm_disp))]
 fn modrm_disp(modrm: u8, sib: Option<u8>) -> DispKind
     ensures { result ≡ modrm_disp modrm sib }
@@ -126,6 +138,7 @@ fn modrm_disp(modrm: u8, sib: Option<u8>) -> DispKind
 }
 
 /// Which displacement stands behind these fields.
+#[inline(always)]
 pub fn disp_kind(modrm: Option<u8>, sib: Option<u8>) -> DispKind
     ensures { result ≡ disp_kind_of modrm sib }
 {
@@ -136,6 +149,7 @@ pub fn disp_kind(modrm: Option<u8>, sib: Option<u8>) -> DispKind
 }
 
 /// Which immediate the opcode wants with this ModRM field.
+#[inline(always)]
 fn rule_of(cell: Cell, modrm: Option<u8>) -> ImmRule
     ensures { result ≡ rule_of cell modrm }
 {
@@ -152,6 +166,7 @@ fn rule_of(cell: Cell, modrm: Option<u8>) -> ImmRule
 }
 
 /// Whether REX.W is set.
+#[inline(always)]
 fn is_wide(rex: Option<u8>) -> bool
     ensures { result ≡ is_wide rex }
 {
@@ -162,6 +177,7 @@ fn is_wide(rex: Option<u8>) -> bool
 }
 
 /// Which immediate stands behind these fields.
+#[inline(always)]
 pub fn imm_kind(cell: Cell, modrm: Option<u8>, rex: Option<u8>) -> ImmKind
     ensures { result ≡ imm_kind_of (rule_of cell modrm) rex }
 {

@@ -190,6 +190,7 @@ pub fn cell_of(op: Op) -> Cell
 }
 
 /// What a reg field makes of an opcode of the group, whose operands and immediate the opcode gives.
+#[inline(always)]
 #[tactic(auto, unfolding(crate::specs::Groups::group_operand))]
 fn group_operand(group: Group, form: OperandForm, imm: ImmRule, digit: u8) -> Option<Operand>
     ensures { result ≡ group_operand group form imm digit }
@@ -219,6 +220,7 @@ fn group_operand(group: Group, form: OperandForm, imm: ImmRule, digit: u8) -> Op
 }
 
 /// What a ModRM byte with this reg field means behind an opcode.
+#[inline(always)]
 pub fn operand_of(cell: Cell, reg: u8) -> Option<Operand>
     ensures { result ≡ operand_at cell reg }
 {

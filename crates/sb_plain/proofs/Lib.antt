@@ -2,9 +2,12 @@ pub mod ByThread
 pub mod Faults
 pub mod Names
 pub mod Places
+pub mod Known
 pub mod Starting
 pub mod Reached
+pub mod InPage
 pub mod Spots
+pub mod WholeWord
 pub mod WordBytes
 pub mod Writing
 pub mod Threads

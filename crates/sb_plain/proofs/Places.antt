@@ -12,7 +12,8 @@ use Rattle.sb_trace.specs.PageName.{same_name}
 use Rattle.sb_trace.specs.State.{find_page, replaced, bytes_of}
 use Rattle.sb_trace.specs.PageWords.{zeros}
 use Rattle.sb_trace.specs.SystemCall.{with_mode}
-use Rattle.sb_plain.specs.Places.{place_of, equal_names, IsIndex, either, IsNoted, IsWhole, AreWhole, IsBlank, AreBlank, IsSound}
+use Rattle.sb_plain.specs.declared.pages.Known.{Known}
+use Rattle.sb_plain.specs.Places.{IsKnown, AreKnown, place_of, equal_names, IsIndex, either, IsNoted, IsWhole, AreWhole, IsBlank, AreBlank, IsSound}
 use Rattle.sb_plain.proofs.Names.{equal_same, name_same}
 
 -- ---- the place of a name
@@ -84,7 +85,7 @@ pushed_by false same count None behind more = rw more (suc_if same count)
 pushed_by false same count (Some place) behind more = rw more refl
 
 -- the new page is behind the others
-place_pushed : (pages : List Page) (new : Page) (name : PageName)
+pub place_pushed : (pages : List Page) (new : Page) (name : PageName)
     → place_of (pages ++ new ∷ []) name ≡ either (place_of pages name) (if same_name new.name name then Some (length pages) else None)
 place_pushed [] new name = refl
 place_pushed (page ∷ pages) new name =
@@ -244,16 +245,23 @@ pub index_same : (index now : PageName → Option ℕ) (pages same : List Page) 
     → same ≡ pages → IsIndex now same
 index_same index now pages same old places is = λ name. places name ∙ old name ∙ ap (λ (list : List Page). place_of list name) (sym is)
 
+-- a name that is known stays so where each name keeps its place
+pub known_same : (pages now : List Page) (one : Option Known) → ((name : PageName) → place_of now name ≡ place_of pages name)
+    → IsKnown pages one → IsKnown now one
+known_same pages now None same known = tt
+known_same pages now (Some one) same known = same one.name ∙ known
+
 -- a page of the same name in the place of another
-pub sound_set : (index : PageName → Option ℕ) (pages : List Page) (blanks : List (List ℕ)) (capacity spare place : ℕ) (page new : Page)
-    → IsSound index pages blanks capacity spare → place < length pages → page ≡ slice_index_or pages place page → new.name ≡ page.name
-    → length new.bytes ≡ length page.bytes → IsSound index (slice_set pages place new) blanks capacity spare
-sound_set index pages blanks capacity spare place page new sound within at name size = record {
+pub sound_set : (index : PageName → Option ℕ) (pages : List Page) (blanks : List (List ℕ)) (capacity spare place : ℕ) (names : List (Option Known)) (page new : Page)
+    → IsSound index pages blanks capacity spare names → place < length pages → page ≡ slice_index_or pages place page → new.name ≡ page.name
+    → length new.bytes ≡ length page.bytes → IsSound index (slice_set pages place new) blanks capacity spare names
+sound_set index pages blanks capacity spare place names page new sound within at name size = record {
   places = λ other. sound.places other ∙ sym (place_set pages place page new other at name);
   whole = All-set IsWhole pages place new (size ∙ whole_at pages place page sound.whole within at) sound.whole;
   blank = sound.blank;
   room = rw length-set sound.room;
   room_in_index = sound.room_in_index;
+  known = λ k d below. known_same pages (slice_set pages place new) (slice_index_or names k d) (λ other. place_set pages place page new other at name) (sound.known k d below);
 }
 
 -- the bytes of a blank page that was taken
@@ -265,10 +273,10 @@ unfolding zeros
 length_zeros = length-replicate {A = ℕ} 4096 0
 
 -- a page more, for which a blank one was taken
-pub sound_added : (index now : PageName → Option ℕ) (pages grown : List Page) (blanks fewer : List (List ℕ)) (bytes : List ℕ) (capacity spare left : ℕ) (page : Page)
-    → IsSound index pages blanks capacity spare → blanks ≡ fewer ++ bytes ∷ [] → grown ≡ pages ++ page ∷ [] → length page.bytes ≡ 4096
-    → IsIndex now grown → spare ≤ left + 1 → IsSound now grown fewer capacity left
-sound_added index now pages grown blanks fewer bytes capacity spare left page sound taken more size places kept =
+pub sound_added : (index now : PageName → Option ℕ) (pages grown : List Page) (blanks fewer : List (List ℕ)) (bytes : List ℕ) (capacity spare left : ℕ) (names others : List (Option Known)) (page : Page)
+    → IsSound index pages blanks capacity spare names → blanks ≡ fewer ++ bytes ∷ [] → grown ≡ pages ++ page ∷ [] → length page.bytes ≡ 4096
+    → IsIndex now grown → AreKnown grown others → spare ≤ left + 1 → IsSound now grown fewer capacity left others
+sound_added index now pages grown blanks fewer bytes capacity spare left names others page sound taken more size places known kept =
     let fewer_by_one : length blanks ≡ length fewer + 1 = ap length taken ∙ length-append fewer (bytes ∷ []) in
     let one_more : length grown ≡ length pages + 1 = ap length more ∙ length-append pages (page ∷ []) in
     let room = sound.room in
@@ -279,4 +287,5 @@ sound_added index now pages grown blanks fewer bytes capacity spare left page so
       blank = (All-pop IsBlank blanks fewer (Some bytes) taken sound.blank).0;
       room = omega arith;
       room_in_index = omega arith;
+      known = known;
     }

@@ -94,7 +94,7 @@ canonical_by : (test : Bool) (seen : Option Seen) (address value : ℕ) (stop : 
 canonical_by true seen address value stop place others is = seen_by seen address value place others is
 canonical_by false seen address value stop place others is = cc
 
-placed_first : (thread view : ℕ) (state : State) (address value : ℕ) (place : Spot) (others : List Placed)
+pub placed_first : (thread view : ℕ) (state : State) (address value : ℕ) (place : Spot) (others : List Placed)
     → spot_at thread view state address ≡ Ok place
     → placed_at (page_seen state thread view (address / 4096)) address value others ≡ placed_spot place value ∷ others
 unfolding spot_at reached

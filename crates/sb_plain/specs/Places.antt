@@ -7,6 +7,7 @@ use Rattle.sb_trace.specs.declared.page.Page.{Page}
 use Rattle.sb_trace.specs.contracts.page.PageNamePartialEq.TheImpl.{eq-value}
 use Rattle.sb_trace.specs.PageName.{same_name}
 use Rattle.sb_trace.specs.PageWords.{zeros}
+use Rattle.sb_plain.specs.declared.pages.Known.{Known}
 
 -- what `==` answers of two names
 abbrev pub equal_names : PageName → PageName → Bool
@@ -47,11 +48,33 @@ IsBlank bytes = bytes ≡ zeros
 abbrev pub AreBlank : List (List ℕ) → Type 0
 AreBlank pages = All IsBlank pages
 
+-- ---- names whose places are known without the index
+
+abbrev pub known_at : PageName → ℕ → Known
+known_at name place = record { name = name; place = place }
+
+-- this is the place of the name, if one is kept
+abbrev pub IsKnown : List Page → Option Known → Type 0
+IsKnown pages None = Unit {0}
+IsKnown pages (Some known) = place_of pages known.name ≡ Some known.place
+
+abbrev pub AreKnown : List Page → List (Option Known) → Type 0
+AreKnown pages names = All (IsKnown pages) names
+
+abbrev pub KeepsKnown : List (Option Known) → List (Option Known) → Type 0
+KeepsKnown old new = (pages : List Page) → AreKnown pages old → AreKnown pages new
+
+-- one more name may be known
+abbrev pub Remembers : List (Option Known) → List (Option Known) → PageName → Option ℕ → Type 0
+Remembers old new name place = (pages : List Page) → place ≡ place_of pages name → AreKnown pages old → AreKnown pages new
+
 -- What pages keep beside their list: the place of each name, and room for a page for each blank one, in the list and in the
 -- index.
-pub record IsSound (index : PageName → Option ℕ) (pages : List Page) (blanks : List (List ℕ)) (capacity spare : ℕ) : Type 0 where
+pub record IsSound (index : PageName → Option ℕ) (pages : List Page) (blanks : List (List ℕ)) (capacity spare : ℕ) (names : List (Option Known))
+    : Type 0 where
   pub places : IsIndex index pages
   pub whole : AreWhole pages
   pub blank : AreBlank blanks
   pub room : length pages + length blanks ≤ capacity
   pub room_in_index : length blanks ≤ spare
+  pub known : AreKnown pages names

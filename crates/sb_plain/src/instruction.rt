@@ -1,6 +1,6 @@
 //! One instruction of a thread of the plain machine.
 
-ghost use Rattle.std.specs.Prelude.{◌≡◌, ◌≢◌, Ok, IfOk, IfErr};
+ghost use Rattle.std.specs.Prelude.{◌≡◌, ◌≢◌, Ok, IfOk, IfErr, IfSome};
 ghost use Rattle.sb_insn.specs.Grammar.{IsValid};
 ghost use Rattle.sb_exec.specs.Execution.{execution_of};
 ghost use Rattle.sb_exec.specs.Fetching.{FetchesOn};
@@ -9,9 +9,25 @@ ghost use Rattle.sb_trace.specs.PlainMemory.{plain};
 ghost use Rattle.sb_plain.specs.Faults.{IsFault};
 
 use crate::bus::PlainBus;
+use crate::reach::reach;
 use crate::state::Plain;
-use sb_exec::{BusStop, Effect, execute, fetch_insn};
+use sb_exec::{BusStop, Effect, execute, fetch_insn, first_insn};
 use sb_insn::{Insn, Regs};
+use sb_memory::{Access, Linear};
+
+/// The instruction at an address, in a view of a thread, where it ends in the page in which it begins.
+fn fetch_in_page(state: &Plain, thread: u32, view: u32, rip: u64) -> Option<Insn>
+    ensures fetched { IfSome result (λ insn. FetchesOn (plain thread view) state.now rip tt tt (Ok insn)) }
+    ensures valid { IfSome result IsValid }
+{
+    match reach(state, thread, view, Linear(rip), Access::Fetch) {
+        Ok((_, page)) => {
+            let (_, rest) = page.bytes.items().split_at((rip % 4096) as usize);
+            first_insn(rest)
+        }
+        Err(_) => None,
+    }
+}
 
 /// The instruction at an address, in a view of a thread.
 ///
@@ -22,6 +38,9 @@ pub fn fetch_next(state: &mut Plain, thread: u32, view: u16, rip: u64) -> Result
     ensures fault { IfErr result IsFault }
     ensures same { state.new ≡ state.old }
 {
+    if let Some(insn) = fetch_in_page(state, thread, u32::from(view), rip) {
+        return Ok(insn);
+    }
     fetch_insn(&mut PlainBus::new(state, thread, u32::from(view)), rip)
 }
 

@@ -1,13 +1,13 @@
 //! Bytes and numbers read from the memory of a thread in a view.
 
-ghost use Rattle.std.specs.Prelude.{◌≡◌, ◌≤◌, ◌<◌, ◌^◌, IfOk};
+ghost use Rattle.std.specs.Prelude.{◌≡◌, ◌≤◌, ◌<◌, ◌+◌, ◌%◌, ◌^◌, IfOk};
 ghost use Rattle.sb_exec.specs.Access.{byte_for, loaded_from};
 ghost use Rattle.sb_trace.specs.PlainMemory.{plain_byte};
 
 use crate::reach::reach;
 use crate::state::Plain;
 use sb_exec::BusStop;
-use sb_memory::{Access, Linear};
+use sb_memory::{Access, Linear, word};
 
 /// The byte at an address, for an access.
 #[tactic(auto, using(crate::proofs::Reached::byte_reached, crate::proofs::Reached::byte_refused))]
@@ -25,9 +25,25 @@ pub fn byte(
     Ok(page.bytes.items().get(offset).copied().unwrap_or(0))
 }
 
-/// The number of some bytes from an address upwards, its lowest byte first.
+/// The word at an address, which ends in the page in which it begins: the page is looked up once.
+#[tactic(auto, using(crate::proofs::InPage::word_in_page, crate::proofs::InPage::word_refused), unfolding(sb_memory::specs::Words::word_at))]
+fn load_word(
+    state: &Plain,
+    thread: u32,
+    view: u32,
+    at: Linear,
+    access: Access,
+) -> Result<u64, BusStop>
+    requires { at.0 % 4096 + 8 ≤ 4096 }
+    ensures { result ≡ loaded_from (byte_for (plain_byte thread view state.now) access) at.0 8 }
+{
+    let (_, page) = reach(state, thread, view, at, access)?;
+    Ok(word(page.bytes.items(), (at.0 % 4096) as usize))
+}
+
+/// The number of some bytes from an address upwards, its lowest byte first, byte by byte.
 #[tactic(auto, using(sb_exec::proofs::Loads::loaded_none, sb_exec::proofs::Loads::loaded_stop, sb_exec::proofs::Loads::loaded_stop_later, sb_exec::proofs::Loads::loaded_more, sb_exec::proofs::Loads::number_fits, sb_exec::proofs::Loads::number_below))]
-pub fn load(
+fn load_bytes(
     state: &Plain,
     thread: u32,
     view: u32,
@@ -44,6 +60,25 @@ pub fn load(
     }
     let lowest = byte(state, thread, view, at, access)?;
     let next = Linear(at.0.wrapping_add(1));
-    let others = load(state, thread, view, next, size - 1, access)?;
+    let others = load_bytes(state, thread, view, next, size - 1, access)?;
     Ok(u64::from(lowest) + 256 * others)
+}
+
+/// The number of some bytes from an address upwards, its lowest byte first.
+pub fn load(
+    state: &Plain,
+    thread: u32,
+    view: u32,
+    at: Linear,
+    size: u8,
+    access: Access,
+) -> Result<u64, BusStop>
+    requires { size ≤ 8 }
+    ensures answer { result ≡ loaded_from (byte_for (plain_byte thread view state.now) access) at.0 size }
+{
+    if size == 8 && at.0 % 4096 <= 4088 {
+        load_word(state, thread, view, at, access)
+    } else {
+        load_bytes(state, thread, view, at, size, access)
+    }
 }

@@ -1,6 +1,6 @@
 //! The pages of the plain machine, found by name.
 
-ghost use Rattle.std.specs.Prelude.{◌≡◌, ◌+◌, ◌*◌, ◌≤◌, ◌<◌, ◌++◌, ◌∷◌, [], IfSome, IfOk, OnOk, OnErr, length, slice_index, slice_set, vec_len, vec_capacity};
+ghost use Rattle.std.specs.Prelude.{◌≡◌, ◌+◌, ◌*◌, ◌≤◌, ◌<◌, ◌++◌, ◌∷◌, [], Contains, Some, IfSome, IfOk, OnOk, OnErr, length, slice_index, slice_set, vec_len, vec_capacity};
 ghost use Rattle.std.specs.Option.{option_copied};
 ghost use Rattle.std.specs.HashMap.{get, spare};
 ghost use Rattle.sb_memory.specs.Words.{word_at, put_word as word_put};
@@ -8,7 +8,7 @@ ghost use Rattle.sb_trace.specs.State.{find_page, replaced, bytes_of};
 ghost use Rattle.sb_trace.specs.PageWords.{zeros, words_put};
 ghost use Rattle.sb_trace.specs.Start.{named};
 ghost use Rattle.sb_trace.specs.SystemCall.{with_mode};
-ghost use Rattle.sb_plain.specs.Places.{place_of, equal_names, IsIndex, IsNoted, AreWhole, AreBlank};
+ghost use Rattle.sb_plain.specs.Places.{place_of, equal_names, IsIndex, IsNoted, AreWhole, AreBlank, AreKnown, known_at, KeepsKnown, Remembers};
 ghost use Rattle.sb_plain.specs.Store.{with_pages, with_room, added};
 
 use crate::page_words::{put_word, put_words};
@@ -21,6 +21,52 @@ use std::marker::Model;
 /// How many bytes a page has.
 pub const PAGE_SIZE: usize = 4096;
 
+/// A name, and the place of its first page.
+#[derive(Clone, Copy)]
+struct Known {
+    name: PageName,
+    place: usize,
+}
+
+/// How many names can be known at once.
+const KNOWN: usize = 4096;
+
+/// Where a name is kept, if it is known. Names that are used together stand apart.
+fn slot(name: PageName) -> usize
+    ensures { result < 4096 }
+{
+    let number = match name {
+        PageName::Text(process, page) => spread(process, page),
+        PageName::Area(process, page) => spread(process, page) ^ 0x200,
+        PageName::Data(process, page) => spread(process, page) ^ 0x300,
+        PageName::Heap(process, page) => spread(process, page) ^ 0x400,
+        PageName::Pool(process) => spread(process, 0x500),
+        PageName::ServerStack(process, page) => spread(process, page) ^ 0x600,
+        PageName::Save(thread) => spread(thread, 0x700),
+        PageName::Stack(thread, page) => spread(thread, page) ^ 0x710,
+        PageName::Buffer(thread, index, page) => spread(thread, page) ^ 0x800 ^ (index % 16 * 4),
+        PageName::Record(thread, view) => spread(thread, view) ^ 0x900,
+        PageName::Scratch(thread, view) => spread(thread, view) ^ 0xA00,
+        PageName::HomeTrampoline => 0xB00,
+        PageName::ServerTrampoline => 0xB01,
+    };
+    number as usize % KNOWN
+}
+
+fn spread(owner: u32, page: u32) -> u32 {
+    owner.wrapping_mul(0x40) ^ page
+}
+
+/// The place of a name, if it is known.
+fn known_place(known: &[Option<Known>], name: PageName) -> Option<usize>
+    ensures { IfSome result (λ place. Contains known.now (Some (known_at name place))) }
+{
+    match known.get(slot(name)) {
+        Some(Some(one)) if one.name == name => Some(one.place),
+        _ => None,
+    }
+}
+
 /// Pages of 4,096 bytes in the order in which they came, with an index of their names, and blank pages that can be added
 /// without memory being taken.
 ///
@@ -30,6 +76,8 @@ pub struct Pages {
     pages: Vec<Page>,
     /// The place of the first page of each name.
     places: HashMap<PageName, usize>,
+    /// Names with their places, each where `slot` puts it: most names are found here, and need no hashing.
+    known: Vec<Option<Known>>,
     /// Pages of zeros. For each of them the two fields above have room.
     blank: Vec<PageBytes>,
 }
@@ -44,7 +92,7 @@ impl Model for Pages {
 
     ghost view = { λ pages. record { pages = pages.pages.items; room = length pages.blank.items } };
 
-    ghost invariant = { λ pages. IsSound (get equal_names pages.places) pages.pages.items pages.blank.items (vec_capacity pages.pages) (spare pages.places) };
+    ghost invariant = { λ pages. IsSound (get equal_names pages.places) pages.pages.items pages.blank.items (vec_capacity pages.pages) (spare pages.places) pages.known.items };
 }
 
 /// Bytes of zero for a page.
@@ -81,17 +129,48 @@ fn note(places: &mut HashMap<PageName, usize>, name: PageName, place: usize)
     }
 }
 
+/// Makes room for known names.
+#[tactic(auto, using(crate::proofs::Known::grown))]
+fn grow(known: &mut Vec<Option<Known>>) -> Result<(), AllocError>
+    ensures { KeepsKnown known.old.items known.new.items }
+{
+    if known.is_empty() {
+        known.resize(KNOWN, None)?;
+    }
+    Ok(())
+}
+
+/// Keeps a name with its place, in place of another one.
+fn remember(known: &mut Vec<Option<Known>>, name: PageName, place: Option<usize>)
+    ensures { Remembers known.old.items known.new.items name place }
+{
+    if let Some(place) = place {
+        let at = slot(name);
+        if at < known.len() {
+            known[at] = Some(Known { name, place });
+        }
+    }
+}
+
 /// Adds a page behind the others, for which there is room, with its place.
-fn attach(pages: &mut Vec<Page>, places: &mut HashMap<PageName, usize>, page: Page)
+fn attach(
+    pages: &mut Vec<Page>,
+    places: &mut HashMap<PageName, usize>,
+    known: &mut Vec<Option<Known>>,
+    page: Page,
+)
     requires index { IsIndex (get equal_names places.old) pages.old.items }
+    requires known { AreKnown pages.old.items known.old.items }
     requires room { vec_len pages.old < vec_capacity pages.old }
     requires spare { 0 < spare places.old }
     ensures pages { pages.new.items ≡ pages.old.items ++ page ∷ [] }
     ensures index { IsIndex (get equal_names places.new) pages.new.items }
+    ensures known { AreKnown pages.new.items known.new.items }
     ensures room { vec_capacity pages.new ≡ vec_capacity pages.old }
     ensures spare { spare places.old ≤ spare places.new + 1 }
 {
     note(places, page.name, pages.len());
+    remember(known, page.name, places.get(&page.name).copied());
     pages.push_reserved(page);
 }
 
@@ -103,8 +182,16 @@ impl Pages {
         Pages {
             pages: Vec::new(alloc),
             places: HashMap::new(alloc),
+            known: Vec::new(alloc),
             blank: Vec::new(alloc),
         }
+    }
+
+    /// Makes room for names that are found without hashing. Without it all names are hashed.
+    pub fn know_names(&mut self) -> Result<(), AllocError>
+        ensures { self.new ≡ self.old }
+    {
+        grow(&mut self.known)
     }
 
     /// Adds a page behind the others. Where a page has its name already, that one stays the one of this name.
@@ -118,7 +205,7 @@ impl Pages {
         let room = self.blank.len() + 1;
         self.pages.reserve(room)?;
         self.places.reserve(room)?;
-        attach(&mut self.pages, &mut self.places, page);
+        attach(&mut self.pages, &mut self.places, &mut self.known, page);
         Ok(())
     }
 
@@ -148,7 +235,7 @@ impl Pages {
             executable: false,
             bytes,
         };
-        attach(&mut self.pages, &mut self.places, page);
+        attach(&mut self.pages, &mut self.places, &mut self.known, page);
     }
 
     /// Where the page of this name stands.
@@ -156,7 +243,10 @@ impl Pages {
         ensures place { result ≡ place_of self.now.pages name }
         ensures within { IfSome result (λ place. place < length self.now.pages) }
     {
-        self.places.get(&name).copied()
+        match known_place(&self.known, name) {
+            Some(place) => Some(place),
+            None => self.places.get(&name).copied(),
+        }
     }
 
     /// The page of this name, if it is there.

@@ -1,6 +1,6 @@
 //! The page that an access reaches.
 
-ghost use Rattle.std.specs.Prelude.{◌≡◌, Some, IfOk};
+ghost use Rattle.std.specs.Prelude.{◌≡◌, Some, IfOk, length};
 ghost use Rattle.sb_trace.specs.State.{find_page};
 ghost use Rattle.sb_trace.specs.Windows.{seen};
 ghost use Rattle.sb_trace.specs.PlainMemory.{is_canonical as is_canonical_address};
@@ -29,6 +29,7 @@ fn reach_named(
 ) -> Result<(PageName, &Page), BusStop>
     ensures name { name_only result ≡ reached_as (seen pages.now.pages name) at.0 access }
     ensures page { IfOk result (λ found. find_page pages.now.pages found.0 ≡ Some found.1.now) }
+    ensures size { IfOk result (λ found. length found.1.now.bytes ≡ 4096) }
 {
     match pages.find(name) {
         Some(page) if permits(mode_of(name, page.executable), access) => Ok((name, page)),
@@ -47,6 +48,7 @@ pub fn reach(
 ) -> Result<(PageName, &Page), BusStop>
     ensures name { name_only result ≡ reached thread view state.now at.0 access }
     ensures page { IfOk result (λ found. find_page state.now.pages found.0 ≡ Some found.1.now) }
+    ensures size { IfOk result (λ found. length found.1.now.bytes ≡ 4096) }
 {
     if !is_canonical(at) {
         return Err(BusStop::Fault(FaultKind::Canon, at));

@@ -1,6 +1,6 @@
 //! Numbers written to the memory of a thread in a view.
 
-ghost use Rattle.std.specs.Prelude.{◌≡◌, ◌≤◌, Ok, Err, OnOk, IfErr, length};
+ghost use Rattle.std.specs.Prelude.{◌≡◌, ◌≤◌, ◌+◌, ◌%◌, Ok, Err, OnOk, IfErr, length};
 ghost use Rattle.sb_memory.specs.declared.address.Access.TheVariants.{Write};
 ghost use Rattle.sb_exec.specs.Access.{bytes_from, byte_for, store_answer, where_stored};
 ghost use Rattle.sb_trace.specs.PlainMemory.{plain_byte, plain_stored, put_all};
@@ -86,6 +86,25 @@ fn store_by(
     Ok(())
 }
 
+/// Writes a word at an address, which ends in the page in which it begins, if it may be written: the page's mode is looked
+/// up once.
+#[tactic(auto, using(crate::proofs::WholeWord::word_stored, crate::proofs::WholeWord::word_may_be_stored, crate::proofs::WholeWord::word_not_stored), unfolding(sb_trace::specs::State::with_contents, sb_trace::specs::State::contents))]
+fn store_word(
+    state: &mut Plain,
+    thread: u32,
+    view: u32,
+    at: Linear,
+    value: u64,
+) -> Result<(), BusStop>
+    requires { at.0 % 4096 + 8 ≤ 4096 }
+    ensures answer { result ≡ store_answer (byte_for (plain_byte thread view state.old) Write) at.0 8 }
+    ensures written { state.new ≡ where_stored result (plain_stored thread view state.old at.0 8 value) state.old }
+{
+    let (name, _) = reach(state, thread, view, at, Access::Write)?;
+    state.pages.put_word(name, (at.0 % 4096) as usize, value);
+    Ok(())
+}
+
 /// Writes the lowest bytes of a number from an address upwards, if each of them may be written.
 pub fn store(
     state: &mut Plain,
@@ -99,6 +118,9 @@ pub fn store(
     ensures answer { result ≡ store_answer (byte_for (plain_byte thread view state.old) Write) at.0 size }
     ensures written { state.new ≡ where_stored result (plain_stored thread view state.old at.0 size value) state.old }
 {
+    if size == 8 && at.0 % 4096 <= 4088 {
+        return store_word(state, thread, view, at, value);
+    }
     let mut spots = [NOWHERE; 8];
     store_by(
         state,

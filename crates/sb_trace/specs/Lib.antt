@@ -18,6 +18,7 @@ pub mod Step
 pub mod OneStep
 pub mod Code
 pub mod Sound
+pub mod Whole
 pub mod Changes
 pub mod Laws
 pub mod End

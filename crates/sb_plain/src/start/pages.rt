@@ -161,6 +161,7 @@ pub fn start_pages(alloc: Global, loaded: &Loaded) -> Result<Pages, AllocError>
     ensures { IfOk result (λ pages. pages.pages ≡ images_pages 0 (images_loaded loaded.now) ++ (threads_pages 0 (map entry_of loaded.now.bundle.cores) ++ trampoline_pages)) }
 {
     let mut pages = Pages::new(alloc);
+    pages.know_names()?;
     push_images(alloc, &mut pages, loaded)?;
     push_threads(alloc, &mut pages, loaded.bundle().cores.items())?;
     push_trampolines(alloc, &mut pages)?;

@@ -34,5 +34,5 @@ invariant_of-self c =
     let items : List Page = c.self.inside.pages.items in
     let same : items ≡ c.args.self.now.pages = ap (λ (store : Store). store.pages) c.self.view_is in
     let within : c.in-Some.place < length items = subst (λ (pages : List Page). c.in-Some.place < length pages) (sym same) c.in-Some.ensures.within in
-    sound_set _ items _ _ _ c.in-Some.place c.index_mut.result.now _ c.self.invariant within c.index_mut.ensures.value refl
+    sound_set _ items _ _ _ c.in-Some.place _ c.index_mut.result.now _ c.self.invariant within c.index_mut.ensures.value refl
     (ap length c.set.ensures ∙ length-set c.index_mut.result.now.bytes c.args.offset c.args.value)

@@ -25,5 +25,5 @@ invariant_of-self c =
     let same : items ≡ c.args.self.now.pages = ap (λ (store : Store). store.pages) c.self.view_is in
     let within : c.in-Some.index < length items = subst (λ (pages : List Page). c.in-Some.index < length pages) (sym same) c.in-Some.ensures.within in
     let whole = whole_at items c.in-Some.index c.index_mut.result.now c.self.invariant.whole within c.index_mut.ensures.value in
-    sound_set _ items _ _ _ c.in-Some.index c.index_mut.result.now _ c.self.invariant within c.index_mut.ensures.value refl
+    sound_set _ items _ _ _ c.in-Some.index _ c.index_mut.result.now _ c.self.invariant within c.index_mut.ensures.value refl
     (c.put_word.ensures.size ∙ sym whole)

@@ -2,6 +2,7 @@ use Rattle.std.proofs.Common.{arith}
 use Rattle.std.proofs.lemmas.List.Elements.{All-same}
 use Rattle.sb_plain.specs.Places.{IsWhole}
 use Rattle.sb_plain.proofs.Places.{index_same}
+use Rattle.sb_plain.proofs.Known.{known_as}
 use Rattle.sb_plain.proofs.pages.Pages.reserve.Goals as goal
 
 pub invariant_of-self-2 : goal.invariant_of-self-2
@@ -11,4 +12,5 @@ invariant_of-self-2 c = record {
   blank = c.push_blank.ensures.blank;
   room = omega (arith, c.in_ok-reserve.ensures.ok, c.push_blank.ensures.most);
   room_in_index = omega (arith, c.in_ok-reserve-2.ensures.ok, c.push_blank.ensures.most);
+  known = known_as _ _ _ c.reserve.ensures.items c.self.invariant.known;
 }

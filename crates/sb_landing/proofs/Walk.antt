@@ -1,0 +1,65 @@
+-- A phase that decides nothing.
+use Rattle.std.proofs.Common.{◌≡◌, ◌∙◌, sym, ap, ℕ, zero, suc, ◌<◌, List, [], ◌∷◌, length, refl, slice_set, Ok, arith}
+use Rattle.std.specs.Prelude.{Option, Some, None, slice_get, unwrap_or}
+use Rattle.sb_memory.specs.declared.address.Access.TheVariants.{Read}
+use Rattle.sb_insn.specs.declared.registers.Regs.{Regs}
+use Rattle.sb_exec.specs.declared.action.Effect.TheVariants.{Next}
+use Rattle.sb_exec.specs.declared.action.Load.{Load}
+use Rattle.sb_exec.specs.declared.action.Load.TheVariants as load
+use Rattle.sb_exec.specs.Size.{size_bytes}
+use Rattle.sb_exec.specs.Access.{loaded_from, byte_for}
+use Rattle.sb_exec.specs.Execution.{Execution, execution_of}
+use Rattle.sb_trace.specs.declared.state.Flight.{Flight}
+use Rattle.sb_trace.specs.State.{State, flight_at, with_flight}
+use Rattle.sb_trace.specs.PlainMemory.{plain, plain_byte}
+use Rattle.sb_trace.specs.Step.{executed}
+use Rattle.sb_landing.specs.Moved.{landing_regs}
+use Rattle.sb_landing.specs.Rows.{row_at, moving}
+use Rattle.sb_landing.specs.Stages.{Stage}
+use Rattle.sb_landing.specs.Leads.{Leads}
+
+-- the word that a load finds
+abbrev pub Finds : State → ℕ → ℕ → Load → ℕ → Type 0
+Finds state number view load.Nothing word = word ≡ 0
+Finds state number view (load.Read address size) word = loaded_from (byte_for (plain_byte number view state) Read) address.0 (size_bytes size) ≡ Ok word
+Finds state number view (load.ReadToWrite address size) word = ⊥
+
+-- an execution that only changes registers
+abbrev pub only_regs : State → Regs → Execution State (Unit {0})
+only_regs state regs = record { answer = Ok Next; registers = regs; meaning = state; account = tt }
+
+runs_moving : (state : State) (number view : ℕ) (regs : Regs) (loads : Load) (after : ℕ → Regs) (word : ℕ) → Finds state number view loads word
+    → execution_of (plain number view) (moving loads after) regs state tt ≡ only_regs state (after word)
+unfolding execution_of
+runs_moving state number view regs load.Nothing after word finds = ap (λ n. only_regs state (after n)) (sym finds)
+runs_moving state number view regs (load.Read address size) after word finds = rw finds refl
+runs_moving state number view regs (load.ReadToWrite address size) after word finds = absurd finds
+
+pub leads_on : (state : State) (number view : ℕ) (start : Regs) (from to : Stage) (loads : Load) (word : ℕ) → Leads start from to loads word
+    → Finds state number view loads word → executed state number view (row_at from.phase).insn (landing_regs start from.moved) ≡ only_regs state (landing_regs start to.moved)
+leads_on state number view start from to loads word leads finds =
+    ap (λ row. execution_of (plain number view) row (landing_regs start from.moved) state tt) leads.meaning
+    ∙ (runs_moving state number view (landing_regs start from.moved) loads leads.after word finds ∙ ap (only_regs state) leads.regs)
+
+-- ---- the flight of a thread is set
+
+set_by : {A : Type 0} (list : List (Option A)) (index : ℕ) (old : A) (value : Option A) → unwrap_or (slice_get list index) None ≡ Some old
+    → unwrap_or (slice_get (slice_set list index value) index) None ≡ value
+set_by [] index old value there = absurd cc
+set_by (first ∷ list) zero old value there = refl
+set_by (first ∷ list) (suc index) old value there = set_by list index old value there
+
+pub flight_set : (state : State) (number : ℕ) (flight : Flight) (next : Option Flight) → flight_at state number ≡ Some flight
+    → flight_at (with_flight state number next) number ≡ next
+unfolding flight_at with_flight
+flight_set state number flight next there = set_by state.flights number flight next there
+
+set_within : {A : Type 0} (list : List (Option A)) (index : ℕ) (value : Option A) → index < length list → unwrap_or (slice_get (slice_set list index value) index) None ≡ value
+set_within [] index value below = absurd (omega (arith, below))
+set_within (first ∷ list) zero value below = refl
+set_within (first ∷ list) (suc index) value below = set_within list index value (omega (arith, below))
+
+-- where the list of flights has a place for the thread
+pub flight_placed : (state : State) (number : ℕ) (next : Option Flight) → number < length state.flights → flight_at (with_flight state number next) number ≡ next
+unfolding flight_at with_flight
+flight_placed state number next below = set_within state.flights number next below

@@ -1,0 +1,153 @@
+-- The laws of landings that are executed instruction by instruction.
+use Rattle.std.specs.Prelude.{◌≡◌, ◌≢◌, ℕ, ◌==◌, ◌<◌, ◌≤◌, ◌^◌, List, length, Bool, true, false, Option, Some, None, Ok, slice_get, if◌then◌else◌}
+use Rattle.sb_insn.specs.declared.registers.Regs.{Regs}
+use Rattle.sb_exec.specs.Fetching.{FetchesOn}
+use Rattle.sb_trace.specs.declared.event.Event.{Event}
+use Rattle.sb_trace.specs.declared.state.Binding.{Binding}
+use Rattle.sb_trace.specs.declared.state.Flight.{Flight}
+use Rattle.sb_trace.specs.SystemCall.{has_index, free_index, is_listed, with_binding, with_server, new_binding}
+use Rattle.sb_trace.specs.declared.state.Registration.{Registration}
+use Rattle.sb_trace.specs.State.{registration_at}
+use Rattle.sb_trace.specs.State.{Process, process_at}
+use Rattle.sb_trace.specs.State.{State, thread_at, flight_at, with_flight, with_regs}
+use Rattle.sb_trace.specs.Start.{ProcessImage, ThreadEntry, start_state}
+use Rattle.sb_trace.specs.PlainMemory.{plain}
+use Rattle.sb_trace.specs.Flight.{first_flight, flown}
+use Rattle.sb_trace.specs.Step.{Steps, executed}
+use Rattle.sb_insn.specs.declared.insn.Insn.{Insn}
+use Rattle.std.specs.List.{AllByRecursion}
+use Rattle.sb_trace.specs.Sound.{IsSound}
+use Rattle.sb_landing.specs.Rows.{row_at, address_of}
+use Rattle.sb_landing.specs.AtPhase.{AreWords, AtPhase, failed_at}
+use Rattle.sb_landing.specs.Bound.{IsBound}
+use Rattle.sb_landing.specs.Lands.{landing_step, effect_at, behind, line_of, Lands}
+use Rattle.sb_landing.specs.Related.{Begun, IsBeside, AreBeside}
+
+-- a step in flight, at whatever phase
+abbrev pub PhasesLand : Type 0
+PhasesLand =
+    (state : State) (number : ℕ) (flight : Flight) (start : Regs) (failed : Bool) (real : Regs) → IsSound state
+    → IsBound state → flight_at state number ≡ Some flight
+    → AtPhase state number flight start failed real → Lands state number flight start failed real
+
+-- RIP is at the row of the phase
+abbrev pub PhasesStand : Type 0
+PhasesStand =
+    (state : State) (number : ℕ) (flight : Flight) (start : Regs) (failed : Bool) (real : Regs)
+    → AtPhase state number flight start failed real
+    → real.rip ≡ address_of flight.phase
+
+-- The VMFUNC that begins a flight leaves the registers but for RIP, and the thread is in that flight.
+pub record FlightBegins (state : State) (number index : ℕ) : Type 0 where
+  pub phase : AtPhase (with_flight state number (Some (first_flight index))) number (first_flight index) (thread_at state
+      number).regs false
+      (record ((thread_at state number).regs) { rip = address_of 0 })
+  pub flight : number < length state.flights
+      → flight_at (with_flight state number (Some (first_flight index))) number ≡ Some (first_flight index)
+
+abbrev pub FlightsBegin : Type 0
+FlightsBegin = (state : State) (number index : ℕ) → AreWords (thread_at state number).regs → FlightBegins state number index
+
+-- a step of another core leaves what is said of a thread, in flight or not
+abbrev pub OthersStay : Type 0
+OthersStay =
+    (old : State) (core : ℕ) (event : Event) (new : State) (number : ℕ) (begun : Begun) (real : Regs) → IsBound old
+    → Steps old core event new → number ≢ core
+    → IsBeside old number (flight_at old number) begun real → IsBeside new number (flight_at new number) begun real
+
+-- ---- a step of a thread in flight, beside all threads
+
+-- with another value at a number
+abbrev pub set_at : {A : Type 0} → ℕ → A → (ℕ → A) → ℕ → A
+set_at core value values number = if number == core then value else values number
+
+-- whether an exchange has failed, by the flight behind the step
+abbrev pub failed_behind : Option Flight → Bool → Bool
+failed_behind None failed = failed
+failed_behind (Some flight) failed = failed_at failed flight
+
+abbrev pub begun_behind : Option Flight → Begun → Begun
+begun_behind next begun = record { start = begun.start; failed = failed_behind next begun.failed }
+
+-- The core's thread executes the instruction of its phase: what is fetched, its effect, its pages and its line, and each thread
+-- beside the plain machine's next state.
+pub record StepsBeside (old : State) (core : ℕ) (event : Event) (new : State) (flight : Flight) (begun : ℕ → Begun)
+    (real : ℕ → Regs) : Type 0 where
+  pub fetched : FetchesOn (plain core flight.index) old (real core).rip tt tt (Ok (row_at flight.phase).insn)
+  pub answer : (landing_step old core flight (real core)).answer ≡ Ok (effect_at flight.phase)
+  pub memory : (landing_step old core flight (real core)).meaning.pages ≡ new.pages
+  pub line : event ≡ line_of flight.phase flight.index (landing_step old core flight (real core)).registers
+  pub beside : AreBeside new (set_at core (begun_behind (flight_at new core) (begun core)) begun)
+      (set_at core (behind flight.phase (landing_step old core flight (real core)).registers) real)
+
+abbrev pub StepsStayBeside : Type 0
+StepsStayBeside =
+    (old : State) (core : ℕ) (event : Event) (new : State) (flight : Flight) (begun : ℕ → Begun) (real : ℕ → Regs)
+    → IsSound old → IsBound old
+    → AreBeside old begun real → flight_at old core ≡ Some flight → Steps old core event new
+    → StepsBeside old core event new flight begun real
+
+-- ---- what further holds in each state of a run
+
+-- the start of images whose starts are words, with key words
+abbrev pub StartIsBound : Type 0
+StartIsBound =
+    (images : List ProcessImage) (entries : List ThreadEntry) (free : ℕ) (keys : List ℕ)
+    → AllByRecursion (λ image. AllByRecursion (λ start. start < 2 ^ 64) image.starts) images
+    → AllByRecursion (λ key. key < 2 ^ 64) keys → IsBound (start_state images entries free keys)
+
+abbrev pub StepsKeepBound : Type 0
+StepsKeepBound =
+    (old : State) (core : ℕ) (event : Event) (new : State) → IsSound old → IsBound old → Steps old core event new → IsBound new
+
+-- an instruction that goes on
+abbrev pub InstructionsKeepBound : Type 0
+InstructionsKeepBound =
+    (old : State) (core view : ℕ) (insn : Insn) (regs after : Regs) → IsBound old
+    → IsBound (with_regs (executed old core view insn regs).meaning core after)
+
+-- a step in flight
+abbrev pub FlightsKeepBound : Type 0
+FlightsKeepBound =
+    (state : State) (core : ℕ) (flight : Flight) → IsSound state → IsBound state → flight_at state core ≡ Some flight
+    → IsBound (flown state core flight).1
+
+-- ---- the index of a new binding
+
+-- a list with fewer than fifteen bindings
+pub record IsFreeIndex (bindings : List Binding) (index : ℕ) : Type 0 where
+  pub least : 1 ≤ index
+  pub most : index ≤ 15
+  pub free : has_index bindings index ≡ false
+  pub lowest : (other : ℕ) → 1 ≤ other → other < index → has_index bindings other ≡ true
+
+-- the index that bind gives is free, and the lowest such
+abbrev pub IndicesAreFree : Type 0
+IndicesAreFree = (bindings : List Binding) → length bindings < 15 → IsFreeIndex bindings (free_index bindings)
+
+-- what bind asks for: a registered server that is not the thread's home, and fewer than fifteen bindings
+pub record CanBind (state : State) (core server : ℕ) : Type 0 where
+  pub thread : slice_get state.threads core ≡ Some (thread_at state core)
+  pub registration : Registration
+  pub registered : registration_at state server ≡ Some registration
+  pub away : server ≢ (thread_at state core).home
+  pub few : length (thread_at state core).bindings < 15
+
+-- a bind
+abbrev pub BindingsKeepBound : Type 0
+BindingsKeepBound =
+    (state : State) (core server : ℕ) → IsBound state → CanBind state core server
+    → IsBound (with_binding state core (thread_at state core) (new_binding state (thread_at state core) server))
+
+-- what register asks for: a process that is none yet, and a handler that is a start of its text
+pub record CanRegister (state : State) (process handler : ℕ) : Type 0 where
+  pub found : Process
+  pub there : process_at state process ≡ Some found
+  pub none : registration_at state process ≡ None
+  pub listed : is_listed found.starts handler ≡ true
+
+-- a registration
+abbrev pub RegistrationsKeepBound : Type 0
+RegistrationsKeepBound =
+    (state : State) (process handler stacks : ℕ) → IsBound state → CanRegister state process handler
+    → IsBound (with_server state process handler stacks)

@@ -1,0 +1,149 @@
+-- The registers at each phase of a landing (docs/FORMATS.md, "The landing").
+use Rattle.std.specs.Prelude.{ℕ, ◌+◌, ◌-◌, ◌*◌, ◌^◌, List, [], ◌∷◌, false, Option, Some, None, slice_index, bit_and}
+use Rattle.sb_insn.specs.declared.registers.Flags.{Flags}
+use Rattle.sb_insn.specs.declared.registers.Regs.{Regs}
+use Rattle.sb_exec.specs.declared.size.Size.TheVariants.{Quad}
+use Rattle.sb_exec.specs.Arithmetic.{logical, added}
+use Rattle.sb_exec.specs.Shift.{shifted_left}
+use Rattle.sb_trace.specs.declared.state.Decision.{Decision}
+use Rattle.sb_trace.specs.declared.state.Decision.TheVariants as decision
+use Rattle.sb_trace.specs.Registers.{zero_flags}
+use Rattle.sb_trace.specs.KernelCall.{lowest_bit}
+use Rattle.sb_landing.specs.Moved.{Moved}
+use Rattle.sb_landing.specs.Rows.{address_of}
+
+-- What the registers had that a landing writes only later: at first what they had at the VMFUNC, and behind an exchange that
+-- failed what the round before it left.
+pub record Left : Type 0 where
+  pub rax : ℕ
+  pub rcx : ℕ
+  pub r10 : ℕ
+  pub flags : Flags
+
+-- a landing: the registers at the VMFUNC, what is left of earlier rounds, the mask, and two words of the record page
+pub record Landing : Type 0 where
+  pub start : Regs
+  pub left : Left
+  pub mask : ℕ
+  pub base : ℕ
+  pub handler : ℕ
+
+-- the registers that a landing changes, when its thread is to do this phase
+pub record Stage : Type 0 where
+  pub phase : ℕ
+  pub moved : Moved
+
+abbrev pub stage : ℕ → Moved → Stage
+stage phase moved = record { phase = phase; moved = record moved { rip = address_of phase } }
+
+-- ---- before the mask is loaded
+
+abbrev pub begun : Landing → Moved
+begun landing = record {
+  rax = landing.left.rax;
+  rcx = landing.left.rcx;
+  rsp = slice_index landing.start.general 4;
+  r9 = slice_index landing.start.general 9;
+  r10 = landing.left.r10;
+  rip = 0;
+  flags = landing.left.flags;
+}
+
+-- ---- a round: the mask is loaded and tested, and its lowest bit is found
+
+abbrev pub with_mask : Landing → Moved
+with_mask landing = record (begun landing) { rax = landing.mask }
+
+abbrev pub tested : Landing → Moved
+tested landing = record (with_mask landing) { flags = (logical Quad (bit_and landing.mask landing.mask)).flags }
+
+-- the mask without its lowest bit
+abbrev pub lowered : Landing → ℕ
+lowered landing = bit_and (landing.mask - 1) landing.mask
+
+abbrev pub without_bit : Landing → Moved
+without_bit landing = record (tested landing) { rcx = lowered landing; flags = (logical Quad (lowered landing)).flags }
+
+abbrev pub with_bit : Landing → Moved
+with_bit landing =
+    record (without_bit landing) {
+      r10 = lowest_bit landing.mask;
+      flags = record ((logical Quad (lowered
+          landing)).flags) { zf = false };
+    }
+
+-- ---- an entry: the stack of that bit
+
+abbrev pub exchanged : Landing → Moved
+exchanged landing = record (with_bit landing) { flags = zero_flags }
+
+-- how far the stack lies above the first
+abbrev pub distance : Landing → ℕ
+distance landing = lowest_bit landing.mask * 2 ^ 14
+
+abbrev pub shifted : Landing → Moved
+shifted landing =
+    record (exchanged landing) { r10 = distance landing; flags = (shifted_left Quad (lowest_bit landing.mask) 14).flags }
+
+abbrev pub on_stack : Landing → Moved
+on_stack landing = record (shifted landing) {
+  rsp = landing.base + distance landing;
+  flags = (added Quad landing.base (distance landing)).flags;
+}
+
+abbrev pub cleared : Moved → Moved
+cleared moved = record moved { r10 = 0; flags = zero_flags }
+
+-- ---- the stages in their order, by the decision
+
+abbrev pub undecided_stages : Landing → List Stage
+undecided_stages landing =
+    stage 0 (record (begun landing) { flags = landing.start.flags })
+    ∷ stage 1 (begun landing)
+    ∷ stage 2 (begun landing)
+    ∷ stage 3 (with_mask landing)
+    ∷ stage 4 (tested landing)
+    ∷ stage 5 (tested landing)
+    ∷ stage 6 (record (tested landing) { rcx = landing.mask - 1 })
+    ∷ stage 7 (without_bit landing)
+    ∷ stage 8 (with_bit landing)
+    ∷ stage 9 (begun landing)
+    ∷ []
+
+-- a refusal on its way home, with its status in R9
+abbrev pub refused_stages : Moved → List Stage
+refused_stages moved =
+    stage 20 moved
+    ∷ stage 21 (cleared moved)
+    ∷ stage 22 (record (cleared moved) { rcx = 0 })
+    ∷ stage 23 (record (cleared moved) { rcx = 0; rax = 0 })
+    ∷ stage 24 (record (cleared moved) { rcx = 0; rax = 0 })
+    ∷ []
+
+abbrev pub wrong_key_stages : Landing → List Stage
+wrong_key_stages landing =
+    stage 1 (begun landing) ∷ stage 17 (begun landing) ∷ stage 18 (record (begun landing) { r9 = 1 })
+    ∷ refused_stages (record (begun landing) { r9 = 1 })
+
+abbrev pub pool_empty_stages : Landing → List Stage
+pool_empty_stages landing =
+    stage 3 (with_mask landing) ∷ stage 4 (tested landing) ∷ stage 19 (tested landing)
+    ∷ refused_stages (record (tested landing) { r9 = 2 })
+
+abbrev pub entered_stages : Landing → List Stage
+entered_stages landing =
+    stage 9 (exchanged landing)
+    ∷ stage 10 (exchanged landing)
+    ∷ stage 11 (shifted landing)
+    ∷ stage 12 (record (shifted landing) { rsp = landing.base })
+    ∷ stage 13 (on_stack landing)
+    ∷ stage 14 (cleared (on_stack landing))
+    ∷ stage 15 (record (cleared (on_stack landing)) { rcx = 0 })
+    ∷ stage 16 (record (cleared (on_stack landing)) { rcx = 0; rax = 0 })
+    ∷ []
+
+abbrev pub stages : Landing → Option Decision → List Stage
+stages landing None = undecided_stages landing
+stages landing (Some decision.WrongKey) = wrong_key_stages landing
+stages landing (Some decision.PoolEmpty) = pool_empty_stages landing
+stages landing (Some decision.Entered) = entered_stages landing

@@ -1,0 +1,5 @@
+pub mod Steps
+pub mod Runs
+pub mod Many
+pub mod Served
+pub mod Text

@@ -1,0 +1,7 @@
+pub mod Machine
+pub mod Position
+pub mod Related
+pub mod Many
+pub mod Served
+pub mod Text
+pub mod Laws

@@ -1,0 +1,11 @@
+pub mod Words
+pub mod Kept
+pub mod Alike
+pub mod Slot
+pub mod Original
+pub mod Going
+pub mod Work
+pub mod Beside
+pub mod Immediates
+pub mod Borders
+pub mod Laws

@@ -1,0 +1,10 @@
+//! Rewritten code beside the original: what each piece of a slot does, and what a whole slot does.
+#![tactic(auto)]
+
+mod laws;
+
+pub use laws::{
+    Rewritten, across_borders, adding, addressed, displaced, exchanged, forms_small, free_helpers,
+    jumping, main_steps, passing, pieces_do, pushing, replacements_go, rest_gives,
+    through_exchanged, wide_immediates, wide_moving, with_both, with_constant,
+};

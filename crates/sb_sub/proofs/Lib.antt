@@ -1,0 +1,17 @@
+pub mod Borders
+pub mod Moving
+pub mod Led
+pub mod Finding
+pub mod Moves
+pub mod Protected
+pub mod Calling
+pub mod Filling
+pub mod Shown
+pub mod Taken
+pub mod Carried
+pub mod Stacks
+pub mod Pooled
+pub mod Translated
+pub mod SeenAfter
+pub mod WholeServer
+pub mod Registered

@@ -1,0 +1,23 @@
+use Rattle.sb_sub.proofs.Carried.{can_take, page_carried}
+use Rattle.sb_sub.proofs.Pooled.{finds_pool, registered_carried}
+use Rattle.sb_sub.proofs.Registered.{registered_stands}
+use Rattle.sb_sub.proofs.WholeServer.{server_whole}
+use Rattle.sb_sub.proofs.law.pages_are_carried.Goals as goal
+
+pub returns-clause-can_take : goal.returns-clause-can_take
+returns-clause-can_take c = can_take
+
+pub returns-clause-page : goal.returns-clause-page
+returns-clause-page c = page_carried
+
+pub returns-clause-finds_pool : goal.returns-clause-finds_pool
+returns-clause-finds_pool c = finds_pool
+
+pub returns-clause-registers : goal.returns-clause-registers
+returns-clause-registers c = registered_carried
+
+pub returns-clause-whole : goal.returns-clause-whole
+returns-clause-whole c = server_whole
+
+pub returns-clause-stands : goal.returns-clause-stands
+returns-clause-stands c = registered_stands

@@ -1,0 +1,12 @@
+pub mod Kernel
+pub mod Heap
+pub mod Refusals
+pub mod Whole
+pub mod StandsFor
+pub mod Outcomes
+pub mod Serving
+pub mod Laws
+pub mod Taking
+pub mod Carries
+pub mod Registering
+pub mod Translations

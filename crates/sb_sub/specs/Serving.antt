@@ -1,0 +1,66 @@
+-- What a system call answers and leaves, beside the outcome of the definitions.
+use Rattle.std.specs.Prelude.{ℕ, ◌≡◌, ◌≢◌, ◌+◌, slice_set, ◌==◌, if◌then◌else◌}
+use Rattle.sb_insn.specs.declared.insn.Insn.{Insn}
+use Rattle.sb_insn.specs.declared.registers.Regs.{Regs}
+use Rattle.sb_insn.specs.Registers.{flags_image}
+use Rattle.sb_exec.specs.Operand.{next_rip}
+use Rattle.sb_memory.specs.Physical.{Physical}
+use Rattle.sb_frames.specs.Book.{Book}
+use Rattle.sb_root.specs.declared.root_kernel.RootKernel.{RootKernel}
+use Rattle.sb_trace.specs.declared.event.Event.{Event}
+use Rattle.sb_trace.specs.declared.event.Event.TheVariants as event
+use Rattle.sb_trace.specs.State.{State, thread_at}
+use Rattle.sb_trace.specs.Home.{Outcome, faulted_home}
+use Rattle.sb_sub.specs.declared.answer.Answer.{Answer}
+use Rattle.sb_sub.specs.declared.answer.Answer.TheVariants.{Back, Printed, Ended, GoHome}
+use Rattle.sb_sub.specs.Kernel.{Kernel}
+use Rattle.sb_sub.specs.StandsFor.{StandsFor}
+
+-- ---- registers
+
+-- the registers behind SYSCALL, from those with which it began
+abbrev pub behind : Insn → Regs → Regs
+behind insn start = record start { rip = next_rip insn start }
+
+-- SYSCALL puts the present address, which is the next one, into RCX, and the flags with bits 1 and 9 into R11
+abbrev pub entered : Regs → Regs
+entered regs = record {
+  general = slice_set (slice_set regs.general 1 regs.rip) 11 (flags_image regs.flags + 0x202);
+  rip = regs.rip;
+  flags = regs.flags;
+}
+
+-- ---- answers
+
+abbrev pub line_of : Answer → Event
+line_of (Back number answer) = event.Sys number answer
+line_of (Printed value) = event.Printed value
+line_of (Ended status) = event.Exit status
+line_of (GoHome status) = event.ServerExit status
+
+-- a call that was refused
+abbrev pub IsRefused : Answer → Type 0
+IsRefused (Back number answer) = answer ≢ 0
+IsRefused _ = ⊥
+
+-- The line is the outcome's, the thread's registers are those of the state after it, and that state is what is stood for.
+pub record Serves (kernel : Kernel) (root : RootKernel) (book : Book) (memory : Physical) (thread : ℕ) (answer : Answer) (regs : Regs) (outcome : Outcome) : Type 0 where
+  pub line : line_of answer ≡ outcome.0
+  pub registers : regs ≡ (thread_at outcome.1 thread).regs
+  pub stands : StandsFor kernel root book memory outcome.1
+
+-- From each state that is stood for, a call gives the outcome of the definitions: the thread in its present view, by an
+-- instruction that is a SYSCALL and registers with which it began.
+abbrev pub ServesBy : (State → ℕ → Insn → Regs → Outcome) → Kernel → RootKernel → Book → Physical → Kernel → RootKernel → Book → Physical
+    → ℕ → ℕ → Answer → Regs → Regs → Type 0
+ServesBy outcome kernel root book memory kernel' root' book' memory' thread view answer old new =
+    (state : State) (insn : Insn) (start : Regs)
+    → StandsFor kernel root book memory state → (thread_at state thread).view ≡ view → old ≡ behind insn start
+    → Serves kernel' root' book' memory' thread answer new (outcome state thread insn start)
+
+-- what exit answers, and the registers that it leaves
+abbrev pub exit_answer : ℕ → ℕ → Answer
+exit_answer view status = if view == 0 then Ended status else GoHome status
+
+abbrev pub exit_regs : ℕ → Regs → Regs
+exit_regs view regs = if view == 0 then entered regs else faulted_home

@@ -1,0 +1,33 @@
+-- Translations that a call keeps.
+use Rattle.std.specs.Prelude.{ℕ, ◌≡◌, Some}
+use Rattle.sb_memory.specs.declared.address.Access.{Access}
+use Rattle.sb_memory.specs.declared.address.PhysAddr.{PhysAddr}
+use Rattle.sb_nested.specs.View.{View}
+use Rattle.sb_trace.specs.declared.page.Seen.{Seen}
+use Rattle.sb_trace.specs.State.{State}
+use Rattle.sb_trace.specs.Windows.{page_seen}
+use Rattle.sb_shows.specs.Placement.{Placement}
+use Rattle.sb_trace.specs.SystemCall.{with_server}
+use Rattle.sb_sub.specs.Carries.{StaysPlaced}
+use Rattle.sb_shows.specs.Related.{Sees}
+use Rattle.sb_shows.specs.Shows.{LeadsTo}
+
+-- what is seen in a view stays seen, in the same mode and in the same frame
+abbrev pub SeenStays : Placement → Placement → ℕ → ℕ → State → State → Type 0
+SeenStays placement placement' thread index state state' =
+    (page : ℕ) (one : Seen) → page_seen state thread index page ≡ Some one
+    → (page_seen state' thread index page ≡ Some one) × (placement'.frame one.name ≡ placement.frame one.name)
+
+-- then each address that leads to a place leads there afterwards
+abbrev pub TranslationsKept : Type 0
+TranslationsKept =
+    (placement placement' : Placement) (thread index : ℕ) (state state' : State) (core core' : View)
+    → Sees placement thread index state core → Sees placement' thread index state' core'
+    → SeenStays placement placement' thread index state state'
+    → (access : Access) (linear : ℕ) (place : PhysAddr) → LeadsTo core access linear place → LeadsTo core' access linear place
+
+-- Register keeps in view what is seen, in its frame.
+abbrev pub RegisterStays : Type 0
+RegisterStays =
+    (placement after : Placement) (state : State) (process handler stacks thread index : ℕ) → StaysPlaced placement after state
+    → SeenStays placement after thread index state (with_server state process handler stacks)

@@ -1,0 +1,47 @@
+-- Which pages are there: exactly those that the processes, threads and views of a state have.
+use Rattle.std.specs.Prelude.{ℕ, ◌≡◌, ◌≢◌, ◌*◌, ◌<◌, ◌≤◌, ◌↔◌, List, length, slice_get, Option, Some, None}
+use Rattle.sb_trace.specs.declared.page.PageName.{PageName}
+use Rattle.sb_trace.specs.declared.page.PageName.TheVariants.{Text, Area, Data, Heap, Pool, ServerStack, Save, Stack, Buffer, Record, Scratch, HomeTrampoline, ServerTrampoline}
+use Rattle.sb_trace.specs.declared.state.Registration.{Registration}
+use Rattle.sb_trace.specs.declared.state.Thread.{Thread}
+use Rattle.sb_trace.specs.State.{State, Process, registration_of}
+use Rattle.sb_trace.specs.Windows.{shown}
+use Rattle.sb_trace.specs.SystemCall.{heap_count}
+use Rattle.sb_shows.specs.Placement.{IsThere}
+
+-- the pages of a process's text, area and initial data, which never change
+pub record ImagePages : Type 0 where
+  pub text : ℕ
+  pub area : ℕ
+  pub initial : ℕ
+
+abbrev pub stacks_in : Option Registration → ℕ
+stacks_in None = 0
+stacks_in (Some registration) = registration.stacks
+
+-- a view of a thread, of these threads
+abbrev pub HasView : List Thread → ℕ → ℕ → Type 0
+HasView threads thread view = (process : ℕ) × (shown threads thread view ≡ Some process)
+
+-- a page of this name belongs to a state with these processes and threads
+unfoldable pub Belongs : (ℕ → ImagePages) → List Process → List Thread → PageName → Type 0
+Belongs images processes threads (Text process page) = page < (images process).text
+Belongs images processes threads (Area process page) = page < (images process).area
+Belongs images processes threads (Data process page) = page < (images process).initial
+Belongs images processes threads (Heap process page) = page < heap_count (slice_get processes process)
+Belongs images processes threads (Pool process) = process < length processes
+Belongs images processes threads (ServerStack process page) = page < 4 * stacks_in (registration_of (slice_get processes process))
+Belongs images processes threads (Save thread) = thread < length threads
+Belongs images processes threads (Stack thread page) = (thread < length threads) × (page < 4)
+Belongs images processes threads (Buffer thread index page) = (index ≢ 0) × ((page < 4) × HasView threads thread index)
+Belongs images processes threads (Record thread view) = HasView threads thread view
+Belongs images processes threads (Scratch thread view) = HasView threads thread view
+Belongs images processes threads HomeTrampoline = Unit {0}
+Belongs images processes threads ServerTrampoline = Unit {0}
+
+-- The pages are those that belong to the state, heaps fit their window, and there are few threads.
+pub record IsWhole (images : ℕ → ImagePages) (state : State) : Type 0 where
+  pub pages : (name : PageName) → IsThere state.pages name ↔ Belongs images state.processes state.threads name
+  pub heaps : (process : ℕ) → heap_count (slice_get state.processes process) ≤ 512
+  pub few : length state.threads ≤ 8
+  pub flights : length state.flights ≡ length state.threads

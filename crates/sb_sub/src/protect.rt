@@ -1,0 +1,142 @@
+//! System call 4: a heap page is written, or executed.
+
+ghost use Rattle.std.specs.Prelude.{◌≡◌, ◌<◌, ◌==◌, [], ◌∷◌, IfNone, IfSome};
+ghost use Rattle.sb_memory.specs.declared.address.Frame.{Frame};
+ghost use Rattle.sb_pagewalk.specs.Standing.{HasTables};
+ghost use Rattle.sb_pagewalk.specs.TableSet.{table_frame};
+ghost use Rattle.sb_root.specs.Standing.{IsApart, Stands};
+ghost use Rattle.sb_shows.specs.Placement.{leaf_for, rights_for};
+ghost use Rattle.sb_sub.specs.Heap.{FindsHeap, SetsMode, heap_mode, pattern_at};
+ghost use Rattle.sb_sub.specs.Refusals.{pattern_refusal as refused_pattern, protect_refusal};
+
+use crate::heap::{heap_address, heap_pattern, page_frame};
+use crate::process::Process;
+use sb_memory::{Frame, Memory};
+use sb_root::RootKernel;
+
+/// The mode of a page that is written.
+const WRITE: u64 = 0;
+
+/// The mode of a page that is executed.
+const EXECUTE: u64 = 1;
+
+/// Present, user, and not writable: a lowest entry for code.
+const CODE: u64 = 5;
+
+/// Present, writable and user, and no fetch: a lowest entry for data.
+const DATA: u64 = 7 + (1 << 63);
+
+/// Read and write, for the base.
+const READ_WRITE: u8 = 3;
+
+/// Execute alone, for the base.
+const EXECUTE_ALONE: u8 = 4;
+
+/// No page of the heap.
+pub const BAD_PAGE: u64 = 18;
+
+/// No mode.
+const BAD_MODE: u64 = 19;
+
+/// The bytes of VMFUNC would be executable.
+const PATTERN: u64 = 20;
+
+/// The first refusal of a change of mode, and a second value with it.
+fn refusal(process: &Process, memory: &mut Memory, page: u64, mode: u64) -> Option<(u64, u64)>
+    requires finds { FindsHeap memory.old process.now.set process.now.process.heap_pages }
+    ensures same { memory.new ≡ memory.old }
+    ensures refusal { result ≡ protect_refusal process.now.process.heap_pages page mode (pattern_at memory.old process.now.set page process.now.process.heap_pages) }
+{
+    if page >= u64::from(process.heap_pages) {
+        return Some((BAD_PAGE, 0));
+    }
+    match mode {
+        WRITE => None,
+        EXECUTE => pattern_refusal(process, memory, page as u32),
+        _ => Some((BAD_MODE, 0)),
+    }
+}
+
+/// The refusal of a page that holds the pattern.
+fn pattern_refusal(process: &Process, memory: &mut Memory, page: u32) -> Option<(u64, u64)>
+    requires finds { FindsHeap memory.old process.now.set process.now.process.heap_pages }
+    requires page { page < process.now.process.heap_pages }
+    ensures same { memory.new ≡ memory.old }
+    ensures refusal { result ≡ refused_pattern (pattern_at memory.old process.now.set page process.now.process.heap_pages) }
+{
+    let address = heap_pattern(memory, &process.set, page, process.heap_pages)?;
+    Some((PATTERN, address))
+}
+
+/// The lowest entry for a heap page.
+#[tactic(auto, unfolding(sb_shows::specs::Placement::leaf_for))]
+fn heap_entry(frame: Frame, executable: bool) -> u64
+    ensures { result ≡ leaf_for frame.0 (heap_mode executable) }
+{
+    let start = 4096 * u64::from(frame.0);
+    if executable {
+        start + CODE
+    } else {
+        start + DATA
+    }
+}
+
+/// What the base permits of a heap page.
+fn heap_rights(executable: bool) -> u8
+    ensures { result ≡ rights_for (heap_mode executable) }
+{
+    if executable {
+        EXECUTE_ALONE
+    } else {
+        READ_WRITE
+    }
+}
+
+/// Gives a heap page a mode.
+fn set_mode(
+    process: &Process,
+    memory: &mut Memory,
+    root: &mut RootKernel,
+    page: u32,
+    executable: bool,
+)
+    requires finds { FindsHeap memory.old process.now.set process.now.process.heap_pages }
+    requires page { page < process.now.process.heap_pages }
+    requires tables { HasTables process.now.set memory.old }
+    requires stands { Stands root.old memory.old }
+    requires apart { IsApart root.old (table_frame process.now.set 7 ∷ []) }
+    ensures root { root.new ≡ root.old }
+    ensures sets { SetsMode process.now.set root.old memory.old memory.new page executable }
+{
+    let frame = page_frame(memory, &process.set, page, process.heap_pages);
+    process
+        .set
+        .set_page(memory, heap_address(page), heap_entry(frame, executable));
+    root.expose(memory, frame, heap_rights(executable));
+}
+
+/// Gives a heap page of a process a mode, or answers the first refusal and a second value. Where the bytes of VMFUNC refuse it,
+/// that is the lowest address at which they stand.
+pub fn protect(
+    process: &Process,
+    memory: &mut Memory,
+    root: &mut RootKernel,
+    page: u64,
+    mode: u64,
+) -> Option<(u64, u64)>
+    requires finds { FindsHeap memory.old process.now.set process.now.process.heap_pages }
+    requires tables { HasTables process.now.set memory.old }
+    requires stands { Stands root.old memory.old }
+    requires apart { IsApart root.old (table_frame process.now.set 7 ∷ []) }
+    ensures refusal { result ≡ protect_refusal process.now.process.heap_pages page mode (pattern_at memory.old process.now.set page process.now.process.heap_pages) }
+    ensures root { root.new ≡ root.old }
+    ensures refused { IfSome result (λ _. memory.new ≡ memory.old) }
+    ensures within { IfNone result (page < process.now.process.heap_pages) }
+    ensures sets { IfNone result (SetsMode process.now.set root.old memory.old memory.new page (mode == 1)) }
+{
+    let refused = refusal(process, memory, page, mode);
+    if refused.is_none() {
+        set_mode(process, memory, root, page as u32, mode == EXECUTE);
+    }
+    refused
+}

@@ -1,0 +1,132 @@
+//! Pages that are added: a frame is taken, filled, mapped and exposed.
+
+ghost use Rattle.std.specs.Prelude.{ℕ, ◌≡◌, ◌+◌, ◌*◌, ◌<◌, ◌≤◌, [], ◌∷◌, Some, get_or};
+ghost use Rattle.sb_memory.specs.Physical.{HasSize, frame_count};
+ghost use Rattle.sb_memory.specs.Changes.{SameOutside};
+ghost use Rattle.sb_frames.specs.Book.{IsLowestFree, free_count, with_holder};
+ghost use Rattle.sb_pagewalk.specs.Windows.{IsInWindow};
+ghost use Rattle.sb_trace.specs.declared.page.Mode.TheVariants.{ReadWrite};
+ghost use Rattle.sb_shows.specs.Placement.{leaf_for};
+ghost use Rattle.sb_sub.specs.Carries.{TakesStacks, stack_at, stack_top};
+ghost use Rattle.sb_sub.specs.Taking.{CanTake, TakesPage, top_bytes};
+
+use sb_frames::{FrameBook, Kind};
+use sb_memory::{Frame, Linear, Memory, PhysAddr};
+use sb_pagewalk::TableSet;
+use sb_root::RootKernel;
+
+/// Present, writable and user, and no fetch: a lowest entry for data.
+const DATA: u64 = 7 + (1 << 63);
+
+/// Read and write, for the base.
+const READ_WRITE: u8 = 3;
+
+/// The place of the last word of a page.
+const TOP: u64 = 0xFF8;
+
+/// Takes the lowest free frame.
+pub fn take(book: &mut FrameBook, kind: Kind, owner: u32) -> Frame
+    requires { 0 < free_count book.old }
+    ensures lowest { IsLowestFree book.old result.0 }
+    ensures taken { book.new ≡ with_holder book.old result.0 (Some (kind, owner)) }
+    ensures fewer { free_count book.new + 1 ≡ free_count book.old }
+{
+    match book.take(kind, owner) {
+        Some(frame) => frame,
+        None => unreachable!(),
+    }
+}
+
+/// Fills a frame with zeros, and puts a word at its top if it is not 0.
+fn fill(memory: &mut Memory, frame: Frame, top: u64)
+    requires inside { frame.0 < frame_count memory.old }
+    requires size { HasSize memory.old }
+    ensures same { SameOutside (frame.0 ∷ []) memory.old memory.new }
+    ensures held { (offset : ℕ) → offset < 4096 → get_or memory.new.bytes (4096 * frame.0 + offset) 0 ≡ get_or (top_bytes top) offset 0 }
+{
+    memory.clear_frame(frame);
+    if top != 0 {
+        memory.set_word(PhysAddr(4096 * u64::from(frame.0) + TOP), top);
+    }
+}
+
+/// The lowest entry for a writable page.
+#[tactic(auto, unfolding(sb_shows::specs::Placement::leaf_for))]
+fn data_entry(frame: Frame) -> u64
+    ensures { result ≡ leaf_for frame.0 ReadWrite }
+{
+    4096 * u64::from(frame.0) + DATA
+}
+
+/// Adds a writable page of zeros, with a word at its top if that is not 0, to the tables of a process.
+pub fn add_page(
+    set: &TableSet,
+    memory: &mut Memory,
+    book: &mut FrameBook,
+    root: &mut RootKernel,
+    owner: u32,
+    at: Linear,
+    top: u64,
+)
+    requires window { IsInWindow at.0 }
+    requires some { 0 < free_count book.old }
+    requires can { CanTake set.now root.old book.old memory.old }
+    ensures root { root.new ≡ root.old }
+    ensures added { TakesPage set.now root.old book.old book.new memory.old memory.new owner at.0 top }
+    ensures can { CanTake set.now root.new book.new memory.new }
+{
+    let frame = take(book, Kind::Writable, owner);
+    fill(memory, frame, top);
+    set.set_page(memory, at, data_entry(frame));
+    root.expose(memory, frame, READ_WRITE);
+}
+
+/// Where the server stacks begin.
+const STACKS_ADDRESS: u64 = 0x400_0000;
+
+/// The address of the exit stub, to which a handler returns.
+const EXIT_STUB: u64 = 0x7000_0000;
+
+/// Adds so many pages of server stacks to a process.
+pub fn add_stacks(
+    set: &TableSet,
+    memory: &mut Memory,
+    book: &mut FrameBook,
+    root: &mut RootKernel,
+    owner: u32,
+    count: u32,
+)
+    requires few { count ≤ 512 }
+    requires some { count ≤ free_count book.old }
+    requires can { CanTake set.now root.old book.old memory.old }
+    ensures root { root.new ≡ root.old }
+    ensures added { TakesStacks set.now root.old book.old book.new memory.old memory.new owner count }
+    ensures fewer { free_count book.new + count ≡ free_count book.old }
+    ensures can { CanTake set.now root.new book.new memory.new }
+{
+    for page in 0..count {
+        add_page(
+            set,
+            memory,
+            book,
+            root,
+            owner,
+            stack_address(page),
+            top_word(page),
+        );
+    }
+}
+
+/// The linear address of a page of a server stack.
+fn stack_address(page: u32) -> Linear
+    ensures { result.0 ≡ stack_at page }
+{
+    Linear(STACKS_ADDRESS + 4096 * u64::from(page))
+}
+
+/// The word at the top of a page of a server stack.
+fn top_word(page: u32) -> u64
+    ensures { result ≡ stack_top page }
+{
+    if page % 4 == 3 { EXIT_STUB } else { 0 }
+}
