@@ -17,6 +17,3 @@ mod step;
 pub use entry::is_eptp;
 pub use sb_memory::EptStop;
 pub use step::ept_walk;
-
-#[cfg(test)]
-mod tests;

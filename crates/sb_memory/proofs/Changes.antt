@@ -21,7 +21,7 @@ same_outside_then frames old mid new first second = record {
 }
 
 -- a place in another frame than a word lies beside it
-beside_word : (at place : ℕ) → at % 8 ≡ 0 → frame_of place ≢ frame_of at → (place < at) ⊎ (at + 8 ≤ place)
+pub beside_word : (at place : ℕ) → at % 8 ≡ 0 → frame_of place ≢ frame_of at → (place < at) ⊎ (at + 8 ≤ place)
 beside_word at place aligned other = elim (cases_lt place at) [
   | inl below ↦ inl below
   | inr above ↦ inr (omega arith)

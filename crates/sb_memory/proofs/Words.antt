@@ -9,7 +9,7 @@ use Rattle.byteorder.specs.Numbers.{little_number-reads_back, length-bytes_low_f
 use Rattle.sb_memory.specs.Words.{word_at, put_word, put_bytes, zeros, clear_frame}
 
 -- a place beside those that are set
-get_or-sets_other : (new bytes : List ℕ) (at place : ℕ) → (place < at) ⊎ (at + length new ≤ place) → get_or (sets bytes at new) place 0 ≡ get_or bytes place 0
+pub get_or-sets_other : (new bytes : List ℕ) (at place : ℕ) → (place < at) ⊎ (at + length new ≤ place) → get_or (sets bytes at new) place 0 ≡ get_or bytes place 0
 get_or-sets_other [] bytes at place apart = refl
 get_or-sets_other (byte ∷ new) bytes at place (inl below) =
     let other : place ≢ at = omega arith in
@@ -19,7 +19,7 @@ get_or-sets_other (byte ∷ new) bytes at place (inr above) =
     get_or-sets_other new (set bytes at byte) (suc at) place (inr (omega arith)) ∙ (rw get_or-set_other refl)
 
 -- a place among those that are set
-get_or-sets_same : (new bytes : List ℕ) (at k : ℕ) → k < length new → at + length new ≤ length bytes → get_or (sets bytes at new) (at + k) 0 ≡ get_or new k 0
+pub get_or-sets_same : (new bytes : List ℕ) (at k : ℕ) → k < length new → at + length new ≤ length bytes → get_or (sets bytes at new) (at + k) 0 ≡ get_or new k 0
 get_or-sets_same [] bytes at k within fits = absurd (omega arith)
 get_or-sets_same (byte ∷ new) bytes at zero within fits =
     let here : at + 0 ≡ at = omega arith in
@@ -58,6 +58,20 @@ unfolding put_word
 byte_beside_word bytes at word place apart =
     let size : length (little_bytes 8 word) ≡ 8 = length-bytes_low_first 0 8 word in
     get_or-sets_other (little_bytes 8 word) bytes at place (rw size apart)
+
+-- a byte of a word that was put
+pub byte_in_word : (bytes : List ℕ) (at word k : ℕ) → k < 8 → at + 8 ≤ length bytes
+    → get_or (put_word bytes at word) (at + k) 0 ≡ get_or (little_bytes 8 word) k 0
+unfolding put_word
+byte_in_word bytes at word k among fits =
+    let size : length (little_bytes 8 word) ≡ 8 = length-bytes_low_first 0 8 word in
+    get_or-sets_same (little_bytes 8 word) bytes at k (omega arith) (omega arith)
+
+-- a word that was put has the same bytes wherever it was put
+pub byte_in_word-same : (bytes others : List ℕ) (at at' word k : ℕ) → k < 8 → at + 8 ≤ length bytes → at' + 8 ≤ length others
+    → get_or (put_word bytes at word) (at + k) 0 ≡ get_or (put_word others at' word) (at' + k) 0
+byte_in_word-same bytes others at at' word k among fits fits' =
+    byte_in_word bytes at word k among fits ∙ sym (byte_in_word others at' word k among fits')
 
 -- a word that was put is read back
 pub word_read_back : (bytes : List ℕ) (at word : ℕ) → at + 8 ≤ length bytes → word < 2 ^ 64 → word_at (put_word bytes at word) at ≡ word

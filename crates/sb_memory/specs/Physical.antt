@@ -1,5 +1,6 @@
 -- Physical memory: its bytes, and which frames are there. A frame is 4,096 bytes.
 use Rattle.std.specs.Prelude.{ℕ, ◌≡◌, ◌*◌, ◌/◌, ◌%◌, ◌^◌, ◌<◌, Bool, true, false, List, length, replicate, get_or}
+use Rattle.sb_abi.specs.declared.space.TheConstants.{PAGE_SIZE}
 
 -- the bytes of all frames, one after another, and for each frame whether it is there
 pub record Physical : Type 0 where
@@ -12,7 +13,7 @@ frame_count memory = length memory.present
 
 -- the frame of a place
 abbrev pub frame_of : ℕ → ℕ
-frame_of place = place / 4096
+frame_of place = place / PAGE_SIZE
 
 -- whether a frame is there
 abbrev pub has_frame : Physical → ℕ → Bool
@@ -24,7 +25,7 @@ HasAllFrames memory = (frame : ℕ) → frame < frame_count memory → has_frame
 
 -- a place in a frame of the memory, whether or not that frame is there
 abbrev pub IsPlace : Physical → ℕ → Type 0
-IsPlace memory place = place < 4096 * frame_count memory
+IsPlace memory place = place < PAGE_SIZE * frame_count memory
 
 -- such a place at which a word of 8 bytes may stand
 pub record IsWordPlace (memory : Physical) (place : ℕ) : Type 0 where
@@ -34,7 +35,7 @@ pub record IsWordPlace (memory : Physical) (place : ℕ) : Type 0 where
 -- there are few frames, and each has its bytes
 pub record HasSize (memory : Physical) : Type 0 where
   pub count : frame_count memory < 2 ^ 32
-  pub bytes : length memory.bytes ≡ 4096 * frame_count memory
+  pub bytes : length memory.bytes ≡ PAGE_SIZE * frame_count memory
 
 -- what holds of each physical memory
 pub record IsPhysical (memory : Physical) : Type 0 where
@@ -43,4 +44,4 @@ pub record IsPhysical (memory : Physical) : Type 0 where
 
 -- memory of zeros that has all its frames
 abbrev pub zeroed : ℕ → Physical
-zeroed frames = record { bytes = replicate (4096 * frames) 0; present = replicate frames true }
+zeroed frames = record { bytes = replicate (PAGE_SIZE * frames) 0; present = replicate frames true }

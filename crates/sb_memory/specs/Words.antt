@@ -1,6 +1,7 @@
 -- Words of 8 bytes in a list of bytes, the lowest byte first, and runs of bytes in it.
-use Rattle.std.specs.Prelude.{ℕ, ◌*◌, List, replicate}
+use Rattle.std.specs.Prelude.{ℕ, ◌+◌, ◌*◌, List, [], ◌∷◌, replicate}
 use lib.Seq.{sets}
+use Rattle.sb_abi.specs.declared.space.TheConstants.{PAGE_SIZE}
 use Rattle.byteorder.specs.Endian.{little_from, little_bytes}
 
 -- the word at a place
@@ -15,10 +16,15 @@ put_word bytes place word = sets bytes place (little_bytes 8 word)
 unfoldable pub put_bytes : List ℕ → ℕ → List ℕ → List ℕ
 put_bytes bytes place others = sets bytes place others
 
+-- the bytes with words put from a place upwards, one after another
+abbrev pub words_put : List ℕ → ℕ → List ℕ → List ℕ
+words_put bytes place [] = bytes
+words_put bytes place (word ∷ words) = words_put (put_word bytes place word) (place + 8) words
+
 -- so many zeros
 unfoldable pub zeros : ℕ → List ℕ
 zeros count = replicate count 0
 
 -- the bytes with zeros in a frame
 unfoldable pub clear_frame : List ℕ → ℕ → List ℕ
-clear_frame bytes frame = put_bytes bytes (4096 * frame) (zeros 4096)
+clear_frame bytes frame = put_bytes bytes (PAGE_SIZE * frame) (zeros PAGE_SIZE)

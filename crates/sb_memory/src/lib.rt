@@ -29,6 +29,3 @@ pub use bytes::{put_bytes, put_word, put_zeros, word};
 pub use law::words_keep_apart;
 pub use memory::Memory;
 pub use phys::Phys;
-
-#[cfg(test)]
-mod tests;

@@ -1,6 +1,7 @@
 //! Memory that has all its frames.
 
 ghost use Rattle.std.specs.Prelude.{◌≡◌, ℕ, ◌+◌, ◌*◌, ◌≤◌, ◌<◌, length, get_or, IfOk};
+ghost use Rattle.sb_abi.specs.declared.space.TheConstants.{PAGE_SIZE};
 ghost use Rattle.sb_memory.specs.Physical.{HasSize, IsPhysical, IsPlace, IsWordPlace, HasAllFrames, frame_count, zeroed};
 ghost use Rattle.sb_memory.specs.Reading.{with_bytes};
 ghost use Rattle.sb_memory.specs.Words.{word_at, put_word as word_put, put_bytes as bytes_put, clear_frame as frame_cleared};
@@ -8,6 +9,7 @@ ghost use Rattle.sb_memory.specs.Words.{word_at, put_word as word_put, put_bytes
 use crate::address::{Frame, Missing, PhysAddr};
 use crate::bytes::{put_bytes, put_word, put_zeros, word};
 use crate::phys::Phys;
+use sb_abi::PAGE_SIZE;
 use std::alloc::{AllocError, Global};
 use std::marker::Model;
 
@@ -23,13 +25,14 @@ pub struct Memory {
 
 impl Model for Memory {
     ghost use Rattle.std.specs.Prelude.{◌≡◌, ◌*◌, replicate, true, length};
+    ghost use Rattle.sb_abi.specs.declared.space.TheConstants.{PAGE_SIZE};
     ghost use Rattle.sb_memory.specs.Physical.{Physical};
 
     ghost Value = { Physical };
 
     ghost view = { λ memory. record { bytes = memory.bytes.items; present = replicate memory.frames true } };
 
-    ghost invariant = { λ memory. length memory.bytes.items ≡ 4096 * memory.frames };
+    ghost invariant = { λ memory. length memory.bytes.items ≡ PAGE_SIZE * memory.frames };
 }
 
 impl Memory {
@@ -37,7 +40,7 @@ impl Memory {
     pub fn new(alloc: Global, frames: u32) -> Result<Memory, AllocError>
         ensures { IfOk result (λ memory. memory ≡ zeroed frames) }
     {
-        let bytes = vec![in alloc; 0u8; 4096 * frames as usize]?;
+        let bytes = vec![in alloc; 0u8; PAGE_SIZE as usize * frames as usize]?;
         Ok(Memory { bytes, frames })
     }
 
@@ -67,7 +70,7 @@ impl Memory {
 
     /// Puts bytes at a place.
     pub fn set_bytes(&mut self, at: PhysAddr, bytes: &[u8])
-        requires { at.0 + length bytes.now ≤ 4096 * frame_count self.old }
+        requires { at.0 + length bytes.now ≤ PAGE_SIZE * frame_count self.old }
         ensures written { self.new ≡ with_bytes self.old (bytes_put self.old.bytes at.0 bytes.now) }
         ensures size { HasSize self.new }
     {
@@ -81,7 +84,7 @@ impl Memory {
         ensures written { self.new ≡ with_bytes self.old (frame_cleared self.old.bytes frame.0) }
         ensures size { HasSize self.new }
     {
-        put_zeros(&mut self.bytes, 4096 * frame.0 as usize, 4096);
+        put_zeros(&mut self.bytes, frame.base().0 as usize, PAGE_SIZE as usize);
     }
 }
 

@@ -26,6 +26,3 @@ pub use bus::NestedBus;
 pub use law::{at_most_24_words, whole_words_are_bytes};
 pub use nested::translate;
 pub use sb_walks::NestedStop;
-
-#[cfg(test)]
-mod tests;

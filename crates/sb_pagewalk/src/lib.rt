@@ -25,6 +25,3 @@ pub use sb_walks::{TableStop, WalkStop};
 pub use step::walk;
 pub use table_set::TableSet;
 pub use tables::Tables;
-
-#[cfg(test)]
-mod tests;

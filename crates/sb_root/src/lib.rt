@@ -31,6 +31,3 @@ pub use law::{lists_lead_to_views, roots_keep_apart, views_answer};
 pub use no_frames::NoFrames;
 pub use root_kernel::RootKernel;
 pub use vmfunc::switch;
-
-#[cfg(test)]
-mod tests;

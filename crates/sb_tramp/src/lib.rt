@@ -18,10 +18,3 @@ mod keys;
 mod landing;
 mod pages;
 mod record_words;
-#[cfg(test)]
-mod tests;
-
-pub use keys::KeyWords;
-pub use landing::{LandingRow, landing_row};
-pub use pages::{put_home, put_server, rows_stand};
-pub use record_words::RecordWords;

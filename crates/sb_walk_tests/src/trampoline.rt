@@ -1,32 +1,17 @@
-//! What no clause says: rows of the tables against their bytes, and each call once.
+//! The trampoline pages: rows of the tables against their bytes, and each call once.
 
-use crate::{KeyWords, LandingRow, RecordWords, landing_row, put_home, put_server};
 use sb_decode::decode;
+use sb_tramp::{KeyWords, LandingRow, RecordWords, landing_row, put_home, put_server};
 use std::test::Fail;
 
 #[test]
+#[rattlefmt::skip]
 fn the_home_page_has_its_bytes(rt: HostRuntime) {
     let rows = [
-        (
-            "the save page is read from the record",
-            0x00,
-            [0x48, 0x8B, 0x04, 0x25].as_slice(),
-        ),
-        (
-            "the jump over the gap",
-            0x27,
-            [0xEB, 0x17, 0xCC, 0xCC].as_slice(),
-        ),
-        (
-            "the gap ends at the switch",
-            0x3F,
-            [0xCC, 0x0F, 0x01, 0xD4].as_slice(),
-        ),
-        (
-            "the return ends the code",
-            0x66,
-            [0x4C, 0x89, 0xC8, 0xC3, 0xCC].as_slice(),
-        ),
+        ("the save page is read from the record", 0x00, [0x48, 0x8B, 0x04, 0x25].as_slice()),
+        ("the jump over the gap", 0x27, [0xEB, 0x17, 0xCC, 0xCC].as_slice()),
+        ("the gap ends at the switch", 0x3F, [0xCC, 0x0F, 0x01, 0xD4].as_slice()),
+        ("the return ends the code", 0x66, [0x4C, 0x89, 0xC8, 0xC3, 0xCC].as_slice()),
         ("the page ends with CC", 0xFFE, [0xCC, 0xCC].as_slice()),
     ];
     let mut page = [0u8; 4096];
@@ -37,28 +22,13 @@ fn the_home_page_has_its_bytes(rt: HostRuntime) {
 }
 
 #[test]
+#[rattlefmt::skip]
 fn the_server_page_has_its_bytes(rt: HostRuntime) {
     let rows = [
-        (
-            "the way back begins",
-            0x00,
-            [0x48, 0x8D, 0x4C, 0x24, 0xF8].as_slice(),
-        ),
-        (
-            "the gap ends at the switch",
-            0x3F,
-            [0xCC, 0x0F, 0x01, 0xD4].as_slice(),
-        ),
-        (
-            "the key is compared behind the switch",
-            0x43,
-            [0x48, 0x3B, 0x34, 0x25].as_slice(),
-        ),
-        (
-            "the handler is entered",
-            0x87,
-            [0xFF, 0x24, 0x25, 0x10, 0x20, 0x00, 0x70].as_slice(),
-        ),
+        ("the way back begins", 0x00, [0x48, 0x8D, 0x4C, 0x24, 0xF8].as_slice()),
+        ("the gap ends at the switch", 0x3F, [0xCC, 0x0F, 0x01, 0xD4].as_slice()),
+        ("the key is compared behind the switch", 0x43, [0x48, 0x3B, 0x34, 0x25].as_slice()),
+        ("the handler is entered", 0x87, [0xFF, 0x24, 0x25, 0x10, 0x20, 0x00, 0x70].as_slice()),
         ("the refusal goes home", 0xA3, [0xEB, 0x9B, 0xCC].as_slice()),
         ("the page ends with CC", 0xFFE, [0xCC, 0xCC].as_slice()),
     ];
@@ -70,6 +40,7 @@ fn the_server_page_has_its_bytes(rt: HostRuntime) {
 }
 
 #[test]
+#[rattlefmt::skip]
 fn phases_stand_at_their_offsets(rt: HostRuntime) {
     let rows = [
         ("the key is compared", 0, Some((0x43, 8))),

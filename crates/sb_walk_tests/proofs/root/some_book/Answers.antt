@@ -4,7 +4,7 @@ use Rattle.sb_memory.specs.declared.address.Frame.{Frame}
 use Rattle.sb_frames.specs.declared.kind.Kind.{Kind}
 use Rattle.sb_frames.specs.Book.{Book, after_take}
 use Rattle.sb_root.proofs.InTurn.{length_with_holder}
-use Rattle.sb_root.proofs.tests.some_book.Goals as goal
+use Rattle.sb_walk_tests.proofs.root.some_book.Goals as goal
 
 -- a take leaves the number of frames
 length_after_take : (book : Book) (taken : Option Frame) (kind : Kind) (owner : ℕ) → length (after_take book taken kind owner) ≡ length book

@@ -1,95 +1,11 @@
 //! Calls on whole memory, and on memory that misses a frame and notes its calls.
 
-ghost use Rattle.std.specs.Prelude.{◌≡◌, ◌/◌, ◌<◌, ◌≤◌, take, length};
-ghost use Rattle.sb_memory.specs.Physical.{IsWordPlace, frame_count};
-ghost use Rattle.sb_memory.specs.Accounts.{PhysCall, ReadWord, place_of};
-ghost use Rattle.sb_memory.specs.TestMemory.{noted_place};
+ghost use Rattle.std.specs.Prelude.{◌≡◌};
+ghost use Rattle.sb_memory.specs.Physical.{IsWordPlace};
 
-use crate::{Frame, Memory, Missing, Phys, PhysAddr};
-
-/// A memory without one of its frames, which notes the places of its first calls.
-#[derive(Drop)]
-struct Sparse<'a> {
-    memory: &'a mut Memory,
-    missing: u32,
-    places: [u64; 8],
-    count: usize,
-    ghost within: { count ≤ 8 },
-}
-
-/// Notes a place, if there is room.
-#[tactic(auto, unfolding(crate::specs::TestMemory::noted_place))]
-fn note(places: &mut [u64; 8], count: &mut usize, place: u64)
-    requires { count.old ≤ 8 }
-    ensures places { take count.new places.new ≡ noted_place place (take count.old places.old) }
-    ensures within { count.new ≤ 8 }
-{
-    if *count < 8 {
-        places[*count] = place;
-        *count += 1;
-    }
-}
-
-impl Phys for Sparse<'_> {
-    ghost use Rattle.std.specs.Prelude.{ℕ, List, take};
-    ghost use Rattle.sb_memory.specs.TestMemory.{noted, without_frame};
-
-    ghost Account = { List ℕ };
-
-    ghost Kept = { ℕ × ℕ };
-
-    ghost meaning = { λ sparse. without_frame sparse.memory.now sparse.missing };
-
-    ghost account = { λ sparse. take sparse.count sparse.places };
-
-    ghost kept = { λ sparse. (sparse.memory.ghost_name, sparse.missing) };
-
-    ghost rule = { noted };
-
-    fn frames(&self) -> u32 {
-        self.memory.frames()
-    }
-
-    fn read_byte(&mut self, at: PhysAddr) -> Result<u8, Missing> {
-        note(&mut self.places, &mut self.count, at.0);
-        if at.0 / 4096 == u64::from(self.missing) {
-            return Err(Missing {
-                frame: Frame(self.missing),
-            });
-        }
-        self.memory.read_byte(at)
-    }
-
-    fn read_word(&mut self, at: PhysAddr) -> Result<u64, Missing> {
-        note(&mut self.places, &mut self.count, at.0);
-        if at.0 / 4096 == u64::from(self.missing) {
-            return Err(Missing {
-                frame: Frame(self.missing),
-            });
-        }
-        self.memory.read_word(at)
-    }
-
-    fn write_byte(&mut self, at: PhysAddr, value: u8) -> Result<(), Missing> {
-        note(&mut self.places, &mut self.count, at.0);
-        if at.0 / 4096 == u64::from(self.missing) {
-            return Err(Missing {
-                frame: Frame(self.missing),
-            });
-        }
-        self.memory.write_byte(at, value)
-    }
-
-    fn write_word(&mut self, at: PhysAddr, value: u64) -> Result<(), Missing> {
-        note(&mut self.places, &mut self.count, at.0);
-        if at.0 / 4096 == u64::from(self.missing) {
-            return Err(Missing {
-                frame: Frame(self.missing),
-            });
-        }
-        self.memory.write_word(at, value)
-    }
-}
+use crate::sparse::Sparse;
+use sb_abi::PAGE_SIZE;
+use sb_memory::{Frame, Linear, Memory, Missing, Phys, PhysAddr};
 
 /// Copies a word of any memory.
 fn copy_word<P: Phys>(phys: &mut P, from: PhysAddr, to: PhysAddr) -> Result<(), Missing>
@@ -103,7 +19,7 @@ fn copy_word<P: Phys>(phys: &mut P, from: PhysAddr, to: PhysAddr) -> Result<(), 
 
 /// The byte at a place, if the place lies in the memory.
 fn read<P: Phys>(phys: &mut P, place: u64) -> Option<Result<u8, Missing>> {
-    if place >= 4096 * u64::from(phys.frames()) {
+    if place >= PAGE_SIZE * u64::from(phys.frames()) {
         return None;
     }
     Some(phys.read_byte(PhysAddr(place)))
@@ -111,7 +27,7 @@ fn read<P: Phys>(phys: &mut P, place: u64) -> Option<Result<u8, Missing>> {
 
 /// Copies a word, if both places are places for words.
 fn copy<P: Phys>(phys: &mut P, from: u64, to: u64) -> Option<Result<(), Missing>> {
-    let end = 4096 * u64::from(phys.frames());
+    let end = PAGE_SIZE * u64::from(phys.frames());
     if from >= end || to >= end || from % 8 != 0 || to % 8 != 0 {
         return None;
     }
@@ -119,6 +35,7 @@ fn copy<P: Phys>(phys: &mut P, from: u64, to: u64) -> Option<Result<(), Missing>
 }
 
 #[test]
+#[rattlefmt::skip]
 fn reads_what_was_written(rt: HostRuntime) {
     let mut memory = Memory::new(rt.alloc(), 3).expect(&rt, "memory");
     assert!(rt;
@@ -144,15 +61,11 @@ fn reads_what_was_written(rt: HostRuntime) {
 }
 
 #[test]
+#[rattlefmt::skip]
 fn refuses_a_missing_frame(rt: HostRuntime) {
     let mut memory = Memory::new(rt.alloc(), 3).expect(&rt, "memory");
     memory.set_word(PhysAddr(0), 7);
-    let mut sparse = Sparse {
-        memory: &mut memory,
-        missing: 1,
-        places: [0; 8],
-        count: 0,
-    };
+    let mut sparse = Sparse::without(&mut memory, 1);
     let gap = Missing { frame: Frame(1) };
     let rows = [
         ("to a frame that is there", 0, 0x2000, Ok(())),
@@ -181,4 +94,23 @@ fn an_owner_reads_and_writes(rt: HostRuntime) {
     assert_eq!(rt; memory.word(PhysAddr(0x1000)), 0);
     assert_eq!(rt; memory.word(PhysAddr(0x1FF8)), 0);
     assert_eq!(rt; memory.bytes().len(), 0x2000);
+}
+
+#[test]
+#[rattlefmt::skip]
+fn addresses_have_pages_and_offsets(rt: HostRuntime) {
+    let rows = [
+        ("the last address of the lower half", 0x7FFF_FFFF_FFFF, true),
+        ("the first that is not canonical", 0x8000_0000_0000, false),
+        ("the last that is not canonical", 0xFFFF_7FFF_FFFF_FFFF, false),
+        ("the first address of the upper half", 0xFFFF_8000_0000_0000, true),
+    ];
+    for (shows, at, answer) in rows {
+        assert_eq!(rt; Linear(at).is_canonical(), answer, "{shows}");
+    }
+    assert_eq!(rt; Linear(0x40_0FFF).page(), 0x400);
+    assert_eq!(rt; Linear(0x40_0FFF).offset(), 0xFFF);
+    assert_eq!(rt; Linear(0xFFFF_FFFF_FFFF_FFFF).further(2), Linear(1));
+    assert_eq!(rt; Frame(0x258).base(), PhysAddr(0x25_8000));
+    assert_eq!(rt; Frame(0x258).word(511), PhysAddr(0x25_8FF8));
 }

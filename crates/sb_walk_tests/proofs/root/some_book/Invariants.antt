@@ -1,5 +1,5 @@
 use Rattle.std.proofs.Common.{◌≡◌, ◌+◌, length}
-use Rattle.sb_root.proofs.tests.some_book.Given as goal
+use Rattle.sb_walk_tests.proofs.root.some_book.Given as goal
 
 abbrev pub invariant-loop : goal.invariant-loop
 invariant-loop l = length l.book + 512 ≡ 1024

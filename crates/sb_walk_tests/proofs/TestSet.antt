@@ -3,7 +3,7 @@ use Rattle.std.proofs.Common.{◌≡◌, ◌≢◌, ℕ, zero, suc, ◌+◌, ◌
 use Rattle.sb_memory.specs.Physical.{Physical, frame_count}
 use Rattle.sb_pagewalk.specs.TableSet.{table_frame}
 use Rattle.sb_pagewalk.specs.Standing.{AreFrames}
-use Rattle.sb_pagewalk.specs.TestSet.{test_set}
+use Rattle.sb_walk_tests.specs.TestSet.{test_set}
 
 -- the frames of the tables are one above the other
 later_frame : (table : ℕ) → table < 11 → table_frame test_set (suc table) ≡ 600 + table

@@ -4,10 +4,10 @@ ghost use Rattle.std.specs.Prelude.{◌≡◌, ◌+◌, length, IfOk};
 ghost use Rattle.sb_memory.specs.Physical.{frame_count};
 ghost use Rattle.sb_root.specs.Standing.{IsBooked, Stands};
 
-use crate::{NoFrames, RootKernel, Switch, switch};
 use sb_eptwalk::{EptStop, ept_walk, is_eptp};
 use sb_frames::{FrameBook, Kind};
 use sb_memory::{Access, Frame, GuestPhys, Memory, Missing, Phys, PhysAddr};
+use sb_root::{NoFrames, RootKernel, Switch, switch};
 use sb_tramp::RecordWords;
 use std::alloc::{AllocError, Global};
 
@@ -157,6 +157,7 @@ fn to(place: u64) -> Result<PhysAddr, EptStop> {
 }
 
 #[test]
+#[rattlefmt::skip]
 fn views_differ_in_four_pages(rt: HostRuntime) {
     let mut machine = Machine::new(rt.alloc(), 512).expect(&rt, "memory");
     machine.expose(600, 3);
@@ -172,57 +173,17 @@ fn views_differ_in_four_pages(rt: HostRuntime) {
         machine.pointer(0, 2),
     ];
     let rows = [
-        (
-            "CR3",
-            0x1_2008,
-            Access::Read,
-            [to(0x1_2008), to(0x1_2008), to(0x1_0008), to(0x1_1008)],
-        ),
+        ("CR3", 0x1_2008, Access::Read, [to(0x1_2008), to(0x1_2008), to(0x1_0008), to(0x1_1008)]),
         ("CR3 written", 0x1_2008, Access::Write, [DENIED; 4]),
         ("another root", 0x1_F000, Access::Read, [to(0x1_F000); 4]),
-        (
-            "trampoline",
-            0x1040,
-            Access::Fetch,
-            [to(0x1040), to(0x1040), to(0x4040), to(0x4040)],
-        ),
+        ("trampoline", 0x1040, Access::Fetch, [to(0x1040), to(0x1040), to(0x4040), to(0x4040)]),
         ("trampoline read", 0x1040, Access::Read, [DENIED; 4]),
-        (
-            "record",
-            0x2020,
-            Access::Read,
-            [NOTHING, to(0x20_5020), to(0x20_B020), to(0x21_1020)],
-        ),
-        (
-            "record written",
-            0x2020,
-            Access::Write,
-            [NOTHING, DENIED, DENIED, DENIED],
-        ),
-        (
-            "scratch",
-            0x3FFF,
-            Access::Write,
-            [NOTHING, to(0x20_6FFF), to(0x20_CFFF), to(0x21_2FFF)],
-        ),
-        (
-            "scratch fetched",
-            0x3000,
-            Access::Fetch,
-            [NOTHING, DENIED, DENIED, DENIED],
-        ),
-        (
-            "exposed before",
-            0x25_8123,
-            Access::Write,
-            [to(0x25_8123); 4],
-        ),
-        (
-            "exposed later",
-            0x3F_F001,
-            Access::Fetch,
-            [to(0x3F_F001); 4],
-        ),
+        ("record", 0x2020, Access::Read, [NOTHING, to(0x20_5020), to(0x20_B020), to(0x21_1020)]),
+        ("record written", 0x2020, Access::Write, [NOTHING, DENIED, DENIED, DENIED]),
+        ("scratch", 0x3FFF, Access::Write, [NOTHING, to(0x20_6FFF), to(0x20_CFFF), to(0x21_2FFF)]),
+        ("scratch fetched", 0x3000, Access::Fetch, [NOTHING, DENIED, DENIED, DENIED]),
+        ("exposed before", 0x25_8123, Access::Write, [to(0x25_8123); 4]),
+        ("exposed later", 0x3F_F001, Access::Fetch, [to(0x3F_F001); 4]),
         ("not exposed", 0x25_9000, Access::Read, [NOTHING; 4]),
         ("a list", 0x20_0000, Access::Read, [NOTHING; 4]),
         ("behind 32 MiB", 0x200_0000, Access::Read, [BEYOND; 4]),
@@ -273,26 +234,12 @@ fn frames_taken_away_are_reached_no_more(rt: HostRuntime) {
 }
 
 #[test]
+#[rattlefmt::skip]
 fn wants_frames(rt: HostRuntime) {
     let rows = [
-        (
-            "a list of none",
-            0,
-            Some(Err(NoFrames { need: 1, have: 0 })),
-            None,
-        ),
-        (
-            "a view of none",
-            1,
-            Some(Ok(())),
-            Some(Err(NoFrames { need: 6, have: 0 })),
-        ),
-        (
-            "a view of five",
-            6,
-            Some(Ok(())),
-            Some(Err(NoFrames { need: 6, have: 5 })),
-        ),
+        ("a list of none", 0, Some(Err(NoFrames {need: 1, have: 0 })), None),
+        ("a view of none", 1, Some(Ok(())), Some(Err(NoFrames {need: 6, have: 0 }))),
+        ("a view of five", 6, Some(Ok(())), Some(Err(NoFrames {need: 6, have: 5 }))),
         ("a view of six", 7, Some(Ok(())), Some(Ok(0))),
     ];
     for (shows, free, list, view) in rows {
@@ -303,12 +250,13 @@ fn wants_frames(rt: HostRuntime) {
 }
 
 #[test]
+#[rattlefmt::skip]
 fn switches_by_the_list(rt: HostRuntime) {
     let mut machine = Machine::new(rt.alloc(), 512).expect(&rt, "memory");
     assert_eq!(rt; machine.add_list(0), Some(Ok(())));
     assert_eq!(rt; machine.add_view(0, 16, 16), Some(Ok(0)));
     let rows = [
-        ("the home view", 0, 0, Switch::To { eptp: 0x20_101E }),
+        ("the home view", 0, 0, Switch::To {eptp: 0x20_101E }),
         ("a zero entry", 0, 1, Switch::Unbound),
         ("the last entry", 0, 511, Switch::Unbound),
         ("behind the list", 0, 512, Switch::Unbound),

@@ -1,0 +1,3 @@
+pub mod TestMemory
+pub mod TestTables
+pub mod TestSet
