@@ -1,10 +1,10 @@
 //! What an EPT pointer and an entry of an extended page table say (SDM volume 3, sections 24.6.11 and 28.3.2).
 
-ghost use Rattle.std.specs.Prelude.{◌≡◌, ◌<◌, ◌≤◌, ◌^◌, IfOk};
-ghost use Rattle.sb_walks.specs.Entry.{frame_in, has_bit, index_at};
+ghost use Rattle.std.specs.Prelude.{◌≡◌, ◌<◌, IfOk};
 ghost use Rattle.sb_walks.specs.Ept.{ept_judged, ept_permits, is_eptp as eptp_word, is_large as large_entry, is_misconfigured as misconfigured_entry};
 
 use sb_memory::{Access, EptStop};
+use sb_walks::{PS, WRITE_BACK, frame_number, has_bit};
 
 /// R: reads are permitted.
 const READABLE: u32 = 0;
@@ -12,10 +12,6 @@ const READABLE: u32 = 0;
 const WRITABLE: u32 = 1;
 /// X: fetches are permitted.
 const EXECUTABLE: u32 = 2;
-/// At levels 3 and 2, the entry maps a large page.
-const PAGE_SIZE: u32 = 7;
-/// The memory type of a page that is cached for reads and writes.
-const WRITE_BACK: u64 = 6;
 
 /// Whether a word is an EPT pointer: bits 11 to 0 are `0x1E` (memory type 6, a walk of four levels, no accessed and dirty
 /// flags), and bits 63 to 52 are 0.
@@ -25,37 +21,14 @@ pub fn is_eptp(word: u64) -> bool
     word & 0xFFF == 0x1E && word >> 52 == 0
 }
 
-fn has(entry: u64, bit: u32) -> bool
-    requires { bit < 64 }
-    ensures { result ≡ has_bit entry bit }
-{
-    (entry >> bit) & 1 == 1
-}
-
-/// The number of the frame to which an entry or an EPT pointer leads: bits 51 to 12.
-pub fn frame_number(word: u64) -> u64
-    ensures { result ≡ frame_in word }
-{
-    (word >> 12) & 0xFF_FFFF_FFFF
-}
-
-/// The index of an address into a table of a level.
-pub fn index(level: u8, address: u64) -> u64
-    requires { level ≤ 4 }
-    ensures value { result ≡ index_at level address }
-    ensures range { result < 512 }
-{
-    (address >> (3 + 9 * u32::from(level))) & 0x1FF
-}
-
 /// Whether an entry permits an access.
 fn permits(access: Access, entry: u64) -> bool
     ensures { result ≡ ept_permits access entry }
 {
     match access {
-        Access::Read => has(entry, READABLE),
-        Access::Write => has(entry, WRITABLE),
-        Access::Fetch => has(entry, EXECUTABLE),
+        Access::Read => has_bit(entry, READABLE),
+        Access::Write => has_bit(entry, WRITABLE),
+        Access::Fetch => has_bit(entry, EXECUTABLE),
     }
 }
 
@@ -63,14 +36,14 @@ fn permits(access: Access, entry: u64) -> bool
 fn is_misconfigured(level: u8, entry: u64) -> bool
     ensures { result ≡ misconfigured_entry level entry }
 {
-    has(entry, WRITABLE) && !has(entry, READABLE) || level == 1 && (entry >> 3) & 7 != WRITE_BACK
+    has_bit(entry, WRITABLE) && !has_bit(entry, READABLE) || level == 1 && (entry >> 3) & 7 != WRITE_BACK
 }
 
 /// Whether an entry maps a large page.
 fn is_large(level: u8, entry: u64) -> bool
     ensures { result ≡ large_entry level entry }
 {
-    (level == 3 || level == 2) && has(entry, PAGE_SIZE)
+    (level == 3 || level == 2) && has_bit(entry, PS)
 }
 
 /// The number of the next frame in a memory of so many frames, or the first reason to refuse the entry.

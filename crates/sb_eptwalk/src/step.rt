@@ -1,13 +1,16 @@
 //! The walk over four levels.
 
 ghost use Rattle.std.specs.Prelude.{◌≡◌, ◌<◌, ◌≤◌, ◌*◌, ◌%◌, ◌^◌, IfOk, IsTrue};
+ghost use Rattle.sb_abi.specs.declared.space.TheConstants.{PAGE_SIZE};
 ghost use Rattle.sb_memory.specs.Physical.{frame_count};
 ghost use Rattle.sb_memory.specs.Accounts.{ReadWord, after_words};
 ghost use Rattle.sb_walks.specs.Entry.{entry_place, frame_in};
 ghost use Rattle.sb_walks.specs.Ept.{ept_step, ept_walk_reads, ept_walked, is_eptp};
 
-use crate::entry::{frame_number, index, judge};
+use crate::entry::judge;
+use sb_abi::PAGE_SIZE;
 use sb_memory::{Access, EptStop, GuestPhys, Phys, PhysAddr};
+use sb_walks::{entry_place, frame_number};
 
 /// One level: from the frame of a table to the frame to which the entry for the address leads.
 #[tactic(auto, unfolding(sb_walks::specs::Ept::ept_step))]
@@ -28,8 +31,7 @@ fn step<P: Phys>(
     ensures kept { P.kept phys.new ≡ P.kept phys.old }
 {
     let frames = phys.frames();
-    let place = 4096 * frame + 8 * index(level, at);
-    match phys.read_word(PhysAddr(place)) {
+    match phys.read_word(PhysAddr(entry_place(frame, level, at))) {
         Ok(entry) => judge(frames, access, level, entry),
         Err(gap) => Err(EptStop::Missing(gap.frame)),
     }
@@ -51,8 +53,8 @@ pub fn ept_walk<P: Phys>(
     requires eptp { IsTrue (is_eptp eptp) }
     requires root { frame_in eptp < frame_count (P.meaning phys.old) }
     ensures answer { result ≡ ept_walked (P.meaning phys.old) eptp at.0 access }
-    ensures inside { IfOk result (λ place. place.0 < 4096 * frame_count (P.meaning phys.old)) }
-    ensures offset { IfOk result (λ place. place.0 % 4096 ≡ at.0 % 4096) }
+    ensures inside { IfOk result (λ place. place.0 < PAGE_SIZE * frame_count (P.meaning phys.old)) }
+    ensures offset { IfOk result (λ place. place.0 % PAGE_SIZE ≡ at.0 % PAGE_SIZE) }
     ensures same { P.meaning phys.new ≡ P.meaning phys.old }
     ensures account { P.account phys.new ≡ after_words P.rule (P.meaning phys.old) (ept_walk_reads (P.meaning phys.old) eptp at.0 access) (P.account phys.old) }
     ensures kept { P.kept phys.new ≡ P.kept phys.old }
@@ -64,5 +66,5 @@ pub fn ept_walk<P: Phys>(
     let directory = step(phys, at.0, access, 3, directory_pointers)?;
     let table = step(phys, at.0, access, 2, directory)?;
     let page = step(phys, at.0, access, 1, table)?;
-    Ok(PhysAddr(4096 * page + (at.0 & 0xFFF)))
+    Ok(PhysAddr(PAGE_SIZE * page + at.offset()))
 }

@@ -20,7 +20,7 @@ use Rattle.sb_nested.specs.Stop.{stop_at}
 use Rattle.sb_nested.specs.View.{View, byte_behind, place_answer, place_of, view_byte, walk_calls}
 use Rattle.sb_nested.specs.Store.{after_word, look_calls, put_word_at, walk_place}
 use Rattle.sb_nested.proofs.Loads.{calls_none, account_stop, account_more}
-use Rattle.sb_nested.proofs.Page.{passed, place_offset, translated-page}
+use Rattle.sb_walks.proofs.Page.{passed, place_offset, translated-page}
 
 -- the calls that look up one address
 pub look_calls_are_words : {Account : Type 0} (rule : PhysCall → Physical → Account → Account) (core : View) (at : ℕ) (account : Account)

@@ -17,7 +17,7 @@ use sb_exec::BusStop;
 use sb_memory::{Access, Linear, Phys, PhysAddr};
 
 /// Where a byte leads for a write.
-#[tactic(auto, using(crate::proofs::WholeWord::look_calls_are_words, crate::proofs::Page::place_offset), unfolding(crate::specs::Store::walk_place, crate::specs::View::place_of))]
+#[tactic(auto, using(crate::proofs::WholeWord::look_calls_are_words, sb_walks::proofs::Page::place_offset), unfolding(crate::specs::Store::walk_place, crate::specs::View::place_of))]
 fn look<P: Phys>(phys: &mut P, eptp: u64, cr3: u64, at: Linear) -> Result<PhysAddr, BusStop>
     requires eptp { IsTrue (is_eptp eptp) }
     requires root { frame_in eptp < frame_count (P.meaning phys.old) }

@@ -32,12 +32,14 @@ root_once : (index : ℕ) → next_table 0 index ≢ 0 → (parent_of (next_tabl
 unfolding next_table parent_of slot_of
 root_once index leads = (grind (arith, common_steps), grind (arith, common_steps))
 
-pointers_once : (index : ℕ) → next_table 1 index ≢ 0 → (parent_of (next_table 1 index) ≡ 1) × (slot_of (next_table 1 index) ≡ index)
+pointers_once : (index : ℕ) → next_table 1 index ≢ 0
+    → (parent_of (next_table 1 index) ≡ 1) × (slot_of (next_table 1 index) ≡ index)
 unfolding next_table parent_of slot_of
 pointers_once index leads = (grind (arith, common_steps), grind (arith, common_steps))
 
 -- what leads to a table stands where that table is entered
-pub entered_once : (table index : ℕ) → table < 4 → index < 512 → next_table table index ≢ 0 → (parent_of (next_table table index) ≡ table) × (slot_of (next_table table index) ≡ index)
+pub entered_once : (table index : ℕ) → table < 4 → index < 512 → next_table table index ≢ 0
+    → (parent_of (next_table table index) ≡ table) × (slot_of (next_table table index) ≡ index)
 unfolding next_table
 entered_once zero index upper within leads = root_once index leads
 entered_once (suc zero) index upper within leads = pointers_once index leads

@@ -17,25 +17,30 @@ use Rattle.sb_pagewalk.specs.Standing.{AreFrames}
 use Rattle.sb_pagewalk.specs.Building.{IsCleared}
 
 -- the frames of a set stay in a memory of which only bytes change
-pub frames_stay : (set : TableSet) (old new : Physical) → SameOutside (set_frames set) old new → AreFrames set old → AreFrames set new
+pub frames_stay : (set : TableSet) (old new : Physical) → SameOutside (set_frames set) old new → AreFrames set old
+    → AreFrames set new
 frames_stay set old new same frames =
     let present = same.present in
     record { inside = λ table number. rw present (frames.inside table number); different = frames.different }
 
 -- the size before a frame is cleared
-pub size_before_clear : (memory new : Physical) (frame : ℕ) → new ≡ with_bytes memory (clear_frame memory.bytes frame) → HasSize new → HasSize memory
+pub size_before_clear : (memory new : Physical) (frame : ℕ) → new ≡ with_bytes memory (clear_frame memory.bytes frame)
+    → HasSize new → HasSize memory
 size_before_clear memory new frame is size =
     let after = subst HasSize is size in
     record { count = after.count; bytes = sym (length_clear_frame memory.bytes frame) ∙ after.bytes }
 
-module _ (set : TableSet) (memory : Physical) (count : ℕ) (frames : AreFrames set memory) (size : HasSize memory) (number : count < 12) where
+module _ (set : TableSet) (memory : Physical) (count : ℕ) (frames : AreFrames set memory) (size : HasSize memory)
+    (number : count < 12) where
   abbrev cleared : Physical
   cleared = with_bytes memory (clear_frame memory.bytes (table_frame set count))
 
-  zero_after : IsCleared set memory count → (table index : ℕ) → table < count + 1 → index < 512 → word_at cleared.bytes (place_in set table index) ≡ 0
+  zero_after : IsCleared set memory count → (table index : ℕ) → table < count + 1 → index < 512
+      → word_at cleared.bytes (place_in set table index) ≡ 0
   zero_after before table index first within = elim (cases_lt table count) [
     | inl lower ↦
-        let differ : table_frame set table ≢ table_frame set count = frames.different table count (omega arith) number (omega arith) in
+        let differ : table_frame set table ≢ table_frame set count =
+        frames.different table count (omega arith) number (omega arith) in
         let frame : place_in set table index / 4096 ≡ table_frame set table = omega arith in
         word_beside_frame memory.bytes (table_frame set count) (place_in set table index) (omega arith) (rw frame differ)
         ∙ before.zero table index lower within
@@ -44,18 +49,22 @@ module _ (set : TableSet) (memory : Physical) (count : ℕ) (frames : AreFrames 
         let inside = frames.inside count number in
         let whole = size.bytes in
         let frame : place_in set count index / 4096 ≡ table_frame set count = omega arith in
-        rw same (word_of_cleared memory.bytes (table_frame set count) (place_in set count index) (omega arith) (omega arith) frame)
+        rw same (word_of_cleared memory.bytes (table_frame set count) (place_in set count index) (omega arith) (omega arith)
+        frame)
   ]
 
 -- the frame of a table is among those of the set
-pub table_among : (set : TableSet) (table : ℕ) → length set.tables ≡ 11 → table < 12 → Contains (set_frames set) (table_frame set table)
+pub table_among : (set : TableSet) (table : ℕ) → length set.tables ≡ 11 → table < 12
+    → Contains (set_frames set) (table_frame set table)
 table_among set table tables within =
     let mapped = length-map set.tables (λ (frame : Frame). frame.0) in
     Contains-get_or (set_frames set) table 0 (omega arith)
 
 -- one more table is cleared
-pub cleared_more : (set : TableSet) (old memory new : Physical) (count frame : ℕ) → length set.tables ≡ 11 → frame ≡ table_frame set count
-    → new ≡ with_bytes memory (clear_frame memory.bytes frame) → HasSize new → AreFrames set old → SameOutside (set_frames set) old memory → count < 12
+pub cleared_more : (set : TableSet) (old memory new : Physical) (count frame : ℕ) → length set.tables ≡ 11
+    → frame ≡ table_frame set count
+    → new ≡ with_bytes memory (clear_frame memory.bytes frame) → HasSize new → AreFrames set old
+    → SameOutside (set_frames set) old memory → count < 12
     → IsCleared set memory count → IsCleared set new (count + 1) × SameOutside (set_frames set) old new
 cleared_more set old memory new count frame tables here is size frames same number before =
     let size_now = size_before_clear memory new frame is size in
@@ -64,8 +73,12 @@ cleared_more set old memory new count frame tables here is size frames same numb
     is ∙ ap (λ (there : ℕ). with_bytes memory (clear_frame memory.bytes there)) here in
     let zero : IsCleared set (with_bytes memory (clear_frame memory.bytes (table_frame set count))) (count + 1) =
     record { zero = zero_after set memory count standing size_now number before } in
-    let beside = same_outside_then (set_frames set) old memory _ same (same_outside_cleared (set_frames set) memory (table_frame set count) (table_among set count tables number)) in
-    (subst (λ (m : Physical). IsCleared set m (count + 1)) (sym written) zero, subst (SameOutside (set_frames set) old) (sym written) beside)
+    let beside = same_outside_then (set_frames set) old memory _ same
+    (same_outside_cleared (set_frames set) memory (table_frame set count) (table_among set count tables number)) in (
+      subst (λ (m : Physical). IsCleared set m (count + 1)) (sym written) zero,
+      subst (SameOutside (set_frames set) old)
+          (sym written) beside,
+    )
 
 -- no table is cleared
 pub cleared_none : (set : TableSet) (memory : Physical) → IsCleared set memory 0

@@ -35,13 +35,21 @@ pub record IsEmptySet (set : TableSet) (memory : Physical) : Type 0 where
   pub maps : Maps memory set no_pages
   pub empty : (linear : ℕ) (access : Access) → IsErr (walked_in memory set linear access)
 
-pub linked_is_empty : (set : TableSet) (memory : Physical) → AreFrames set memory → HasSize memory → IsLinked set memory 12 → IsEmptySet set memory
+pub linked_is_empty : (set : TableSet) (memory : Physical) → AreFrames set memory → HasSize memory → IsLinked set memory 12
+    → IsEmptySet set memory
 linked_is_empty set memory frames size linked =
     let tables = linked_all set memory frames linked in
     let no_entry : (linear : ℕ) → IsInWindow linear → page_entry memory set (linear / 4096) ≡ 0 = λ linear window.
     let page : 4096 * (linear / 4096) / 4096 ≡ linear / 4096 = omega arith in
     let place = same_page set (4096 * (linear / 4096)) linear page in
-    rw place (linked.lowest (page_table_of (region_of linear)) (linear / 4096 % 512) (page_table_lowest (region_of linear) window) (page_table_small (region_of linear)) (omega arith)) in
+    rw place (linked.lowest (page_table_of (region_of linear)) (linear / 4096 % 512)
+    (page_table_lowest (region_of linear) window) (page_table_small (region_of linear)) (omega arith)) in
     let maps : Maps memory set no_pages = λ linear access.
-    stands_maps set memory tables size linear access ∙ set_walked_same (page_entry memory set) no_pages linear access (no_entry linear) in
-    record { tables = tables; maps = maps; empty = λ linear access. subst IsErr (sym (maps linear access)) (nothing_walked linear access) }
+    stands_maps set memory tables size linear access
+    ∙ set_walked_same (page_entry memory set) no_pages linear access (no_entry linear) in
+    record {
+      tables = tables;
+      maps = maps;
+      empty =
+          λ linear access. subst IsErr (sym (maps linear access)) (nothing_walked linear access);
+    }

@@ -14,7 +14,8 @@ page_table_lowest region window = grind (arith, common_steps)
 
 pub next_table_small : (table index : ℕ) → next_table table index < 12
 unfolding next_table
-next_table_small table index = let h = page_table_small index in let k = page_table_small (512 + index) in grind (arith, common_steps)
+next_table_small table index = let h = page_table_small index in let k =
+    page_table_small (512 + index) in grind (arith, common_steps)
 
 -- the region whose page table has a number
 unfoldable pub region_with : ℕ → ℕ
@@ -34,7 +35,8 @@ unfolding page_table_of region_with
 only_region region window = grind (arith, common_steps)
 
 -- no two windows have one page table
-pub page_tables_differ : (region other : ℕ) → page_table_of region ≢ 0 → page_table_of region ≡ page_table_of other → region ≡ other
+pub page_tables_differ : (region other : ℕ) → page_table_of region ≢ 0 → page_table_of region ≡ page_table_of other
+    → region ≡ other
 page_tables_differ region other window same =
     sym (only_region region window) ∙ ap region_with same ∙ only_region other (λ none. window (same ∙ none))
 

@@ -17,20 +17,23 @@ pub place_inside : (set : TableSet) (memory : Physical) (table index : ℕ) → 
 place_inside set memory table index frames number within = let inside = frames.inside table number in omega arith
 
 -- a word may stand at an entry of a set
-pub word_place : (set : TableSet) (memory : Physical) (table index place : ℕ) → place ≡ place_in set table index → AreFrames set memory → table < 12 → index < 512
+pub word_place : (set : TableSet) (memory : Physical) (table index place : ℕ) → place ≡ place_in set table index
+    → AreFrames set memory → table < 12 → index < 512
     → IsWordPlace memory place
 word_place set memory table index place here frames number within =
     let inside = place_inside set memory table index frames number within in
     record { inside = omega arith; aligned = omega arith }
 
 -- entries of two tables of a set do not meet
-pub places_apart : (set : TableSet) (memory : Physical) (table other index second : ℕ) → AreFrames set memory → table < 12 → other < 12 → index < 512 → second < 512 → table ≢ other
+pub places_apart : (set : TableSet) (memory : Physical) (table other index second : ℕ) → AreFrames set memory → table < 12
+    → other < 12 → index < 512 → second < 512 → table ≢ other
     → place_in set table index ≢ place_in set other second
 places_apart set memory table other index second frames first_number second_number within second_within differ same =
     frames.different table other first_number second_number differ (omega arith)
 
 -- the entry at a place of the memory is the word that stands there
-entry_inside : (memory : Physical) (place : ℕ) → place < 4096 * frame_count memory → direct_entry memory place ≡ Ok (word_at memory.bytes place)
+entry_inside : (memory : Physical) (place : ℕ) → place < 4096 * frame_count memory
+    → direct_entry memory place ≡ Ok (word_at memory.bytes place)
 unfolding direct_entry
 entry_inside memory place inside = let test = lt-ltb place (4096 * frame_count memory) inside in rw test refl
 
@@ -41,7 +44,8 @@ same_page set linear other same =
     rw (region, same) refl
 
 -- what a set that stands in a memory leads to
-has_leads : (set : TableSet) (memory : Physical) → HasTables set memory → HasSize memory → Leads (direct_entry memory) set (page_entry memory set)
+has_leads : (set : TableSet) (memory : Physical) → HasTables set memory → HasSize memory
+    → Leads (direct_entry memory) set (page_entry memory set)
 has_leads set memory tables size = record {
   small = λ table number. let inside = tables.frames.inside table number in let few = size.count in omega arith;
   upper = λ table index upper within.
@@ -49,10 +53,14 @@ has_leads set memory tables size = record {
       ∙ ap Ok (tables.upper table index upper within);
   pages = λ linear window.
       let page : linear / 4096 ≡ 4096 * (linear / 4096) / 4096 = omega arith in
-      entry_inside memory (page_place set linear) (place_inside set memory (page_table_of (region_of linear)) (linear / 4096 % 512) tables.frames (page_table_small (region_of linear)) (omega arith))
+      entry_inside memory (page_place set linear)
+      (place_inside set memory (page_table_of (region_of linear)) (linear / 4096 % 512) tables.frames
+      (page_table_small (region_of linear)) (omega arith))
       ∙ ap (λ (place : ℕ). Ok (word_at memory.bytes place)) (same_page set linear (4096 * (linear / 4096)) page);
 }
 
 -- a set that stands in a memory translates each page by its lowest entry
-pub stands_maps : (set : TableSet) (memory : Physical) → HasTables set memory → HasSize memory → Maps memory set (page_entry memory set)
-stands_maps set memory tables size linear access = leads_walk (direct_entry memory) set (page_entry memory set) (has_leads set memory tables size) linear access
+pub stands_maps : (set : TableSet) (memory : Physical) → HasTables set memory → HasSize memory
+    → Maps memory set (page_entry memory set)
+stands_maps set memory tables size linear access =
+    leads_walk (direct_entry memory) set (page_entry memory set) (has_leads set memory tables size) linear access

@@ -15,9 +15,11 @@ use Rattle.sb_pagewalk.proofs.Regions.{page_table_small}
 use Rattle.sb_pagewalk.proofs.Standing.{stands_maps}
 use Rattle.sb_pagewalk.proofs.OnePage.{set_walked_same}
 
-module _ (set : TableSet) (frames : List ℕ) (old new : Physical) (tables : HasTables set old) (size : HasSize old) (same : SameOutside frames old new) (apart : IsApart set frames) where
+module _ (set : TableSet) (frames : List ℕ) (old new : Physical) (tables : HasTables set old) (size : HasSize old)
+    (same : SameOutside frames old new) (apart : IsApart set frames) where
   -- the entries of the set stay
-  entry_same : (table index : ℕ) → table < 12 → index < 512 → word_at new.bytes (place_in set table index) ≡ word_at old.bytes (place_in set table index)
+  entry_same : (table index : ℕ) → table < 12 → index < 512
+      → word_at new.bytes (place_in set table index) ≡ word_at old.bytes (place_in set table index)
   entry_same table index number within =
       word_of_same_bytes new.bytes old.bytes (place_in set table index) (λ k below.
       let frame : frame_of (place_in set table index + k) ≡ table_frame set table = omega arith in
@@ -27,7 +29,11 @@ module _ (set : TableSet) (frames : List ℕ) (old new : Physical) (tables : Has
   tables_stay =
       let present = same.present in
       record {
-        frames = record { inside = λ table number. rw present (tables.frames.inside table number); different = tables.frames.different };
+        frames = record {
+          inside = λ table number. rw present (tables.frames.inside table number);
+          different =
+              tables.frames.different;
+        };
         upper = λ table index upper within. entry_same table index (omega arith) within ∙ tables.upper table index upper within;
       }
 
@@ -35,5 +41,6 @@ module _ (set : TableSet) (frames : List ℕ) (old new : Physical) (tables : Has
   walks_stay linear access =
       stands_maps set new tables_stay (size_kept frames old new same size) linear access
       ∙ set_walked_same (page_entry new set) (page_entry old set) linear access
-      (λ window. entry_same (page_table_of (region_of (4096 * (linear / 4096)))) (4096 * (linear / 4096) / 4096 % 512) (page_table_small (region_of (4096 * (linear / 4096)))) (omega arith))
+      (λ window. entry_same (page_table_of (region_of (4096 * (linear / 4096)))) (4096 * (linear / 4096) / 4096 % 512)
+      (page_table_small (region_of (4096 * (linear / 4096)))) (omega arith))
       ∙ sym (stands_maps set old tables size linear access)

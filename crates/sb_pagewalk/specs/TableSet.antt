@@ -1,5 +1,6 @@
 -- A set of page tables: where its entries stand, what they say, and what a walk through them answers.
 use Rattle.std.specs.Prelude.{ℕ, ◌≡◌, ◌+◌, ◌*◌, ◌/◌, ◌%◌, ◌^◌, ◌==◌, List, ◌∷◌, map, get_or, not, nat_lt, Result, Ok, Err, if◌then◌else◌}
+use Rattle.sb_abi.specs.declared.space.TheConstants.{PAGE_SIZE}
 use Rattle.sb_memory.specs.Outcome.{and_then}
 use Rattle.sb_memory.specs.Physical.{Physical}
 use Rattle.sb_memory.specs.Words.{word_at}
@@ -28,15 +29,15 @@ place_in set table index = entry_in (table_frame set table) index
 
 -- the place of the lowest entry for an address of a window
 abbrev pub page_place : TableSet → ℕ → ℕ
-page_place set address = place_in set (page_table_of (region_of address)) (address / 4096 % 512)
+page_place set address = place_in set (page_table_of (region_of address)) (address / PAGE_SIZE % 512)
 
 -- an entry that leads to a table with all rights, or to none
 abbrev pub entry_to : TableSet → ℕ → ℕ
-entry_to set table = if table == 0 then 0 else 4096 * table_frame set table + 7
+entry_to set table = if table == 0 then 0 else PAGE_SIZE * table_frame set table + 7
 
 -- the value of CR3 that leads to the root
 abbrev pub cr3_of : TableSet → ℕ
-cr3_of set = 4096 * set.root.0
+cr3_of set = PAGE_SIZE * set.root.0
 
 -- what the lowest entry for an address answers
 abbrev pub page_walked : ℕ → ℕ → Access → Result GuestPhys WalkStop
@@ -49,7 +50,7 @@ set_walked entries linear access =
     else if not (nat_lt linear (2 ^ 39)) then Err (NotPresent 4)
     else if not (nat_lt linear (2 ^ 31)) then Err (NotPresent 3)
     else if page_table_of (region_of linear) == 0 then Err (NotPresent 2)
-    else page_walked (entries (linear / 4096)) linear access
+    else page_walked (entries (linear / PAGE_SIZE)) linear access
 
 -- what a walk from the root of the set answers in a memory
 abbrev pub walked_in : Physical → TableSet → ℕ → Access → Result GuestPhys WalkStop
@@ -65,4 +66,4 @@ Maps memory set entries = (linear : ℕ) (access : Access) → walked_in memory 
 
 -- the lowest entry of each page of a window
 abbrev pub page_entry : Physical → TableSet → ℕ → ℕ
-page_entry memory set page = word_at memory.bytes (page_place set (4096 * page))
+page_entry memory set page = word_at memory.bytes (page_place set (PAGE_SIZE * page))

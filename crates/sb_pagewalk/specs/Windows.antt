@@ -1,5 +1,7 @@
 -- The windows of a process: the 2 MiB regions of its address space that have a page table.
 use Rattle.std.specs.Prelude.{ℕ, ◌≢◌, ◌+◌, ◌/◌, ◌^◌, ◌==◌, if◌then◌else◌}
+use Rattle.sb_abi.specs.declared.space.TheConstants.{TEXT_ADDRESS, DATA_ADDRESS, HEAP_ADDRESS, BUFFERS_ADDRESS, STACKS_ADDRESS, SERVER_STACKS_ADDRESS}
+use Rattle.sb_abi.specs.declared.trampoline.TheConstants.{TRAMPOLINE_ADDRESS}
 
 -- the number of the 2 MiB region of an address
 abbrev pub region_of : ℕ → ℕ
@@ -8,14 +10,14 @@ region_of address = address / 2 ^ 21
 -- the number of the page table of a region, by the window that it is; 0 where it is none
 unfoldable pub page_table_of : ℕ → ℕ
 page_table_of region =
-    if region == region_of 0x0 then 4
-    else if region == region_of 0x400000 then 5
-    else if region == region_of 0x800000 then 6
-    else if region == region_of 0xC00000 then 7
-    else if region == region_of 0x2000000 then 8
-    else if region == region_of 0x3000000 then 9
-    else if region == region_of 0x4000000 then 10
-    else if region == region_of 0x70000000 then 11
+    if region == region_of 0 then 4
+    else if region == region_of TEXT_ADDRESS then 5
+    else if region == region_of DATA_ADDRESS then 6
+    else if region == region_of HEAP_ADDRESS then 7
+    else if region == region_of BUFFERS_ADDRESS then 8
+    else if region == region_of STACKS_ADDRESS then 9
+    else if region == region_of SERVER_STACKS_ADDRESS then 10
+    else if region == region_of TRAMPOLINE_ADDRESS then 11
     else 0
 
 -- an address in a window

@@ -3,6 +3,7 @@
 ghost use Rattle.std.specs.Prelude.{◌≡◌};
 
 use crate::tables::Tables;
+use sb_abi::PAGE_SIZE;
 use sb_memory::{EptStop, GuestPhys, Memory, Phys, PhysAddr};
 use sb_walks::TableStop;
 
@@ -47,7 +48,7 @@ impl Tables for Direct<'_> {
 
     #[tactic(auto, unfolding(crate::specs::Direct::direct_entry))]
     fn entry(&mut self, at: GuestPhys) -> Result<u64, TableStop> {
-        if at.0 < 4096 * u64::from(self.memory.frames()) {
+        if at.0 < PAGE_SIZE * u64::from(self.memory.frames()) {
             Ok(self.memory.word(PhysAddr(at.0)))
         } else {
             Err(TableStop::Ept(EptStop::Outside { level: 1 }))

@@ -3,19 +3,13 @@
 ghost use Rattle.std.specs.Prelude.{◌≡◌, ◌<◌, ◌≤◌, ◌^◌, IfOk};
 ghost use Rattle.sb_walks.specs.Entry.{entry_place};
 ghost use Rattle.sb_walks.specs.Reads.{after_entries};
-ghost use Rattle.sb_walks.specs.Guest.{is_canonical as canonical_address, walk_reads, walk_step, walked};
+ghost use Rattle.sb_walks.specs.Guest.{walk_reads, walk_step, walked};
 
-use crate::entry::{frame_number, index, judge};
+use crate::entry::judge;
 use crate::tables::Tables;
+use sb_abi::PAGE_SIZE;
 use sb_memory::{Access, GuestPhys, Linear};
-use sb_walks::WalkStop;
-
-/// Whether bits 63 to 47 are all the same.
-fn is_canonical(linear: u64) -> bool
-    ensures { result ≡ canonical_address linear }
-{
-    linear >> 47 == 0 || linear >> 47 == 0x1_FFFF
-}
+use sb_walks::{WalkStop, entry_place, frame_number};
 
 /// One level: from the frame of a table to the frame to which the entry for the address leads.
 #[tactic(auto, unfolding(sb_walks::specs::Guest::walk_step))]
@@ -34,8 +28,7 @@ fn step<T: Tables>(
     ensures account { T.account tables.new ≡ T.rule (T.meaning tables.old) (entry_place frame level linear) (T.account tables.old) }
     ensures kept { T.kept tables.new ≡ T.kept tables.old }
 {
-    let place = 4096 * frame + 8 * index(level, linear);
-    match tables.entry(GuestPhys(place)) {
+    match tables.entry(GuestPhys(entry_place(frame, level, linear))) {
         Ok(entry) => judge(access, level, entry),
         Err(stop) => Err(WalkStop::Table(stop)),
     }
@@ -57,12 +50,12 @@ pub fn walk<T: Tables>(
     ensures account { T.account tables.new ≡ after_entries (T.rule (T.meaning tables.old)) (walk_reads (T.entries (T.meaning tables.old)) cr3 linear.0 access) (T.account tables.old) }
     ensures kept { T.kept tables.new ≡ T.kept tables.old }
 {
-    if !is_canonical(linear.0) {
+    if !linear.is_canonical() {
         return Err(WalkStop::NonCanonical);
     }
     let directory_pointers = step(tables, linear.0, access, 4, frame_number(cr3))?;
     let directory = step(tables, linear.0, access, 3, directory_pointers)?;
     let table = step(tables, linear.0, access, 2, directory)?;
     let page = step(tables, linear.0, access, 1, table)?;
-    Ok(GuestPhys(4096 * page + (linear.0 & 0xFFF)))
+    Ok(GuestPhys(PAGE_SIZE * page + linear.offset()))
 }

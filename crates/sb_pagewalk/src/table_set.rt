@@ -1,6 +1,7 @@
 //! The page tables of a process.
 
 ghost use Rattle.std.specs.Prelude.{ℕ, ◌≡◌, ◌≢◌, ◌+◌, ◌*◌, ◌/◌, ◌%◌, ◌^◌, ◌<◌, length, IsErr};
+ghost use Rattle.sb_abi.specs.declared.space.TheConstants.{PAGE_SIZE};
 ghost use Rattle.sb_memory.specs.Physical.{HasSize};
 ghost use Rattle.sb_memory.specs.Changes.{SameOutside};
 ghost use Rattle.sb_memory.specs.Reading.{with_bytes};
@@ -13,6 +14,7 @@ ghost use Rattle.sb_pagewalk.specs.TableSet.{Maps, entry_to as link_entry, no_pa
 
 use crate::windows::{entered_at, page_table_of};
 use sb_memory::{Frame, Linear, Memory, Phys, PhysAddr};
+use sb_walks::index;
 
 /// The frames of a set of page tables: a root, which is the PML4 table, and eleven tables.
 ///
@@ -81,7 +83,7 @@ impl TableSet {
         requires number { table < 12 }
         ensures { result ≡ link_entry self.now table }
     {
-        4096 * u64::from(self.frame(table).0) + ALL_RIGHTS
+        self.frame(table).base().0 + ALL_RIGHTS
     }
 
     /// The frame of a table. Table 0 is the root.
@@ -102,7 +104,7 @@ impl TableSet {
         requires index { index < 512 }
         ensures { result.0 ≡ place_in self.now table index }
     {
-        PhysAddr(4096 * u64::from(self.frame(table).0) + 8 * index)
+        self.frame(table).word(index)
     }
 
     /// The place of the lowest entry for an address.
@@ -110,8 +112,7 @@ impl TableSet {
         requires { IsInWindow at.0 }
         ensures { result.0 ≡ lowest_place self.now at.0 }
     {
-        let index = (at.0 >> 12) & 0x1FF;
-        self.place(page_table_of(at.0 >> 21), index)
+        self.place(page_table_of(at.page() / 512), index(1, at.0))
     }
 
     /// Sets the lowest entry for the page of an address. Every other page keeps its translation, or has none as before.
@@ -120,8 +121,8 @@ impl TableSet {
         requires tables { HasTables self.now memory.old }
         ensures entry { memory.new ≡ with_bytes memory.old (put_word memory.old.bytes (lowest_place self.now at.0) entry) }
         ensures tables { HasTables self.now memory.new }
-        ensures page { (linear : ℕ) (access : Access) → linear / 4096 ≡ at.0 / 4096 → walked_in memory.new self.now linear access ≡ page_walked entry linear access }
-        ensures others { (linear : ℕ) (access : Access) → linear / 4096 ≢ at.0 / 4096 → walked_in memory.new self.now linear access ≡ walked_in memory.old self.now linear access }
+        ensures page { (linear : ℕ) (access : Access) → linear / PAGE_SIZE ≡ at.0 / PAGE_SIZE → walked_in memory.new self.now linear access ≡ page_walked entry linear access }
+        ensures others { (linear : ℕ) (access : Access) → linear / PAGE_SIZE ≢ at.0 / PAGE_SIZE → walked_in memory.new self.now linear access ≡ walked_in memory.old self.now linear access }
     {
         memory.set_word(self.page_place(at), entry);
     }

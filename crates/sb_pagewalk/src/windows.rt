@@ -4,6 +4,23 @@ ghost use Rattle.std.specs.Prelude.{◌≡◌, ◌≢◌, ◌<◌};
 ghost use Rattle.sb_pagewalk.specs.Windows.{page_table_of as page_table_number};
 ghost use Rattle.sb_pagewalk.specs.Building.{parent_of, slot_of};
 
+use sb_abi::{
+    BUFFERS_PAGE, DATA_PAGE, HEAP_PAGE, SERVER_STACKS_PAGE, STACKS_PAGE, TEXT_PAGE, WINDOW_PAGES,
+};
+
+/// The regions of the windows, but for the first, of the rewrite area, and the last, of the trampoline.
+const TEXT: u64 = TEXT_PAGE / WINDOW_PAGES;
+
+const DATA: u64 = DATA_PAGE / WINDOW_PAGES;
+
+const HEAP: u64 = HEAP_PAGE / WINDOW_PAGES;
+
+const BUFFERS: u64 = BUFFERS_PAGE / WINDOW_PAGES;
+
+const STACKS: u64 = STACKS_PAGE / WINDOW_PAGES;
+
+const SERVER_STACKS: u64 = SERVER_STACKS_PAGE / WINDOW_PAGES;
+
 /// The number of the page table of a 2 MiB region, which is a window.
 #[tactic(auto, using(crate::proofs::Regions::page_table_small), unfolding(crate::specs::Windows::page_table_of))]
 pub fn page_table_of(region: u64) -> usize
@@ -13,12 +30,12 @@ pub fn page_table_of(region: u64) -> usize
 {
     match region {
         0 => 4,
-        2 => 5,
-        4 => 6,
-        6 => 7,
-        16 => 8,
-        24 => 9,
-        32 => 10,
+        TEXT => 5,
+        DATA => 6,
+        HEAP => 7,
+        BUFFERS => 8,
+        STACKS => 9,
+        SERVER_STACKS => 10,
         _ => 11,
     }
 }
@@ -39,12 +56,12 @@ pub fn entered_at(table: usize) -> (usize, u64)
         2 => (1, 0),
         3 => (1, 1),
         4 => (2, 0),
-        5 => (2, 2),
-        6 => (2, 4),
-        7 => (2, 6),
-        8 => (2, 16),
-        9 => (2, 24),
-        10 => (2, 32),
+        5 => (2, TEXT),
+        6 => (2, DATA),
+        7 => (2, HEAP),
+        8 => (2, BUFFERS),
+        9 => (2, STACKS),
+        10 => (2, SERVER_STACKS),
         _ => (3, 384),
     }
 }

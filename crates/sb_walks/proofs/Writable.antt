@@ -16,71 +16,92 @@ use Rattle.sb_walks.specs.Ept.{ept_judged, ept_entry, ept_step, ept_levels, ept_
 use Rattle.sb_walks.specs.Guest.{is_canonical, entry_judged, read_judged, walk_step, walk_levels, walked}
 use Rattle.sb_walks.specs.Nested.{Mapped, guest_entry, page_answer, page_behind, translated}
 
-pub ept_judged-read : (frames level entry next : ℕ) → ept_judged frames Write level entry ≡ Ok next → ept_judged frames Read level entry ≡ Ok next
+pub ept_judged-read : (frames level entry next : ℕ) → ept_judged frames Write level entry ≡ Ok next
+    → ept_judged frames Read level entry ≡ Ok next
 unfolding ept_judged
 ept_judged-read frames level entry next e = grind (arith, common_steps)
 
-pub entry_judged-read : (level entry next : ℕ) → entry_judged Write level entry ≡ Ok next → entry_judged Read level entry ≡ Ok next
+pub entry_judged-read : (level entry next : ℕ) → entry_judged Write level entry ≡ Ok next
+    → entry_judged Read level entry ≡ Ok next
 unfolding entry_judged
 entry_judged-read level entry next e = grind (arith, common_steps)
 
-ept_entry-read : (frames level next : ℕ) (word : Result ℕ Missing) → ept_entry frames Write level word ≡ Ok next → ept_entry frames Read level word ≡ Ok next
+ept_entry-read : (frames level next : ℕ) (word : Result ℕ Missing) → ept_entry frames Write level word ≡ Ok next
+    → ept_entry frames Read level word ≡ Ok next
 ept_entry-read frames level next (Ok entry) e = ept_judged-read frames level entry next e
 ept_entry-read frames level next (Err gap) e = e
 
-read_judged-read : (level next : ℕ) (word : Result ℕ TableStop) → read_judged Write level word ≡ Ok next → read_judged Read level word ≡ Ok next
+read_judged-read : (level next : ℕ) (word : Result ℕ TableStop) → read_judged Write level word ≡ Ok next
+    → read_judged Read level word ≡ Ok next
 read_judged-read level next (Ok entry) e = entry_judged-read level entry next e
 read_judged-read level next (Err stop) e = e
 
-ept_step-read : (memory : Physical) (at level frame next : ℕ) → ept_step memory at Write level frame ≡ Ok next → ept_step memory at Read level frame ≡ Ok next
+ept_step-read : (memory : Physical) (at level frame next : ℕ) → ept_step memory at Write level frame ≡ Ok next
+    → ept_step memory at Read level frame ≡ Ok next
 unfolding ept_step
-ept_step-read memory at level frame next e = ept_entry-read (frame_count memory) level next (word_read memory (entry_place frame level at)) e
+ept_step-read memory at level frame next e =
+    ept_entry-read (frame_count memory) level next (word_read memory (entry_place frame level at)) e
 
-walk_step-read : (entries : ℕ → Result ℕ TableStop) (at level frame next : ℕ) → walk_step entries at Write level frame ≡ Ok next → walk_step entries at Read level frame ≡ Ok next
+walk_step-read : (entries : ℕ → Result ℕ TableStop) (at level frame next : ℕ)
+    → walk_step entries at Write level frame ≡ Ok next → walk_step entries at Read level frame ≡ Ok next
 unfolding walk_step
 walk_step-read entries at level frame next e = read_judged-read level next (entries (entry_place frame level at)) e
 
 -- an answer that is there
-and_then_ok : {A B E : Type 0} (r s : Result A E) (f g : A → Result B E) (b : B) → ((a : A) → r ≡ Ok a → s ≡ Ok a) → ((a : A) → f a ≡ Ok b → g a ≡ Ok b) → and_then r f ≡ Ok b → and_then s g ≡ Ok b
+and_then_ok : {A B E : Type 0} (r s : Result A E) (f g : A → Result B E) (b : B) → ((a : A) → r ≡ Ok a → s ≡ Ok a)
+    → ((a : A) → f a ≡ Ok b → g a ≡ Ok b) → and_then r f ≡ Ok b → and_then s g ≡ Ok b
 and_then_ok (Ok a) s f g b first later e = rw (first a refl) (later a e)
 and_then_ok (Err stop) s f g b first later e = cc
 
-ept_levels-read : (memory : Physical) (at next : ℕ) (levels : List ℕ) (frame : ℕ) → ept_levels memory at Write levels frame ≡ Ok next → ept_levels memory at Read levels frame ≡ Ok next
+ept_levels-read : (memory : Physical) (at next : ℕ) (levels : List ℕ) (frame : ℕ)
+    → ept_levels memory at Write levels frame ≡ Ok next → ept_levels memory at Read levels frame ≡ Ok next
 ept_levels-read memory at next [] frame e = e
 ept_levels-read memory at next (level ∷ levels) frame e =
     and_then_ok _ _ _ _ next (ept_step-read memory at level frame) (ept_levels-read memory at next levels) e
 
-walk_levels-read : (entries : ℕ → Result ℕ TableStop) (at next : ℕ) (levels : List ℕ) (frame : ℕ) → walk_levels entries at Write levels frame ≡ Ok next → walk_levels entries at Read levels frame ≡ Ok next
+walk_levels-read : (entries : ℕ → Result ℕ TableStop) (at next : ℕ) (levels : List ℕ) (frame : ℕ)
+    → walk_levels entries at Write levels frame ≡ Ok next → walk_levels entries at Read levels frame ≡ Ok next
 walk_levels-read entries at next [] frame e = e
 walk_levels-read entries at next (level ∷ levels) frame e =
     and_then_ok _ _ _ _ next (walk_step-read entries at level frame) (walk_levels-read entries at next levels) e
 
 -- below the same test
-below_test : {A E : Type 0} (b : Bool) (r s t u : Result A E) (x : A) → (r ≡ Ok x → t ≡ Ok x) → (s ≡ Ok x → u ≡ Ok x) → cond b r s ≡ Ok x → cond b t u ≡ Ok x
+below_test : {A E : Type 0} (b : Bool) (r s t u : Result A E) (x : A) → (r ≡ Ok x → t ≡ Ok x) → (s ≡ Ok x → u ≡ Ok x)
+    → cond b r s ≡ Ok x → cond b t u ≡ Ok x
 below_test true r s t u x h k e = h e
 below_test false r s t u x h k e = k e
 
-pub ept_walked-read : (memory : Physical) (eptp at : ℕ) (place : PhysAddr) → ept_walked memory eptp at Write ≡ Ok place → ept_walked memory eptp at Read ≡ Ok place
+pub ept_walked-read : (memory : Physical) (eptp at : ℕ) (place : PhysAddr) → ept_walked memory eptp at Write ≡ Ok place
+    → ept_walked memory eptp at Read ≡ Ok place
 unfolding ept_walked
 ept_walked-read memory eptp at place e =
-    below_test (nat_le (2 ^ 48) at) _ _ _ _ place (λ h. h) (and_then_ok _ _ _ _ place (λ frame. ept_levels-read memory at frame four_levels (frame_in eptp)) (λ frame h. h)) e
+    below_test (nat_le (2 ^ 48) at) _ _ _ _ place (λ h. h)
+        (and_then_ok _ _ _ _ place (λ frame. ept_levels-read memory at frame four_levels (frame_in eptp)) (λ frame h. h)) e
 
-pub walked-read : (entries : ℕ → Result ℕ TableStop) (cr3 at : ℕ) (place : GuestPhys) → walked entries cr3 at Write ≡ Ok place → walked entries cr3 at Read ≡ Ok place
+pub walked-read : (entries : ℕ → Result ℕ TableStop) (cr3 at : ℕ) (place : GuestPhys)
+    → walked entries cr3 at Write ≡ Ok place → walked entries cr3 at Read ≡ Ok place
 unfolding walked
 walked-read entries cr3 at place e =
-    below_test (is_canonical at) _ _ _ _ place (and_then_ok _ _ _ _ place (λ frame. walk_levels-read entries at frame four_levels (frame_in cr3)) (λ frame h. h)) (λ h. h) e
+    below_test (is_canonical at) _ _ _ _ place
+        (and_then_ok _ _ _ _ place (λ frame. walk_levels-read entries at frame four_levels (frame_in cr3)) (λ frame h. h))
+        (λ h. h) e
 
-answered : (r s : Result PhysAddr EptStop) (place : PhysAddr) → ((p : PhysAddr) → r ≡ Ok p → s ≡ Ok p) → page_answer r ≡ Ok place → page_answer s ≡ Ok place
+answered : (r s : Result PhysAddr EptStop) (place : PhysAddr) → ((p : PhysAddr) → r ≡ Ok p → s ≡ Ok p)
+    → page_answer r ≡ Ok place → page_answer s ≡ Ok place
 answered (Ok p) s place h e = rw (h p refl) e
 answered (Err stop) s place h e = cc
 
-page_behind-read : (memory : Mapped) (place : PhysAddr) (page : GuestPhys) → page_answer (ept_walked memory.physical memory.eptp page.0 Write) ≡ Ok place → page_answer (ept_walked memory.physical memory.eptp page.0 Read) ≡ Ok place
+page_behind-read : (memory : Mapped) (place : PhysAddr) (page : GuestPhys)
+    → page_answer (ept_walked memory.physical memory.eptp page.0 Write) ≡ Ok place
+    → page_answer (ept_walked memory.physical memory.eptp page.0 Read) ≡ Ok place
 page_behind-read memory place page e = answered _ _ place (ept_walked-read memory.physical memory.eptp page.0) e
 
-led : (memory : Mapped) (place : PhysAddr) (r s : Result GuestPhys WalkStop) → ((p : GuestPhys) → r ≡ Ok p → s ≡ Ok p) → page_behind memory Write r ≡ Ok place → page_behind memory Read s ≡ Ok place
+led : (memory : Mapped) (place : PhysAddr) (r s : Result GuestPhys WalkStop) → ((p : GuestPhys) → r ≡ Ok p → s ≡ Ok p)
+    → page_behind memory Write r ≡ Ok place → page_behind memory Read s ≡ Ok place
 led memory place (Ok page) s h e = rw (h page refl) (page_behind-read memory place page e)
 led memory place (Err stop) s h e = cc
 
-pub translated-read : (memory : Mapped) (cr3 at : ℕ) (place : PhysAddr) → translated memory cr3 at Write ≡ Ok place → translated memory cr3 at Read ≡ Ok place
+pub translated-read : (memory : Mapped) (cr3 at : ℕ) (place : PhysAddr) → translated memory cr3 at Write ≡ Ok place
+    → translated memory cr3 at Read ≡ Ok place
 unfolding translated
 translated-read memory cr3 at place e = led memory place _ _ (walked-read (guest_entry memory) cr3 at) e

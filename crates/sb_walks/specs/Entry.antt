@@ -1,5 +1,7 @@
 -- Entries of page tables, and where the entry for an address stands (SDM volume 3, section 4.5).
 use Rattle.std.specs.Prelude.{ℕ, ◌+◌, ◌*◌, ◌/◌, ◌%◌, ◌^◌, ◌==◌, Bool, List, [], ◌∷◌}
+use Rattle.sb_abi.specs.declared.space.TheConstants.{PAGE_SIZE}
+use Rattle.sb_walks.specs.declared.entry.TheConstants.{PS}
 
 -- whether a bit of a word is set
 abbrev pub has_bit : ℕ → ℕ → Bool
@@ -19,7 +21,7 @@ is_user entry = has_bit entry 2
 
 -- PS: at levels 3 and 2, the entry maps a large page
 abbrev pub has_page_size : ℕ → Bool
-has_page_size entry = has_bit entry 7
+has_page_size entry = has_bit entry PS
 
 -- XD: fetches are not permitted
 abbrev pub is_execute_disabled : ℕ → Bool
@@ -35,7 +37,7 @@ index_at level address = address / 2 ^ (3 + 9 * level) % 512
 
 -- the place of the entry with an index in the table that stands in a frame
 abbrev pub entry_in : ℕ → ℕ → ℕ
-entry_in frame index = 4096 * frame + 8 * index
+entry_in frame index = PAGE_SIZE * frame + 8 * index
 
 -- the place of the entry for an address
 abbrev pub entry_place : ℕ → ℕ → ℕ → ℕ

@@ -1,5 +1,6 @@
 -- The walk through the extended page tables, over physical memory (SDM volume 3, section 28.3).
 use Rattle.std.specs.Prelude.{ℕ, ◌+◌, ◌*◌, ◌/◌, ◌%◌, ◌^◌, ◌==◌, ◌&&◌, ◌||◌, nat_le, nat_lt, not, Bool, List, [], ◌∷◌, Result, Ok, Err, if◌then◌else◌}
+use Rattle.sb_abi.specs.declared.space.TheConstants.{PAGE_SIZE}
 use Rattle.sb_memory.specs.Outcome.{and_then}
 use Rattle.sb_memory.specs.Physical.{Physical, frame_count}
 use Rattle.sb_memory.specs.Reading.{word_read}
@@ -9,6 +10,7 @@ use Rattle.sb_memory.specs.declared.address.Access.TheVariants.{Read, Write, Fet
 use Rattle.sb_memory.specs.declared.address.PhysAddr.{PhysAddr}
 use Rattle.sb_memory.specs.declared.address.EptStop.{EptStop}
 use Rattle.sb_memory.specs.declared.address.EptStop.TheVariants as stop
+use Rattle.sb_walks.specs.declared.entry.TheConstants.{WRITE_BACK}
 use Rattle.sb_walks.specs.Entry.{has_bit, has_page_size, frame_in, entry_place, four_levels}
 use Rattle.sb_walks.specs.Reads.{where_ok}
 
@@ -33,7 +35,7 @@ ept_permits Fetch entry = is_executable entry
 -- write without read, or at the lowest level another memory type than 6, write-back
 abbrev pub is_misconfigured : ℕ → ℕ → Bool
 is_misconfigured level entry =
-    (is_writable entry && not (is_readable entry)) || ((level == 1) && not (entry / 2 ^ 3 % 8 == 6))
+    (is_writable entry && not (is_readable entry)) || ((level == 1) && not (entry / 2 ^ 3 % 8 == WRITE_BACK))
 
 -- a large page
 abbrev pub is_large : ℕ → ℕ → Bool
@@ -60,12 +62,14 @@ ept_entry frames access level (Err gap) = Err (stop.Missing gap.frame)
 
 -- one level: from the frame of a table to the frame to which the entry for the address leads
 unfoldable pub ept_step : Physical → ℕ → Access → ℕ → ℕ → Result ℕ EptStop
-ept_step memory at access level frame = ept_entry (frame_count memory) access level (word_read memory (entry_place frame level at))
+ept_step memory at access level frame =
+    ept_entry (frame_count memory) access level (word_read memory (entry_place frame level at))
 
 -- these levels, from the frame of the first one's table on: the frame to which the last leads, or the first refusal
 abbrev pub ept_levels : Physical → ℕ → Access → List ℕ → ℕ → Result ℕ EptStop
 ept_levels memory at access [] frame = Ok frame
-ept_levels memory at access (level ∷ levels) frame = and_then (ept_step memory at access level frame) (ept_levels memory at access levels)
+ept_levels memory at access (level ∷ levels) frame =
+    and_then (ept_step memory at access level frame) (ept_levels memory at access levels)
 
 -- the places of the entries that are read, up to and with that of the refusal
 abbrev pub ept_reads : Physical → ℕ → Access → List ℕ → ℕ → List ℕ
@@ -75,7 +79,7 @@ ept_reads memory at access (level ∷ levels) frame =
 
 -- the address in a frame that stands where another stands in its page
 abbrev pub phys_in : ℕ → ℕ → PhysAddr
-phys_in at frame = record { 0 = 4096 * frame + at % 4096 }
+phys_in at frame = record { 0 = PAGE_SIZE * frame + at % PAGE_SIZE }
 
 -- the walk from the table to which the EPT pointer leads
 unfoldable pub ept_walked : Physical → ℕ → ℕ → Access → Result PhysAddr EptStop

@@ -1,5 +1,7 @@
 -- The walk through the guest's page tables, over what is read at the places of their entries.
-use Rattle.std.specs.Prelude.{ℕ, ◌+◌, ◌*◌, ◌/◌, ◌%◌, ◌^◌, ◌-◌, ◌==◌, ◌&&◌, ◌||◌, not, Bool, List, [], ◌∷◌, Result, Ok, Err, if◌then◌else◌}
+use Rattle.std.specs.Prelude.{ℕ, ◌+◌, ◌*◌, ◌%◌, ◌==◌, ◌&&◌, ◌||◌, not, Bool, List, [], ◌∷◌, Result, Ok, Err, if◌then◌else◌}
+use Rattle.sb_abi.specs.declared.space.TheConstants.{PAGE_SIZE}
+pub use Rattle.sb_memory.specs.Address.{is_canonical}
 use Rattle.sb_memory.specs.Outcome.{and_then}
 use Rattle.sb_memory.specs.declared.address.Access.{Access}
 use Rattle.sb_memory.specs.declared.address.Access.TheVariants.{Read, Write, Fetch}
@@ -9,10 +11,6 @@ use Rattle.sb_walks.specs.declared.stop.WalkStop.{WalkStop}
 use Rattle.sb_walks.specs.declared.stop.WalkStop.TheVariants as stop
 use Rattle.sb_walks.specs.Entry.{is_present, is_writable, is_user, has_page_size, is_execute_disabled, frame_in, entry_place, four_levels}
 use Rattle.sb_walks.specs.Reads.{where_ok}
-
--- bits 63 to 47 are all the same
-abbrev pub is_canonical : ℕ → Bool
-is_canonical linear = (linear / 2 ^ 47 == 0) || (linear / 2 ^ 47 == 2 ^ 17 - 1)
 
 -- whether an entry permits an access in user mode
 abbrev pub permits : Access → ℕ → Bool
@@ -47,11 +45,12 @@ walk_levels entries linear access (level ∷ levels) frame =
 abbrev pub level_reads : (ℕ → Result ℕ TableStop) → ℕ → Access → List ℕ → ℕ → List ℕ
 level_reads entries linear access [] frame = []
 level_reads entries linear access (level ∷ levels) frame =
-    entry_place frame level linear ∷ where_ok (walk_step entries linear access level frame) (level_reads entries linear access levels)
+    entry_place frame level linear ∷ where_ok (walk_step entries linear access level frame)
+        (level_reads entries linear access levels)
 
 -- the address in a frame that stands where a linear address stands in its page
 abbrev pub address_in : ℕ → ℕ → GuestPhys
-address_in linear frame = record { 0 = 4096 * frame + linear % 4096 }
+address_in linear frame = record { 0 = PAGE_SIZE * frame + linear % PAGE_SIZE }
 
 -- the walk from the table to which CR3 leads
 unfoldable pub walked : (ℕ → Result ℕ TableStop) → ℕ → ℕ → Access → Result GuestPhys WalkStop

@@ -5,4 +5,5 @@ use Rattle.sb_pagewalk.specs.Building.{IsCleared}
 use Rattle.sb_pagewalk.proofs.table_set.TableSet.clear.Given as goal
 
 abbrev pub invariant-loop-table : goal.invariant-loop-table
-invariant-loop-table l = IsCleared l.self l.memory l.table × HasSize l.memory × SameOutside (set_frames l.self) l.fn.memory l.memory
+invariant-loop-table l = IsCleared l.self l.memory l.table × HasSize l.memory
+    × SameOutside (set_frames l.self) l.fn.memory l.memory

@@ -8,17 +8,21 @@ use Rattle.sb_pagewalk.proofs.table_set.TableSet.set_page.Goals as goal
 
 pub set_word-requires : goal.set_word-requires
 set_word-requires c =
-    word_place c.args.self.now c.args.memory.now (page_table_of (region_of c.args.at.0)) (c.args.at.0 / 4096 % 512) _ c.page_place.ensures
+    word_place c.args.self.now c.args.memory.now (page_table_of (region_of c.args.at.0)) (c.args.at.0 / 4096 % 512) _
+    c.page_place.ensures
     c.requires.tables.frames (page_table_small (region_of c.args.at.0)) (omega arith)
 
 pub returns-clause-tables : goal.returns-clause-tables
 returns-clause-tables c =
-    (one_page_set _ _ _ _ _ _ c.set_word.ensures.written c.page_place.ensures c.set_word.ensures.size c.requires.window c.requires.tables (omega arith)).tables
+    (one_page_set _ _ _ _ _ _ c.set_word.ensures.written c.page_place.ensures c.set_word.ensures.size c.requires.window
+    c.requires.tables (omega arith)).tables
 
 pub returns-clause-page : goal.returns-clause-page
 returns-clause-page c =
-    (one_page_set _ _ _ _ _ _ c.set_word.ensures.written c.page_place.ensures c.set_word.ensures.size c.requires.window c.requires.tables (omega arith)).page
+    (one_page_set _ _ _ _ _ _ c.set_word.ensures.written c.page_place.ensures c.set_word.ensures.size c.requires.window
+    c.requires.tables (omega arith)).page
 
 pub returns-clause-others : goal.returns-clause-others
 returns-clause-others c =
-    (one_page_set _ _ _ _ _ _ c.set_word.ensures.written c.page_place.ensures c.set_word.ensures.size c.requires.window c.requires.tables (omega arith)).others
+    (one_page_set _ _ _ _ _ _ c.set_word.ensures.written c.page_place.ensures c.set_word.ensures.size c.requires.window
+    c.requires.tables (omega arith)).others

@@ -13,42 +13,43 @@ use Rattle.sb_walks.specs.Entry.{frame_in, four_levels}
 use Rattle.sb_walks.specs.Ept.{ept_levels, ept_walked}
 use Rattle.sb_walks.specs.Guest.{is_canonical, walk_levels, walked}
 use Rattle.sb_walks.specs.Nested.{Mapped, guest_entry, page_answer, page_behind, translated}
-use Rattle.sb_walks.proofs.SamePage.{address, guest_address, ept_walked-page, walked-page}
+use Rattle.sb_walks.proofs.SamePage.{address, guest_address, unwrapped, ept_walked-page, walked-page}
 
 -- a walk that leads somewhere passed its first test
-pub passed : {A E : Type 0} (test : Bool) (r : Result A E) (stop : E) (a : A) → cond test r (Err stop) ≡ Ok a → (test ≡ true) × (r ≡ Ok a)
+pub passed : {A E : Type 0} (test : Bool) (r : Result A E) (stop : E) (a : A) → cond test r (Err stop) ≡ Ok a
+    → (test ≡ true) × (r ≡ Ok a)
 passed true r stop a e = (refl, e)
 passed false r stop a e = cc
 
-passed_not : {A E : Type 0} (test : Bool) (r : Result A E) (stop : E) (a : A) → cond test (Err stop) r ≡ Ok a → (test ≡ false) × (r ≡ Ok a)
+passed_not : {A E : Type 0} (test : Bool) (r : Result A E) (stop : E) (a : A) → cond test (Err stop) r ≡ Ok a
+    → (test ≡ false) × (r ≡ Ok a)
 passed_not true r stop a e = cc
 passed_not false r stop a e = (refl, e)
 
-guest_unwrapped : {p q : GuestPhys} → Path (Result GuestPhys WalkStop) (Ok p) (Ok q) → p ≡ q
-guest_unwrapped e = cc
-
-unwrapped : {p q : PhysAddr} → Path (Result PhysAddr EptStop) (Ok p) (Ok q) → p ≡ q
-unwrapped e = cc
-
-guest_offset : (r : Result ℕ WalkStop) (x : ℕ) (page : GuestPhys) → x < 4096 → and_then r (λ frame. Ok (guest_address (4096 * frame + x))) ≡ Ok page → page.0 % 4096 ≡ x
+guest_offset : (r : Result ℕ WalkStop) (x : ℕ) (page : GuestPhys) → x < 4096
+    → and_then r (λ frame. Ok (guest_address (4096 * frame + x))) ≡ Ok page → page.0 % 4096 ≡ x
 guest_offset (Ok frame) x page below e =
-    let same : 4096 * frame + x ≡ page.0 = ap (λ (p : GuestPhys). p.0) (guest_unwrapped e) in
+    let same : 4096 * frame + x ≡ page.0 = ap (λ (p : GuestPhys). p.0) (unwrapped e) in
     omega arith
 guest_offset (Err stop) x page below e = cc
 
-walked_offset : (entries : ℕ → Result ℕ TableStop) (cr3 at : ℕ) (access : Access) (page : GuestPhys) → walked entries cr3 at access ≡ Ok page → (is_canonical at ≡ true) × (page.0 % 4096 ≡ at % 4096)
+walked_offset : (entries : ℕ → Result ℕ TableStop) (cr3 at : ℕ) (access : Access) (page : GuestPhys)
+    → walked entries cr3 at access ≡ Ok page → (is_canonical at ≡ true) × (page.0 % 4096 ≡ at % 4096)
 unfolding walked
 walked_offset entries cr3 at access page e =
     let both = passed (is_canonical at) _ _ page e in
     (both.0, guest_offset (walk_levels entries at access four_levels (frame_in cr3)) (at % 4096) page (omega arith) both.1)
 
-ept_offset_of : (r : Result ℕ EptStop) (x : ℕ) (place : PhysAddr) → x < 4096 → and_then r (λ frame. Ok (address (4096 * frame + x))) ≡ Ok place → place.0 % 4096 ≡ x
+ept_offset_of : (r : Result ℕ EptStop) (x : ℕ) (place : PhysAddr) → x < 4096
+    → and_then r (λ frame. Ok (address (4096 * frame + x))) ≡ Ok place → place.0 % 4096 ≡ x
 ept_offset_of (Ok frame) x place below e =
     let same : 4096 * frame + x ≡ place.0 = ap (λ (p : PhysAddr). p.0) (unwrapped e) in
     omega arith
 ept_offset_of (Err stop) x place below e = cc
 
-ept_offset : (memory : Physical) (eptp at : ℕ) (access : Access) (place : PhysAddr) → ept_walked memory eptp at access ≡ Ok place → (nat_le (2 ^ 48) at ≡ false) × (place.0 % 4096 ≡ at % 4096)
+-- a walk that leads somewhere keeps where the address lies in its page, and the address has at most 48 bits
+pub ept_offset : (memory : Physical) (eptp at : ℕ) (access : Access) (place : PhysAddr)
+    → ept_walked memory eptp at access ≡ Ok place → (nat_le (2 ^ 48) at ≡ false) × (place.0 % 4096 ≡ at % 4096)
 unfolding ept_walked
 ept_offset memory eptp at access place e =
     let both = passed_not (nat_le (2 ^ 48) at) _ _ place e in
@@ -82,7 +83,8 @@ behind_on : (memory : Mapped) (access : Access) (at k : ℕ) (place : PhysAddr) 
 behind_on memory access at k place (Ok page) s h e = rw ((h page refl).1) (page_on memory access page.0 k place (h page refl).0 e)
 behind_on memory access at k place (Err stop) s h e = cc
 
-guest_on : (entries : ℕ → Result ℕ TableStop) (cr3 at k : ℕ) (access : Access) (page : GuestPhys) → at % 4096 + k < 4096 → walked entries cr3 at access ≡ Ok page
+guest_on : (entries : ℕ → Result ℕ TableStop) (cr3 at k : ℕ) (access : Access) (page : GuestPhys) → at % 4096 + k < 4096
+    → walked entries cr3 at access ≡ Ok page
     → (page.0 % 4096 + k < 4096) × (walked entries cr3 (at + k) access ≡ Ok (guest_address (page.0 + k)))
 guest_on entries cr3 at k access page h e =
     let both = walked_offset entries cr3 at access page e in
@@ -99,11 +101,13 @@ translated-page memory cr3 at k access place h e =
 behind_offset : (memory : Mapped) (access : Access) (at : ℕ) (place : PhysAddr) (r : Result GuestPhys WalkStop)
     → ((page : GuestPhys) → r ≡ Ok page → page.0 % 4096 ≡ at % 4096)
     → page_behind memory access r ≡ Ok place → place.0 % 4096 ≡ at % 4096
-behind_offset memory access at place (Ok page) h e = (ept_offset memory.physical memory.eptp page.0 access place (answered _ place e)).1 ∙ h page refl
+behind_offset memory access at place (Ok page) h e =
+    (ept_offset memory.physical memory.eptp page.0 access place (answered _ place e)).1 ∙ h page refl
 behind_offset memory access at place (Err stop) h e = cc
 
 -- an address leads to a place that stands where it stands in its page
-pub place_offset : (memory : Mapped) (cr3 at : ℕ) (access : Access) (place : PhysAddr) → translated memory cr3 at access ≡ Ok place → place.0 % 4096 ≡ at % 4096
+pub place_offset : (memory : Mapped) (cr3 at : ℕ) (access : Access) (place : PhysAddr)
+    → translated memory cr3 at access ≡ Ok place → place.0 % 4096 ≡ at % 4096
 unfolding translated
 place_offset memory cr3 at access place e =
     behind_offset memory access at place _ (λ page led. (walked_offset (guest_entry memory) cr3 at access page led).1) e
