@@ -1,5 +1,6 @@
 -- A frame book: for each frame from 512 on, in order, its kind and owner where it is taken.
 use Rattle.std.specs.Prelude.{ℕ, ◌≡◌, ◌≢◌, ◌+◌, ◌-◌, ◌<◌, ◌≤◌, List, length, get_or, replicate, count_by, is_none, Option, None, Some, slice_set}
+use Rattle.sb_abi.specs.declared.frames.TheConstants.{KEPT_FRAMES}
 use Rattle.sb_memory.specs.declared.address.Frame.{Frame}
 use Rattle.sb_frames.specs.declared.kind.Kind.{Kind}
 
@@ -8,7 +9,7 @@ Book = List (Option (Kind × ℕ))
 
 -- the number of the first frame of a book
 abbrev pub first_frame : ℕ
-first_frame = 512
+first_frame = KEPT_FRAMES
 
 -- the book of a memory of so many frames in which no frame is taken
 abbrev pub empty_book : ℕ → Book

@@ -4,12 +4,13 @@ ghost use Rattle.std.specs.Prelude.{◌≡◌, ◌≢◌, ◌↔◌, ℕ, ◌+�
 ghost use Rattle.sb_frames.specs.Book.{Book, IsInBook, IsLowestFree, IsTaken, after_take, empty_book, free_count, holder, with_holder};
 
 use crate::kind::Kind;
+use sb_abi::KEPT_FRAMES;
 use sb_memory::Frame;
 use std::alloc::{AllocError, Global};
 use std::marker::Model;
 
 /// The number of the first frame that can be taken. Those below have fixed uses.
-const FIRST_FRAME: u32 = 512;
+const FIRST_FRAME: u32 = KEPT_FRAMES;
 
 /// The frames of a memory from 512 on, each free or taken.
 #[derive(Drop)]
@@ -66,6 +67,19 @@ impl FrameBook {
         self.first = index + 1;
         self.free -= 1;
         Some(Frame(FIRST_FRAME + index as u32))
+    }
+
+    /// Takes the lowest free frame, where one is free.
+    pub fn take_free(&mut self, kind: Kind, owner: u32) -> Frame
+        requires { 0 < free_count self.old }
+        ensures lowest { IsLowestFree self.old result.0 }
+        ensures taken { self.new ≡ with_holder self.old result.0 (Some (kind, owner)) }
+        ensures fewer { free_count self.new + 1 ≡ free_count self.old }
+    {
+        match self.take(kind, owner) {
+            Some(frame) => frame,
+            None => unreachable!(),
+        }
     }
 
     /// Makes a taken frame free.

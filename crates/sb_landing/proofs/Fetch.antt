@@ -91,10 +91,10 @@ pub row_fetches : (state : State) (thread view process : ℕ) (row : Row) → Ar
     → StandsIn server_page row → FetchesOn (plain thread view) state (0x70000000 + row.offset) tt tt (Ok row.insn)
 row_fetches state thread view process row sound away shows stands = record {
   asked = length (spelling row.insn);
-  fetched = spelled_fetches (fetch_of (plain thread view) state) (0x70000000 + row.offset) row.insn stands.decodes.0.0 (λ index below.
+  fetched = spelled_fetches (fetch_of (plain thread view) state) (0x70000000 + row.offset) row.insn stands.begins.0 (λ index below.
       let inside = stands.inside in
       let place : further (0x70000000 + row.offset) index ≡ 0x70000000 + (row.offset + index) = omega arith in
       rw place (server_byte state thread view process (row.offset + index) sound away shows (omega arith)
-      ∙ ap (λ byte. Ok byte) (row_byte server_page row.offset index (spelling row.insn) stands.decodes.0.1.0 stands.decodes.0.1.1 below)));
+      ∙ ap (λ byte. Ok byte) (row_byte server_page row.offset index (spelling row.insn) stands.begins.1.0 stands.begins.1.1 below)));
   account = sym (no_account thread view state (0x70000000 + row.offset) (length (spelling row.insn)));
 }

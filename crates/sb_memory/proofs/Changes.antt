@@ -13,7 +13,8 @@ pub same_outside_self : (frames : List ℕ) (memory : Physical) → SameOutside 
 same_outside_self frames memory = record { present = refl; size = refl; bytes = λ place outside. refl }
 
 -- one change after another
-pub same_outside_then : (frames : List ℕ) (old mid new : Physical) → SameOutside frames old mid → SameOutside frames mid new → SameOutside frames old new
+pub same_outside_then : (frames : List ℕ) (old mid new : Physical) → SameOutside frames old mid → SameOutside frames mid new
+    → SameOutside frames old new
 same_outside_then frames old mid new first second = record {
   present = second.present ∙ first.present;
   size = second.size ∙ first.size;
@@ -43,7 +44,8 @@ pub same_outside_cleared : (frames : List ℕ) (memory : Physical) (frame : ℕ)
 same_outside_cleared frames memory frame within = record {
   present = refl;
   size = length_clear_frame memory.bytes frame;
-  bytes = λ place outside. byte_beside_frame memory.bytes frame place (λ same. outside (subst (Contains frames) (sym same) within));
+  bytes = λ place outside. byte_beside_frame memory.bytes frame place
+      (λ same. outside (subst (Contains frames) (sym same) within));
 }
 
 -- the size stays
@@ -54,3 +56,10 @@ size_kept frames old new same size =
     let few = size.count in
     let whole = size.bytes in
     record { count = rw present few; bytes = rw (bytes, present) whole }
+
+-- the size before a frame was cleared
+pub size_before_clear : (memory new : Physical) (frame : ℕ) → new ≡ with_bytes memory (clear_frame memory.bytes frame)
+    → HasSize new → HasSize memory
+size_before_clear memory new frame is size =
+    let after = subst HasSize is size in
+    record { count = after.count; bytes = sym (length_clear_frame memory.bytes frame) ∙ after.bytes }

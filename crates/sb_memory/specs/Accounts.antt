@@ -22,7 +22,8 @@ after_words rule memory [] account = account
 after_words rule memory (place ∷ places) account = after_words rule memory places (rule (ReadWord place) memory account)
 
 -- the account after calls that leave the memory as it is
-abbrev pub after_reads : {Account : Type 0} → (PhysCall → Physical → Account → Account) → Physical → List PhysCall → Account → Account
+abbrev pub after_reads : {Account : Type 0} → (PhysCall → Physical → Account → Account) → Physical → List PhysCall → Account
+    → Account
 after_reads rule memory [] account = account
 after_reads rule memory (call ∷ calls) account = after_reads rule memory calls (rule call memory account)
 

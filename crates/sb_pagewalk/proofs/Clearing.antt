@@ -9,8 +9,8 @@ use Rattle.sb_memory.specs.Physical.{Physical, HasSize}
 use Rattle.sb_memory.specs.Reading.{with_bytes}
 use Rattle.sb_memory.specs.Words.{word_at, clear_frame}
 use Rattle.sb_memory.specs.Changes.{SameOutside}
-use Rattle.sb_memory.proofs.Words.{word_beside_frame, word_of_cleared, length_clear_frame}
-use Rattle.sb_memory.proofs.Changes.{same_outside_then, same_outside_cleared}
+use Rattle.sb_memory.proofs.Words.{word_beside_frame, word_of_cleared}
+use Rattle.sb_memory.proofs.Changes.{same_outside_then, same_outside_cleared, size_before_clear}
 use Rattle.sb_pagewalk.specs.declared.table_set.TableSet.{TableSet}
 use Rattle.sb_pagewalk.specs.TableSet.{set_frames, table_frame, place_in}
 use Rattle.sb_pagewalk.specs.Standing.{AreFrames}
@@ -22,13 +22,6 @@ pub frames_stay : (set : TableSet) (old new : Physical) → SameOutside (set_fra
 frames_stay set old new same frames =
     let present = same.present in
     record { inside = λ table number. rw present (frames.inside table number); different = frames.different }
-
--- the size before a frame is cleared
-pub size_before_clear : (memory new : Physical) (frame : ℕ) → new ≡ with_bytes memory (clear_frame memory.bytes frame)
-    → HasSize new → HasSize memory
-size_before_clear memory new frame is size =
-    let after = subst HasSize is size in
-    record { count = after.count; bytes = sym (length_clear_frame memory.bytes frame) ∙ after.bytes }
 
 module _ (set : TableSet) (memory : Physical) (count : ℕ) (frames : AreFrames set memory) (size : HasSize memory)
     (number : count < 12) where

@@ -22,7 +22,7 @@ use Rattle.sb_root.specs.Answers.{SameViews}
 use Rattle.sb_root.specs.Calls.{IsFree, IsAddedList, IsZeroed}
 use Rattle.sb_root.proofs.Frames.{base_small, not_one, only_one}
 use Rattle.sb_root.proofs.Filling.{cleared_page, first_words}
-use Rattle.sb_root.proofs.InTurn.{holder_same, holder_other, length_with_holder}
+use Rattle.sb_frames.proofs.Taking.{holder_same, holder_other, length_with_holder}
 use Rattle.sb_root.proofs.Kept.{stands_kept, views_kept}
 use Rattle.sb_root.proofs.LowPages.{alike_page}
 use Rattle.sb_root.proofs.Uses.{IsNewList, list_same, list_other, list_uses, shape_with_list, uses_apart, some_frame}

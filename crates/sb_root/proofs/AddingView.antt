@@ -9,6 +9,7 @@ use Rattle.sb_memory.specs.Reading.{with_bytes}
 use Rattle.sb_memory.specs.Words.{put_word}
 use Rattle.sb_memory.specs.Changes.{SameOutside}
 use Rattle.sb_memory.proofs.Words.{length_put_word, byte_beside_word}
+use Rattle.sb_memory.proofs.Changes.{beside_word}
 use Rattle.sb_memory.specs.declared.address.Frame.{Frame}
 use Rattle.sb_walks.specs.Entry.{entry_in}
 use Rattle.sb_frames.specs.Book.{Book, holder, free_count}
@@ -22,6 +23,7 @@ use Rattle.sb_root.specs.Standing.{HasView, IsRootFrame, Stands, IsBooked, IsApa
 use Rattle.sb_root.specs.Answers.{SameAnswers, SameViews, IsViewOf}
 use Rattle.sb_root.specs.Calls.{IsFree, IsAddedView, IsZeroed, SameBeside, with_parts}
 use Rattle.sb_root.proofs.Frames.{base_small}
+use Rattle.sb_root.proofs.Indices.{not_both}
 use Rattle.sb_root.proofs.InTurn.{length_with_parts, parts_same, parts_other}
 use Rattle.sb_root.proofs.Kept.{stands_kept, views_kept}
 use Rattle.sb_root.proofs.ListWord.{StandsBut, stands_after, base_same, view_same as same_view, part_stays, part_differs}
@@ -31,22 +33,12 @@ use Rattle.sb_root.proofs.Stays.{page_stays}
 use Rattle.sb_root.proofs.Uses.{Place, here, elsewhere, place_of_index, IsNewPart, view_same, view_other, view_uses, used_part, shape_with_view, new_parts_apart, uses_apart, set_view, some_frame, some_view}
 use Rattle.sb_root.proofs.AddingList.{used_not_free}
 
-not_set : (root : RootKernel) (thread index : ℕ) → is_listed (view_of root thread index) ≡ false → IsSet root thread index → ⊥
-not_set root thread index free set = cc
-
 entry_small : (view : View) (frames : ℕ) → view.tables.root.0 < frames → frames ≤ 8192 → (listed : Bool) → (if listed then eptp_of_view view else 0) < 2 ^ 64
 entry_small view frames inside few true = omega arith
 entry_small view frames inside few false = omega arith
 
 no_list_there : (root : RootKernel) (thread : ℕ) (list : Frame) → list_of root thread ≡ Some list → list_of root thread ≡ None → ⊥
 no_list_there root thread list is none = cc
-
--- a byte of another frame lies beside a word
-beside : (at place : ℕ) → at % 8 ≡ 0 → frame_of place ≢ frame_of at → (place < at) ⊎ (at + 8 ≤ place)
-beside at place aligned other = elim (cases_lt place at) [
-  | inl below ↦ inl below
-  | inr above ↦ inr (omega arith)
-]
 
 -- what is known when the pages of a view were written and its entry was not: `mid` is the memory then
 pub record Adding (root : RootKernel) (book : Book) (old mid : Physical) (thread index : ℕ) (list : Frame) (view : View) : Type 0 where
@@ -160,7 +152,7 @@ module _ (root : RootKernel) (book : Book) (old mid : Physical) (thread index : 
 
   others_by : (other second : ℕ) → IsSet root other second → Place thread index other second → SameAnswers old new (list_entry root other second)
   others_by other second set (here same again) =
-      absurd (not_set root thread index adding.lowest.free (subst (λ (t : ℕ). IsSet root t index) same (subst (λ (k : ℕ). IsSet root other k) again set)))
+      absurd (not_both root thread index adding.lowest.free (subst (λ (t : ℕ). IsSet root t index) same (subst (λ (k : ℕ). IsSet root other k) again set)))
   others_by other second set (elsewhere differ) =
       let kept = set_view root other second set in
       let later : SameAnswers mid new (list_entry root other second) =
@@ -217,7 +209,7 @@ module _ (root : RootKernel) (book : Book) (old mid : Physical) (thread index : 
   scratch zeros place within =
       let differs = part_differs more mid thread index list (entry_of_view view) but index_small word_fits word_is thread index 5 view.scratch_page.0 (used_part more thread index 5 view kept_here (omega arith)) in
       let few = index_small in
-      byte_beside_word mid.bytes (entry_in list.0 index) (entry_of_view view) place (beside (entry_in list.0 index) place (omega arith) (λ same. differs (sym within ∙ same ∙ omega arith))) ∙ zeros place within
+      byte_beside_word mid.bytes (entry_in list.0 index) (entry_of_view view) place (beside_word (entry_in list.0 index) place (omega arith) (λ same. differs (sym within ∙ same ∙ omega arith))) ∙ zeros place within
 
   pub same_beside : SameBeside (view_frames view) (entry_in list.0 index) old new
   same_beside = record {

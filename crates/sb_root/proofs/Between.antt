@@ -18,7 +18,7 @@ use Rattle.sb_root.specs.Root.{Use, ListOf, PartOf, IsSet, is_listed, list_of, v
 use Rattle.sb_root.specs.Standing.{Stands, IsBooked}
 use Rattle.sb_root.specs.Answers.{IsViewOf}
 use Rattle.sb_root.specs.Switch.{switched}
-use Rattle.sb_root.proofs.InTurn.{holder_other, length_with_holder}
+use Rattle.sb_frames.proofs.Taking.{holder_other, length_with_holder}
 use Rattle.sb_root.proofs.Reaches.{view_answers}
 use Rattle.sb_root.proofs.Uses.{used_list, used_part, set_view}
 use Rattle.sb_root.proofs.Walk.{read_entry}

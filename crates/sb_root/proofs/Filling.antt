@@ -10,15 +10,9 @@ use Rattle.sb_memory.proofs.Words.{length_clear_frame, word_of_cleared, word_rea
 use Rattle.std.specs.List.{Contains}
 use Rattle.std.proofs.lemmas.List.Elements.{Contains-get_or}
 use Rattle.sb_memory.specs.Changes.{SameOutside}
-use Rattle.sb_memory.proofs.Changes.{same_outside_then, same_outside_cleared, same_outside_word}
+use Rattle.sb_memory.proofs.Changes.{same_outside_then, same_outside_cleared, same_outside_word, size_before_clear}
 use Rattle.sb_walks.specs.Entry.{entry_in}
 use Rattle.sb_root.specs.Tables.{IsPage}
-
--- the size before a frame was cleared
-pub size_before_clear : (memory new : Physical) (frame : ℕ) → new ≡ with_bytes memory (clear_frame memory.bytes frame) → HasSize new → HasSize memory
-size_before_clear memory new frame is size =
-    let after = subst HasSize is size in
-    record { count = after.count; bytes = sym (length_clear_frame memory.bytes frame) ∙ after.bytes }
 
 -- the words before an index, and zeros from it on
 abbrev pub first_words : ℕ → List ℕ → ℕ → ℕ

@@ -4,7 +4,8 @@ use Rattle.std.proofs.lemmas.Bool.{cases_lt}
 use Rattle.sb_root.specs.declared.root_kernel.RootKernel.{RootKernel}
 use Rattle.sb_root.specs.Root.{IsSet, HasFreeIndex, is_listed, view_of}
 
-not_both : (root : RootKernel) (thread index : ℕ) → is_listed (view_of root thread index) ≡ false → IsSet root thread index → ⊥
+-- no index is both free and set
+pub not_both : (root : RootKernel) (thread index : ℕ) → is_listed (view_of root thread index) ≡ false → IsSet root thread index → ⊥
 not_both root thread index free set = cc
 
 -- where all lower indices are set and one is free, there is room

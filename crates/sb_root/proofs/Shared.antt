@@ -10,7 +10,7 @@ use Rattle.sb_memory.proofs.Changes.{same_outside_then, same_outside_cleared}
 use Rattle.sb_memory.proofs.Words.{word_beside_frame, word_of_cleared}
 use Rattle.sb_root.specs.Tables.{shared_frames, shared_place}
 use Rattle.sb_root.proofs.Frames.{shared_among}
-use Rattle.sb_root.proofs.Filling.{size_before_clear}
+use Rattle.sb_memory.proofs.Changes.{size_before_clear}
 
 -- the table of one more region is cleared
 pub region_cleared : (old memory new : Physical) (region table : ℕ) → table ≡ 32 + region → new ≡ with_bytes memory (clear_frame memory.bytes table) → HasSize new → SameOutside shared_frames old memory

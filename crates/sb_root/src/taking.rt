@@ -1,8 +1,8 @@
 //! Frames that are taken from the book.
 
-ghost use Rattle.std.specs.Prelude.{ℕ, ◌≡◌, ◌+◌, ◌<◌, ◌≤◌, Some, true};
+ghost use Rattle.std.specs.Prelude.{ℕ, ◌≡◌, ◌+◌, ◌≤◌, true};
 ghost use Rattle.std.specs.List.{Contains};
-ghost use Rattle.sb_frames.specs.Book.{IsLowestFree, free_count, with_holder};
+ghost use Rattle.sb_frames.specs.Book.{free_count};
 ghost use Rattle.sb_root.specs.Root.{AreDifferent, view_frames};
 ghost use Rattle.sb_root.specs.Calls.{IsFree, with_parts};
 
@@ -10,19 +10,6 @@ use crate::tables::EptTables;
 use crate::view::View;
 use sb_frames::{FrameBook, Kind};
 use sb_memory::Frame;
-
-/// Takes the lowest free frame for a thread.
-pub fn take(book: &mut FrameBook, kind: Kind, thread: u8) -> Frame
-    requires { 0 < free_count book.old }
-    ensures lowest { IsLowestFree book.old result.0 }
-    ensures taken { book.new ≡ with_holder book.old result.0 (Some (kind, thread)) }
-    ensures fewer { free_count book.new + 1 ≡ free_count book.old }
-{
-    match book.take(kind, u32::from(thread)) {
-        Some(frame) => frame,
-        None => unreachable!(),
-    }
-}
 
 /// Takes the six frames of a view, for a thread and what the view shows.
 pub fn take_view(
@@ -42,12 +29,13 @@ pub fn take_view(
     ensures taken { book.new ≡ with_parts book.old thread 0 (view_frames result) }
     ensures count { free_count book.new + 6 ≡ free_count book.old }
 {
-    let root = take(book, Kind::EptTable, thread);
-    let pointers = take(book, Kind::EptTable, thread);
-    let directory = take(book, Kind::EptTable, thread);
-    let first = take(book, Kind::EptTable, thread);
-    let record_page = take(book, Kind::RecordPage, thread);
-    let scratch_page = take(book, Kind::ScratchPage, thread);
+    let owner = u32::from(thread);
+    let root = book.take_free(Kind::EptTable, owner);
+    let pointers = book.take_free(Kind::EptTable, owner);
+    let directory = book.take_free(Kind::EptTable, owner);
+    let first = book.take_free(Kind::EptTable, owner);
+    let record_page = book.take_free(Kind::RecordPage, owner);
+    let scratch_page = book.take_free(Kind::ScratchPage, owner);
     View {
         tables: EptTables {
             root,

@@ -2,5 +2,5 @@ pub mod Order
 mod Filling
 mod Valid
 pub mod Bytes
-mod Phases
+pub mod Phases
 pub mod Switches

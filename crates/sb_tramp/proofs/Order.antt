@@ -89,7 +89,10 @@ pub each_stands : (rows : List Row) → in_order 0 rows ≡ true → EachValid r
 unfolding page_of
 each_stands rows e valid row found =
     let at = placed rows 0 found.0 row e valid found.1 found.2 in
-    record { decodes = ((at.valid, (at.rest, subst (λ (n : ℕ). drop n (page_from 0 rows) ≡ spelling row.insn ++ at.rest) (omega arith) at.stands)), refl); inside = at.inside }
+    record {
+      begins = (at.valid, (at.rest, subst (λ (n : ℕ). drop n (page_from 0 rows) ≡ spelling row.insn ++ at.rest) (omega arith) at.stands));
+      inside = at.inside;
+    }
 
 -- ---- the last filler, apart
 

@@ -1,14 +1,15 @@
 -- A page of instructions: each stands at its offset, and every other byte is CC.
-use Rattle.std.specs.Prelude.{◌≡◌, ℕ, ◌+◌, ◌-◌, ◌<◌, ◌≤◌, List, [], ◌∷◌, ◌++◌, length, drop, get_or, replicate, Ok}
+use Rattle.std.specs.Prelude.{◌≡◌, ℕ, ◌+◌, ◌-◌, ◌<◌, ◌≤◌, List, [], ◌∷◌, ◌++◌, length, drop, get_or, replicate}
 use Rattle.std.specs.List.{Contains}
+use Rattle.sb_abi.specs.declared.space.TheConstants.{PAGE_SIZE}
 use Rattle.sb_insn.specs.declared.insn.Insn.{Insn}
 use Rattle.sb_insn.specs.Spelling.{spelling}
-use Rattle.sb_decode.specs.Decode.{Decodes}
+use Rattle.sb_insn.specs.Grammar.{BeginsWith}
 use Rattle.sb_scan.specs.Pattern.{HasPatternAt}
 
 -- bytes in a page
 abbrev pub page_size : ℕ
-page_size = 4096
+page_size = PAGE_SIZE
 
 -- an instruction at an offset of the page
 pub record Row : Type 0 where
@@ -38,9 +39,9 @@ page_of rows = page_from 0 rows
 
 -- ---- what is said of the two pages
 
--- the bytes of the page at the row's offset decode to the row's instruction, which ends inside the page
+-- the bytes of the page from the row's offset on begin with the row's instruction, which ends inside the page
 pub record StandsIn (page : List ℕ) (row : Row) : Type 0 where
-  pub decodes : Decodes (drop row.offset page) (Ok (row.insn, length (spelling row.insn)))
+  pub begins : BeginsWith (drop row.offset page) row.insn
   pub inside : end_of row ≤ page_size
 
 -- each row stands in the page

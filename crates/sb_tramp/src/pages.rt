@@ -108,7 +108,7 @@ fn put(into: &mut [u8], code: &[u8])
 
 /// A law of the two pages.
 ///
-/// Decoding at a row's offset gives the row's instruction; all other bytes are CC; and the bytes of VMFUNC stand at
+/// The bytes from a row's offset on begin with the row's instruction; all other bytes are CC; and the bytes of VMFUNC stand at
 /// offset 40 alone.
 #[tactic(auto, using(crate::proofs::Bytes::home_size, crate::proofs::Bytes::server_size))]
 pub fn rows_stand()

@@ -3,7 +3,7 @@ use Rattle.std.specs.Prelude.{Option, None, Some}
 use Rattle.sb_memory.specs.declared.address.Frame.{Frame}
 use Rattle.sb_frames.specs.declared.kind.Kind.{Kind}
 use Rattle.sb_frames.specs.Book.{Book, after_take}
-use Rattle.sb_root.proofs.InTurn.{length_with_holder}
+use Rattle.sb_frames.proofs.Taking.{length_with_holder}
 use Rattle.sb_walk_tests.proofs.root.some_book.Goals as goal
 
 -- a take leaves the number of frames
