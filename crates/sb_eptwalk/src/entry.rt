@@ -1,7 +1,7 @@
-//! What an EPT pointer and an entry of an extended page table say (SDM volume 3, sections 24.6.11 and 28.3.2).
+//! What an entry of an extended page table says (SDM volume 3, section 28.3.2).
 
 ghost use Rattle.std.specs.Prelude.{◌≡◌, ◌<◌, IfOk};
-ghost use Rattle.sb_walks.specs.Ept.{ept_judged, ept_permits, is_eptp as eptp_word, is_large as large_entry, is_misconfigured as misconfigured_entry};
+ghost use Rattle.sb_walks.specs.Ept.{ept_judged, ept_permits, is_large as large_entry, is_misconfigured as misconfigured_entry};
 
 use sb_memory::{Access, EptStop};
 use sb_walks::{PS, WRITE_BACK, frame_number, has_bit};
@@ -12,14 +12,6 @@ const READABLE: u32 = 0;
 const WRITABLE: u32 = 1;
 /// X: fetches are permitted.
 const EXECUTABLE: u32 = 2;
-
-/// Whether a word is an EPT pointer: bits 11 to 0 are `0x1E` (memory type 6, a walk of four levels, no accessed and dirty
-/// flags), and bits 63 to 52 are 0.
-pub fn is_eptp(word: u64) -> bool
-    ensures { result ≡ eptp_word word }
-{
-    word & 0xFFF == 0x1E && word >> 52 == 0
-}
 
 /// Whether an entry permits an access.
 fn permits(access: Access, entry: u64) -> bool

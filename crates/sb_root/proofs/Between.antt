@@ -10,7 +10,7 @@ use Rattle.sb_walks.specs.Entry.{frame_in}
 use Rattle.sb_walks.specs.Ept.{is_eptp}
 use Rattle.sb_frames.specs.declared.kind.Kind.{Kind}
 use Rattle.sb_frames.specs.Book.{Book, with_holder}
-use Rattle.sb_root.specs.declared.eptp_switch.Switch.TheVariants.{To, Unbound}
+use Rattle.sb_root.specs.declared.switch_answer.Switch.TheVariants.{To, Unbound}
 use Rattle.sb_root.specs.declared.root_kernel.RootKernel.{RootKernel}
 use Rattle.sb_root.specs.declared.view.View.{View}
 use Rattle.sb_root.specs.Entry.{eptp_to}

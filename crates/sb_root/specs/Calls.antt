@@ -9,7 +9,7 @@ use Rattle.sb_frames.specs.Book.{Book, IsInBook, holder, with_holder, free_count
 use Rattle.sb_frames.specs.declared.kind.Kind.TheVariants.{EptpList}
 use Rattle.sb_tramp.specs.declared.record_words.RecordWords.{RecordWords}
 use Rattle.sb_tramp.specs.Record.{words_of}
-use Rattle.sb_root.specs.declared.no_frames.NoFrames.{NoFrames}
+use Rattle.sb_root.specs.declared.root_kernel.NoFrames.{NoFrames}
 use Rattle.sb_root.specs.declared.root_kernel.RootKernel.{RootKernel}
 use Rattle.sb_root.specs.declared.view.View.{View}
 use Rattle.sb_root.specs.Tables.{IsPage, from_start}

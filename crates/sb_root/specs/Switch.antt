@@ -5,8 +5,8 @@ use Rattle.sb_memory.specs.Reading.{word_read}
 use Rattle.sb_memory.specs.declared.address.Missing.{Missing}
 use Rattle.sb_walks.specs.Entry.{entry_in}
 use Rattle.sb_walks.specs.Ept.{is_eptp}
-use Rattle.sb_root.specs.declared.eptp_switch.Switch.{Switch}
-use Rattle.sb_root.specs.declared.eptp_switch.Switch.TheVariants.{To, Unbound, BadLeaf}
+use Rattle.sb_root.specs.declared.switch_answer.Switch.{Switch}
+use Rattle.sb_root.specs.declared.switch_answer.Switch.TheVariants.{To, Unbound, BadLeaf}
 
 -- what an entry of the list says
 abbrev pub entry_switched : Result ℕ Missing → Result Switch Missing

@@ -2,31 +2,33 @@
 -- 2 MiB. The tables of level 1 for the other fifteen times 2 MiB are the base's, and all share them.
 use Rattle.std.specs.Prelude.{ℕ, ◌≡◌, ◌≢◌, ◌+◌, ◌/◌, ◌%◌, ◌<◌, ◌≤◌, ◌==◌, ◌&&◌, Bool, IsTrue, List, ◌∷◌, nat_lt, nat_le, get_or, if◌then◌else◌}
 use Rattle.std.specs.List.{range_with_len}
+use Rattle.sb_abi.specs.declared.layout.TheConstants.{HOME_TRAMPOLINE_FRAME, SERVER_TRAMPOLINE_FRAME, FIRST_ROOT, LAST_ROOT, FIRST_REGION_TABLE}
 use Rattle.sb_memory.specs.Physical.{Physical, HasSize, HasAllFrames, frame_count}
 use Rattle.sb_memory.specs.Words.{word_at}
 use Rattle.sb_walks.specs.Entry.{entry_in}
+use Rattle.sb_root.specs.declared.entry.TheConstants.{RIGHT_READ, RIGHT_READ_WRITE, RIGHT_EXECUTE}
 use Rattle.sb_root.specs.declared.tables.EptTables.{EptTables}
 use Rattle.sb_root.specs.declared.view.View.{View}
 use Rattle.sb_root.specs.Entry.{eptp_to, link_to, leaf_to, is_rights}
 
 -- the tables of the base: frames 5, 6, 7 and 32
 abbrev pub base_tables : EptTables
-base_tables = record { root = record { 0 = 5 }; pointers = record { 0 = 6 }; directory = record { 0 = 7 }; first = record { 0 = 32 } }
+base_tables = record { root = record { 0 = 5 }; pointers = record { 0 = 6 }; directory = record { 0 = 7 }; first = record { 0 = FIRST_REGION_TABLE } }
 
 abbrev pub base_eptp : ℕ
 base_eptp = eptp_to 5
 
 -- the frame of the table of level 1 for a 2 MiB region other than the first
 abbrev pub shared_table : ℕ → ℕ
-shared_table region = 32 + region
+shared_table region = FIRST_REGION_TABLE + region
 
 -- these tables, for the second to the sixteenth region
 unfoldable pub shared_frames : List ℕ
-shared_frames = range_with_len 33 15
+shared_frames = range_with_len (FIRST_REGION_TABLE + 1) 15
 
 -- the frames that the base is built in
 abbrev pub base_frames : List ℕ
-base_frames = 5 ∷ 6 ∷ 7 ∷ 32 ∷ shared_frames
+base_frames = 5 ∷ 6 ∷ 7 ∷ FIRST_REGION_TABLE ∷ shared_frames
 
 -- the entries of a frame are these, by their index
 pub record IsPage (memory : Physical) (frame : ℕ) (entries : ℕ → ℕ) : Type 0 where
@@ -47,27 +49,27 @@ directory_entries first index =
 
 -- frames 16 to 31: the roots of the processes' page tables
 abbrev pub is_root_frame : ℕ → Bool
-is_root_frame frame = nat_le 16 frame && nat_lt frame 32
+is_root_frame frame = nat_le FIRST_ROOT frame && nat_lt frame (LAST_ROOT + 1)
 
 -- the lowest entries of the base for the first 2 MiB, by the number of the page: the home trampoline page, in frame 1, and
 -- the root frames
 unfoldable pub base_entries : ℕ → ℕ
 base_entries page =
-    if page == 1 then leaf_to 1 4
-    else if is_root_frame page then leaf_to page 1
+    if page == 1 then leaf_to HOME_TRAMPOLINE_FRAME RIGHT_EXECUTE
+    else if is_root_frame page then leaf_to page RIGHT_READ
     else 0
 
 -- the frame of the trampoline page of a view: the server's or the home one
 abbrev pub trampoline_frame : Bool → ℕ
-trampoline_frame server = if server then 4 else 1
+trampoline_frame server = if server then SERVER_TRAMPOLINE_FRAME else HOME_TRAMPOLINE_FRAME
 
 -- the lowest entries of a view for the first 2 MiB: the base's but for four pages
 unfoldable pub view_entries : View → ℕ → ℕ
 view_entries view page =
-    if page == view.home_root.0 then leaf_to view.target_root.0 1
-    else if page == 1 then leaf_to (trampoline_frame view.server) 4
-    else if page == 2 then leaf_to view.record_page.0 1
-    else if page == 3 then leaf_to view.scratch_page.0 3
+    if page == view.home_root.0 then leaf_to view.target_root.0 RIGHT_READ
+    else if page == 1 then leaf_to (trampoline_frame view.server) RIGHT_EXECUTE
+    else if page == 2 then leaf_to view.record_page.0 RIGHT_READ
+    else if page == 3 then leaf_to view.scratch_page.0 RIGHT_READ_WRITE
     else base_entries page
 
 -- four tables stand in a memory, the lowest with these entries
@@ -78,7 +80,7 @@ pub record HasTables (memory : Physical) (tables : EptTables) (entries : ℕ →
   pub first : IsPage memory tables.first.0 entries
   pub inside : (tables.root.0 < frame_count memory) × (tables.pointers.0 < frame_count memory) × (tables.directory.0 < frame_count memory) × (tables.first.0 < frame_count memory)
 
--- the place of the lowest entry for a page behind the first 2 MiB
+-- the place of the lowest entry for a page after the first 2 MiB
 abbrev pub shared_place : ℕ → ℕ
 shared_place page = entry_in (shared_table (page / 512)) (page % 512)
 

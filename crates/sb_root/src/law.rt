@@ -8,7 +8,7 @@ ghost use Rattle.sb_walks.specs.Entry.{frame_in};
 ghost use Rattle.sb_walks.specs.Ept.{is_eptp};
 ghost use Rattle.sb_frames.specs.declared.kind.Kind.{Kind};
 ghost use Rattle.sb_frames.specs.Book.{Book, with_holder};
-ghost use Rattle.sb_root.specs.declared.eptp_switch.Switch.{Switch};
+ghost use Rattle.sb_root.specs.declared.switch_answer.Switch.{Switch};
 ghost use Rattle.sb_root.specs.declared.root_kernel.RootKernel.{RootKernel};
 ghost use Rattle.sb_root.specs.declared.view.View.{View};
 ghost use Rattle.sb_root.specs.Root.{IsSet, Use, eptp_of_view, is_listed, list_entry, list_of, used_frame, view_of};

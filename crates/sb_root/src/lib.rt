@@ -18,16 +18,14 @@
 mod entry;
 mod eptp_switch;
 mod law;
-mod no_frames;
 mod page;
 mod root_kernel;
+mod switch_answer;
 mod tables;
 mod taking;
 mod view;
-mod vmfunc;
 
-pub use eptp_switch::Switch;
+pub use eptp_switch::switch;
 pub use law::{lists_lead_to_views, roots_keep_apart, views_answer};
-pub use no_frames::NoFrames;
-pub use root_kernel::RootKernel;
-pub use vmfunc::switch;
+pub use root_kernel::{NoFrames, RootKernel};
+pub use switch_answer::Switch;

@@ -5,10 +5,9 @@ ghost use Rattle.sb_memory.specs.Physical.{HasSize, frame_count};
 ghost use Rattle.sb_memory.specs.Changes.{SameOutside};
 ghost use Rattle.sb_root.specs.Tables.{IsPage, from_start};
 
-use crate::entry::entry_place;
 use sb_memory::{Frame, Memory};
 
-/// Puts words at the start of a frame, and zeros behind them.
+/// Puts words at the start of a frame, and zeros after them.
 pub fn put_page(memory: &mut Memory, frame: Frame, words: &[u64])
     requires inside { frame.0 < frame_count memory.old }
     requires fits { length words.now ≤ 512 }
@@ -18,6 +17,6 @@ pub fn put_page(memory: &mut Memory, frame: Frame, words: &[u64])
 {
     memory.clear_frame(frame);
     for index in 0..words.len() {
-        memory.set_word(entry_place(frame, index as u64), words[index]);
+        memory.set_word(frame.word(index as u64), words[index]);
     }
 }

@@ -16,20 +16,31 @@ ghost use Rattle.sb_root.specs.Standing.{IsBooked, IsRootFrame, Stands};
 ghost use Rattle.sb_root.specs.Answers.{Exposes, IsFirstBase, SameViews};
 ghost use Rattle.sb_root.specs.Calls.{IsAddedList, IsAddedView, no_frames};
 
-use crate::entry::{entry_place, leaf};
-use crate::no_frames::NoFrames;
+use crate::entry::leaf;
 use crate::page::put_page;
 use crate::tables::{BASE, REGIONS, region_table};
-use crate::taking::{take, take_view};
-use crate::view::{VIEW_FRAMES, View, base_entries};
+use crate::taking::take_view;
+use crate::view::{View, base_entries};
+use sb_abi::VIEW_FRAMES;
 use sb_frames::{FrameBook, Kind};
 use sb_memory::{Frame, Memory, Phys};
 use sb_tramp::RecordWords;
+use thiserror::Error;
 
 /// How many threads there can be.
 const THREADS: usize = 32;
 /// How many views a thread can have.
 const VIEWS: usize = 16;
+
+/// Fewer frames are free than a call needs.
+#[derive(Clone, Copy, Debug, PartialEq, Eq, Error)]
+#[error("{need} frames are needed, and {have} are free")]
+pub struct NoFrames {
+    /// How many frames the call takes.
+    pub need: u32,
+    /// How many are free.
+    pub have: u32,
+}
 
 /// Which frames hold the lists and views of the threads. It takes no memory.
 ///
@@ -78,10 +89,7 @@ impl RootKernel {
         ensures exposes { Exposes self.old memory.old memory.new frame.0 rights }
     {
         let table = region_table(frame.0 as usize / 512);
-        memory.set_word(
-            entry_place(table, u64::from(frame.0 % 512)),
-            leaf(frame, rights),
-        );
+        memory.set_word(table.word(u64::from(frame.0 % 512)), leaf(frame, rights));
     }
 
     /// Gives a thread a list of 512 zeros. `NoFrames` comes exactly where no frame is free, and then all is as before.
@@ -107,7 +115,8 @@ impl RootKernel {
         if have == 0 {
             return Err(NoFrames { need: 1, have });
         }
-        let frame = take(book, Kind::EptpList, thread);
+        let owner = u32::from(thread);
+        let frame = book.take_free(Kind::EptpList, owner);
         memory.clear_frame(frame);
         self.lists[usize::from(thread)] = Some(frame);
         Ok(())
@@ -233,7 +242,7 @@ impl RootKernel {
         ensures entry { (list : Frame) → list_of self.old thread ≡ Some list → memory.new ≡ with_bytes memory.old (put_word memory.old.bytes (entry_in list.0 index) (entry_of_view view)) }
     {
         let list = self.list_frame(thread);
-        memory.set_word(entry_place(list, u64::from(index)), view.list_entry());
+        memory.set_word(list.word(u64::from(index)), view.list_entry());
         self.views[usize::from(thread)][usize::from(index)] = Some(view);
     }
 }

@@ -1,6 +1,7 @@
 //! The tables of an EPT.
 
 ghost use Rattle.std.specs.Prelude.{ℕ, ◌≡◌, ◌≢◌, ◌+◌, ◌<◌, [], ◌∷◌, length, get_or};
+ghost use Rattle.sb_abi.specs.declared.layout.TheConstants.{FIRST_REGION_TABLE};
 ghost use Rattle.sb_memory.specs.Physical.{HasSize, frame_count};
 ghost use Rattle.sb_memory.specs.Changes.{SameOutside};
 ghost use Rattle.sb_root.specs.Entry.{link_to};
@@ -8,6 +9,7 @@ ghost use Rattle.sb_root.specs.Tables.{IsPage, upper_entries, directory_entries 
 
 use crate::entry::link;
 use crate::page::put_page;
+use sb_abi::FIRST_REGION_TABLE;
 use sb_memory::{Frame, Memory};
 
 /// The tables of an EPT that are its own, by their frames. Levels run from 4, the PML4 table, to 1.
@@ -31,7 +33,7 @@ pub const BASE: EptTables = EptTables {
     root: Frame(5),
     pointers: Frame(6),
     directory: Frame(7),
-    first: Frame(32),
+    first: Frame(FIRST_REGION_TABLE),
 };
 
 /// How many times 2 MiB the largest memory has.
@@ -40,7 +42,7 @@ pub const REGIONS: usize = 16;
 /// The frame of the base's table of level 1 for a region of 2 MiB.
 pub fn region_table(region: usize) -> Frame
     requires { region < 16 }
-    ensures { result.0 ≡ 32 + region }
+    ensures { result.0 ≡ FIRST_REGION_TABLE + region }
 {
     Frame(BASE.first.0 + region as u32)
 }

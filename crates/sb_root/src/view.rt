@@ -8,27 +8,22 @@ ghost use Rattle.sb_root.specs.Tables.{HasTables, IsPage, base_entries as base_p
 ghost use Rattle.sb_root.specs.Root.{AreDifferent, entry_of_view, view_frames};
 ghost use Rattle.sb_root.specs.Calls.{IsZeroed};
 
-use crate::entry::{EXECUTE, READ, READ_WRITE, eptp, leaf};
+use crate::entry::{RIGHT_EXECUTE, RIGHT_READ, RIGHT_READ_WRITE, eptp, leaf};
 use crate::page::put_page;
 use crate::tables::EptTables;
+use sb_abi::{FIRST_ROOT, HOME_TRAMPOLINE_FRAME, LAST_ROOT, SERVER_TRAMPOLINE_FRAME};
 use sb_memory::{Frame, Memory};
 use sb_tramp::RecordWords;
 
-/// How many frames a view takes.
-pub const VIEW_FRAMES: u32 = 6;
 /// How many pages at the start of the guest-physical addresses the base and views map by entries of their own.
 const LOW_PAGES: usize = 32;
 
 /// The guest-physical page of the trampoline. It is also the frame of the home trampoline page.
-const TRAMPOLINE: u32 = 1;
+const TRAMPOLINE_GUEST_PAGE: u32 = 1;
 /// The guest-physical page of the view's record.
-const RECORD: u32 = 2;
+const RECORD_GUEST_PAGE: u32 = 2;
 /// The guest-physical page of the view's scratch page.
-const SCRATCH: u32 = 3;
-/// The frame of the home trampoline page.
-const HOME_TRAMPOLINE: Frame = Frame(1);
-/// The frame of the server trampoline page.
-const SERVER_TRAMPOLINE: Frame = Frame(4);
+const SCRATCH_GUEST_PAGE: u32 = 3;
 
 /// A view of a thread, by its frames and by what it shows.
 #[derive(Clone, Copy, Debug, PartialEq, Eq)]
@@ -95,13 +90,15 @@ impl View {
         ensures { result ≡ view_entries self.now page }
     {
         if page == self.home_root.0 {
-            return leaf(self.target_root, READ);
+            return leaf(self.target_root, RIGHT_READ);
         }
         match page {
-            TRAMPOLINE if self.server => leaf(SERVER_TRAMPOLINE, EXECUTE),
-            TRAMPOLINE => leaf(HOME_TRAMPOLINE, EXECUTE),
-            RECORD => leaf(self.record_page, READ),
-            SCRATCH => leaf(self.scratch_page, READ_WRITE),
+            TRAMPOLINE_GUEST_PAGE if self.server => {
+                leaf(Frame(SERVER_TRAMPOLINE_FRAME), RIGHT_EXECUTE)
+            },
+            TRAMPOLINE_GUEST_PAGE => leaf(Frame(HOME_TRAMPOLINE_FRAME), RIGHT_EXECUTE),
+            RECORD_GUEST_PAGE => leaf(self.record_page, RIGHT_READ),
+            SCRATCH_GUEST_PAGE => leaf(self.scratch_page, RIGHT_READ_WRITE),
             _ => base_entry(page),
         }
     }
@@ -124,8 +121,8 @@ fn base_entry(page: u32) -> u64
     ensures { result ≡ base_page page }
 {
     match page {
-        TRAMPOLINE => leaf(HOME_TRAMPOLINE, EXECUTE),
-        16..=31 => leaf(Frame(page), READ),
+        TRAMPOLINE_GUEST_PAGE => leaf(Frame(HOME_TRAMPOLINE_FRAME), RIGHT_EXECUTE),
+        FIRST_ROOT..=LAST_ROOT => leaf(Frame(page), RIGHT_READ),
         _ => 0,
     }
 }

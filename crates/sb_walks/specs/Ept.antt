@@ -10,7 +10,7 @@ use Rattle.sb_memory.specs.declared.address.Access.TheVariants.{Read, Write, Fet
 use Rattle.sb_memory.specs.declared.address.PhysAddr.{PhysAddr}
 use Rattle.sb_memory.specs.declared.address.EptStop.{EptStop}
 use Rattle.sb_memory.specs.declared.address.EptStop.TheVariants as stop
-use Rattle.sb_walks.specs.declared.entry.TheConstants.{WRITE_BACK}
+use Rattle.sb_walks.specs.declared.entry.TheConstants.{EPTP_FLAGS, WRITE_BACK}
 use Rattle.sb_walks.specs.Entry.{has_bit, has_page_size, frame_in, entry_place, four_levels}
 use Rattle.sb_walks.specs.Reads.{where_ok}
 
@@ -43,7 +43,7 @@ is_large level entry = ((level == 3) || (level == 2)) && has_page_size entry
 
 -- an EPT pointer: memory type 6, a walk of four levels, and an address below 2 ^ 52
 abbrev pub is_eptp : ℕ → Bool
-is_eptp word = (word % 2 ^ 12 == 0x1E) && nat_lt word (2 ^ 52)
+is_eptp word = (word % 2 ^ 12 == EPTP_FLAGS) && nat_lt word (2 ^ 52)
 
 -- what an entry leads to in a memory of so many frames: the next frame, or the first refusal that applies
 unfoldable pub ept_judged : ℕ → Access → ℕ → ℕ → Result ℕ EptStop

@@ -2,6 +2,7 @@
 
 ghost use Rattle.std.specs.Prelude.{◌≡◌, ◌<◌, ◌≤◌, ◌^◌};
 ghost use Rattle.sb_walks.specs.Entry.{entry_place, frame_in, has_bit, index_at};
+ghost use Rattle.sb_walks.specs.Ept.{is_eptp};
 
 use sb_abi::PAGE_SIZE;
 
@@ -13,6 +14,16 @@ pub const WRITE_BACK: u64 = 6;
 
 /// That memory type in bits 5 to 3 of a lowest entry of an EPT.
 pub const LEAF_WRITE_BACK: u64 = WRITE_BACK << 3;
+
+/// Bits 11 to 0 of an EPT pointer: memory type 6 (write-back), a walk of four levels, no accessed and dirty flags.
+pub const EPTP_FLAGS: u64 = 0x1E;
+
+/// Whether a word is an EPT pointer: bits 11 to 0 are `EPTP_FLAGS`, and bits 63 to 52 are 0 (SDM volume 3, section 24.6.11).
+pub fn is_eptp(word: u64) -> bool
+    ensures { result ≡ is_eptp word }
+{
+    word & 0xFFF == EPTP_FLAGS && word >> 52 == 0
+}
 
 /// Whether a bit of an entry is set.
 pub fn has_bit(entry: u64, bit: u32) -> bool

@@ -14,5 +14,7 @@
 mod entry;
 mod stop;
 
-pub use entry::{LEAF_WRITE_BACK, PS, WRITE_BACK, entry_place, frame_number, has_bit, index};
+pub use entry::{
+    EPTP_FLAGS, LEAF_WRITE_BACK, PS, WRITE_BACK, entry_place, frame_number, has_bit, index, is_eptp,
+};
 pub use stop::{NestedStop, TableStop, WalkStop};

@@ -7,4 +7,4 @@ loop-index-init c = put_first _ _ _ c.args.words.now c.clear_frame.ensures.writt
 
 pub loop-index-preserved : goal.loop-index-preserved
 loop-index-preserved c =
-    put_next _ _ _ _ _ _ c.args.words.now c.entry_place.ensures c.set_word.ensures.written c.set_word.ensures.size c.requires.inside c.loop-index.invariant (omega arith) (omega (arith, c.type_inv.words c.loop-index.index))
+    put_next _ _ _ _ _ _ c.args.words.now c.word.ensures c.set_word.ensures.written c.set_word.ensures.size c.requires.inside c.loop-index.invariant (omega arith) (omega (arith, c.type_inv.words c.loop-index.index))
