@@ -1,5 +1,4 @@
 pub mod Accesses
-pub mod Loads
 pub mod TestBus
 pub mod Left
 pub mod Named

@@ -4,8 +4,8 @@ use Rattle.std.proofs.Math.Path.{fun_ext}
 use Rattle.std.specs.Prelude.{if◌then◌else◌}
 use Rattle.sb_memory.specs.declared.address.Access.TheVariants.{Write}
 use Rattle.sb_memory.specs.Outcome.{and_then}
-use Rattle.sb_exec.specs.declared.stop.BusStop.{BusStop}
-use Rattle.sb_exec.specs.Access.{loaded_from, byte_for, byte_for_write}
+use Rattle.sb_bus.specs.declared.stop.BusStop.{BusStop}
+use Rattle.sb_bus.specs.Access.{loaded_from, byte_for, byte_for_write}
 use Rattle.sb_exec.specs.TestBus.{TestMemory, test_byte, data_byte, refused_at}
 
 twice : (answer : Result ℕ BusStop) → and_then answer (λ _. answer) ≡ answer

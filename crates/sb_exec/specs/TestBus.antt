@@ -3,10 +3,10 @@
 use Rattle.std.specs.Prelude.{ℕ, ◌-◌, nat_le, Bool, if◌then◌else◌, List, Option, Some, None, slice_get, Result, Ok, Err}
 use Rattle.sb_memory.specs.declared.address.Access.{Access}
 use Rattle.sb_memory.specs.declared.address.Access.TheVariants.{Read, Write, Fetch}
-use Rattle.sb_exec.specs.declared.stop.BusStop.{BusStop}
-use Rattle.sb_exec.specs.declared.stop.BusStop.TheVariants.{Fault}
-use Rattle.sb_exec.specs.declared.stop.FaultKind.TheVariants.{Memory}
-use Rattle.sb_exec.specs.Interface.{Interface, BusCall}
+use Rattle.sb_bus.specs.declared.stop.BusStop.{BusStop}
+use Rattle.sb_bus.specs.declared.stop.BusStop.TheVariants.{Fault}
+use Rattle.sb_bus.specs.declared.stop.FaultKind.TheVariants.{Memory}
+use Rattle.sb_bus.specs.Interface.{Interface, BusCall}
 
 -- text, data, whether data can be written, and the last store: address, size and number
 pub record TestMemory : Type 0 where

@@ -1,7 +1,7 @@
 //! Instructions fetched from a few bytes and executed over a few more.
 
 ghost use Rattle.std.specs.Prelude.{◌≡◌, ◌≤◌, ◌<◌, ◌^◌, IfOk};
-ghost use Rattle.sb_exec.specs.Access.{byte_for, loaded_from};
+ghost use Rattle.sb_bus.specs.Access.{byte_for, loaded_from};
 ghost use Rattle.sb_exec.specs.TestBus.{test_memory, test_byte};
 
 use crate::{

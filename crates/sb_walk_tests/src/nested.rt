@@ -3,8 +3,8 @@
 ghost use Rattle.std.specs.Prelude.{◌≡◌, ◌==◌, ◌||◌};
 
 use crate::sparse::{Sparse, put, some_memory};
+use sb_bus::{Bus, BusStop, FaultKind};
 use sb_eptwalk::is_eptp;
-use sb_exec::{Bus, BusStop, FaultKind};
 use sb_memory::{Access, EptStop, Frame, Linear, Memory, Phys, PhysAddr};
 use sb_nested::{NestedBus, NestedStop, translate};
 use sb_walks::{TableStop, WalkStop};

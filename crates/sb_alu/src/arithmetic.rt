@@ -1,8 +1,8 @@
 //! Sums, differences, products and logic over numbers of a size.
 
 ghost use Rattle.std.specs.Prelude.{◌≡◌, ◌<◌, ◌+◌, ◌*◌, ◌%◌, nat_le};
-ghost use Rattle.sb_exec.specs.Size.{modulus};
-ghost use Rattle.sb_exec.specs.Arithmetic.{
+ghost use Rattle.sb_alu.specs.Size.{modulus};
+ghost use Rattle.sb_alu.specs.Arithmetic.{
   is_negative as is_negative_of,
   result_flags as result_flags_of,
   sum_of,
@@ -16,7 +16,7 @@ ghost use Rattle.sb_exec.specs.Arithmetic.{
   multiplied as multiplied_of,
 };
 
-use crate::action::Outcome;
+use crate::operation::Outcome;
 use crate::size::Size;
 use sb_insn::Flags;
 
@@ -43,6 +43,7 @@ pub fn result_flags(size: Size, value: u64, carry: bool, overflow: bool) -> Flag
 
 // ---- sums
 
+/// The lowest bits of a sum.
 pub fn sum(size: Size, first: u64, second: u64) -> u64
     requires first { first < modulus size }
     requires second { second < modulus size }
@@ -105,6 +106,7 @@ pub fn added(size: Size, first: u64, second: u64) -> Outcome
 
 // ---- differences
 
+/// The lowest bits of a difference.
 fn difference(size: Size, first: u64, second: u64) -> u64
     requires first { first < modulus size }
     requires second { second < modulus size }
@@ -166,6 +168,7 @@ pub fn logical(size: Size, value: u64) -> Outcome
 
 // ---- products
 
+/// The lowest bits of a product.
 fn product(size: Size, first: u64, second: u64) -> u64
     requires first { first < modulus size }
     requires second { second < modulus size }

@@ -3,7 +3,7 @@ use Rattle.std.specs.Prelude.{ℕ, zero, suc, ◌+◌, ◌*◌, ◌%◌, ◌^◌
 use Rattle.sb_memory.specs.declared.address.Access.{Access}
 use Rattle.sb_memory.specs.declared.address.Access.TheVariants.{Read, Write}
 use Rattle.sb_memory.specs.Outcome.{and_then, done}
-use Rattle.sb_exec.specs.declared.stop.BusStop.{BusStop}
+use Rattle.sb_bus.specs.declared.stop.BusStop.{BusStop}
 
 -- the bytes from an address upwards, modulo 2 ^ 64, or the first stop
 unfoldable pub bytes_from : {A : Type 0} → (ℕ → Result A BusStop) → ℕ → ℕ → Result (List A) BusStop

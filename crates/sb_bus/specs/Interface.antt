@@ -1,7 +1,7 @@
 -- What a memory is to an instruction.
 use Rattle.std.specs.Prelude.{ℕ, Result}
 use Rattle.sb_memory.specs.declared.address.Access.{Access}
-use Rattle.sb_exec.specs.declared.stop.BusStop.{BusStop}
+use Rattle.sb_bus.specs.declared.stop.BusStop.{BusStop}
 
 -- a call of a bus, with its arguments
 pub data BusCall : Type 0 where

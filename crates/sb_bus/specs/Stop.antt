@@ -1,7 +1,7 @@
 -- The kinds of fault by name.
 use Rattle.std.specs.Prelude.{ℕ, List, codes}
-use Rattle.sb_exec.specs.declared.stop.FaultKind.{FaultKind}
-use Rattle.sb_exec.specs.declared.stop.FaultKind.TheVariants.{Canon, Memory, Undefined, Switch}
+use Rattle.sb_bus.specs.declared.stop.FaultKind.{FaultKind}
+use Rattle.sb_bus.specs.declared.stop.FaultKind.TheVariants.{Canon, Memory, Undefined, Switch}
 
 -- as lines and reports name it
 abbrev pub fault_kind_text : FaultKind → List ℕ

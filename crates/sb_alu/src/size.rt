@@ -1,7 +1,7 @@
 //! The sizes of operands.
 
 ghost use Rattle.std.specs.Prelude.{◌≡◌, ◌-◌, ◌<◌};
-ghost use Rattle.sb_exec.specs.Size.{size_bytes, size_bits, modulus, half, low};
+ghost use Rattle.sb_alu.specs.Size.{size_bytes, size_bits, modulus, half, low};
 
 /// One, four or eight bytes.
 #[derive(Clone, Copy, Debug, PartialEq, Eq)]

@@ -10,8 +10,8 @@ use sb_memory::Linear;
 pub trait Bus {
     ghost use Rattle.std.specs.Prelude.{◌≡◌};
     ghost use Rattle.sb_memory.specs.declared.address.Access.TheVariants.{Read, Write, Fetch};
-    ghost use Rattle.sb_exec.specs.Interface.{Interface, FetchByte, LoadBytes, LoadForWrite, StoreBytes};
-    ghost use Rattle.sb_exec.specs.Access.{IsSize, byte_for, byte_for_write, loaded_from, store_answer, where_stored};
+    ghost use Rattle.sb_bus.specs.Interface.{Interface, FetchByte, LoadBytes, LoadForWrite, StoreBytes};
+    ghost use Rattle.sb_bus.specs.Access.{IsSize, byte_for, byte_for_write, loaded_from, store_answer, where_stored};
 
     /// The type of what the calls answer by. It may hold more than that, so that the rule of the account sees it.
     ghost Meaning: { Type 0 };

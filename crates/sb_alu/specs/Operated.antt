@@ -2,13 +2,13 @@
 use Rattle.std.specs.Prelude.{ℕ, ◌-◌, ◌==◌, if◌then◌else◌, Some, None, bit_and, bit_or, bit_xor}
 use Rattle.std.specs.Int.{w64, trailing_zeros}
 use Rattle.sb_insn.specs.declared.registers.Flags.{Flags}
-use Rattle.sb_exec.specs.declared.size.Size.{Size}
-use Rattle.sb_exec.specs.declared.action.Operation.{Operation}
-use Rattle.sb_exec.specs.declared.action.Operation.TheVariants as operation
-use Rattle.sb_exec.specs.declared.action.Outcome.{Outcome}
-use Rattle.sb_exec.specs.Size.{modulus}
-use Rattle.sb_exec.specs.Arithmetic.{added, subtracted, logical, multiplied}
-use Rattle.sb_exec.specs.Shift.{shift_count, shifted_left, shifted_right, shifted_signed, unless_zero}
+use Rattle.sb_alu.specs.declared.size.Size.{Size}
+use Rattle.sb_alu.specs.declared.operation.Operation.{Operation}
+use Rattle.sb_alu.specs.declared.operation.Operation.TheVariants as operation
+use Rattle.sb_alu.specs.declared.operation.Outcome.{Outcome}
+use Rattle.sb_alu.specs.Size.{modulus}
+use Rattle.sb_alu.specs.Arithmetic.{added, subtracted, logical, multiplied}
+use Rattle.sb_alu.specs.Shift.{shift_count, shifted_left, shifted_right, shifted_signed, unless_zero}
 
 -- nothing is written
 abbrev pub without_value : Outcome → Outcome

@@ -2,8 +2,8 @@
 use Rattle.std.proofs.Common.{◌≡◌, ℕ, zero, suc, ◌+◌, ◌*◌, ◌%◌, ◌^◌, ◌<◌, ◌≤◌, List, ◌∷◌, Result, Ok, Err, refl, ap, arith}
 use Rattle.std.proofs.Math.Nat.{pow-le-pow_right, pow-suc}
 use Rattle.sb_memory.specs.Outcome.{and_then, done}
-use Rattle.sb_exec.specs.declared.stop.BusStop.{BusStop}
-use Rattle.sb_exec.specs.Access.{bytes_from, loaded_from, store_answer, number_of}
+use Rattle.sb_bus.specs.declared.stop.BusStop.{BusStop}
+use Rattle.sb_bus.specs.Access.{bytes_from, loaded_from, store_answer, number_of}
 
 pub loaded_none : (byte : ℕ → Result ℕ BusStop) (address size : ℕ) → size ≡ 0 → loaded_from byte address size ≡ Ok 0
 unfolding loaded_from bytes_from

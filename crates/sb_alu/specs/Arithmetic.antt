@@ -4,9 +4,9 @@ use Rattle.std.specs.Prelude.{ℕ, ◌+◌, ◌-◌, ◌*◌, ◌%◌, ◌==◌,
 use lib.Signed.{mag}
 use Rattle.std.specs.Int.{cast_signed}
 use Rattle.sb_insn.specs.declared.registers.Flags.{Flags}
-use Rattle.sb_exec.specs.declared.size.Size.{Size}
-use Rattle.sb_exec.specs.declared.action.Outcome.{Outcome}
-use Rattle.sb_exec.specs.Size.{modulus, half, width}
+use Rattle.sb_alu.specs.declared.size.Size.{Size}
+use Rattle.sb_alu.specs.declared.operation.Outcome.{Outcome}
+use Rattle.sb_alu.specs.Size.{modulus, half, width}
 
 -- ---- flags
 

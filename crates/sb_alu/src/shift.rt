@@ -1,9 +1,8 @@
 //! Shifts of numbers of a size.
 
 ghost use Rattle.std.specs.Prelude.{◌≡◌, ◌<◌, Some};
-ghost use Rattle.sb_exec.specs.Size.{modulus, size_bits};
-ghost use Rattle.sb_exec.specs.Shift.{
-  differ as differ_of,
+ghost use Rattle.sb_alu.specs.Size.{modulus, size_bits};
+ghost use Rattle.sb_alu.specs.Shift.{
   shift_count,
   is_set as is_set_of,
   left as left_of,
@@ -14,16 +13,10 @@ ghost use Rattle.sb_exec.specs.Shift.{
   unless_zero,
 };
 
-use crate::action::Outcome;
 use crate::arithmetic::{is_negative, result_flags};
+use crate::operation::Outcome;
 use crate::size::Size;
 use sb_insn::Flags;
-
-pub fn differ(first: bool, second: bool) -> bool
-    ensures { result ≡ differ_of first second }
-{
-    first != second
-}
 
 /// The count modulo the number of bits.
 fn masked(size: Size, count: u64) -> u32
@@ -63,7 +56,7 @@ fn shifted_left(size: Size, value: u64, count: u32) -> Outcome
 {
     let shifted = left(size, value, count);
     let last = is_set(value, size.bits() - count);
-    let overflow = count == 1 && differ(is_negative(size, shifted), last);
+    let overflow = count == 1 && is_negative(size, shifted) != last;
     Outcome {
         value: Some(shifted),
         flags: result_flags(size, shifted, last, overflow),

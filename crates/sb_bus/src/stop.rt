@@ -19,7 +19,7 @@ pub enum FaultKind {
 
 impl fmt::Display for FaultKind {
     ghost use Rattle.std.specs.Prelude.{Some};
-    ghost use Rattle.sb_exec.specs.Stop.{fault_kind_text};
+    ghost use Rattle.sb_bus.specs.Stop.{fault_kind_text};
 
     ghost output = { λ kind. Some (fault_kind_text kind) };
 

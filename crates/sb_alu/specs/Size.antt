@@ -1,8 +1,8 @@
 -- The sizes of operands.
 use Rattle.std.specs.Prelude.{ℕ, ◌%◌, ◌^◌}
 use Rattle.std.specs.Int.{Width, w8, w32, w64}
-use Rattle.sb_exec.specs.declared.size.Size.{Size}
-use Rattle.sb_exec.specs.declared.size.Size.TheVariants.{Byte, Double, Quad}
+use Rattle.sb_alu.specs.declared.size.Size.{Size}
+use Rattle.sb_alu.specs.declared.size.Size.TheVariants.{Byte, Double, Quad}
 
 -- how many bytes a number of a size has
 abbrev pub size_bytes : Size → ℕ

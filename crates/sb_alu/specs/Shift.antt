@@ -3,10 +3,10 @@ use Rattle.std.specs.Prelude.{ℕ, ◌-◌, ◌*◌, ◌/◌, ◌%◌, ◌^◌, 
 use Rattle.std.specs.Bool.{beq}
 use Rattle.std.specs.Int.{cast_unsigned, int_shr}
 use Rattle.sb_insn.specs.declared.registers.Flags.{Flags}
-use Rattle.sb_exec.specs.declared.size.Size.{Size}
-use Rattle.sb_exec.specs.declared.action.Outcome.{Outcome}
-use Rattle.sb_exec.specs.Size.{size_bits, modulus, width}
-use Rattle.sb_exec.specs.Arithmetic.{is_negative, signed, result_flags}
+use Rattle.sb_alu.specs.declared.size.Size.{Size}
+use Rattle.sb_alu.specs.declared.operation.Outcome.{Outcome}
+use Rattle.sb_alu.specs.Size.{size_bits, modulus, width}
+use Rattle.sb_alu.specs.Arithmetic.{is_negative, signed, result_flags}
 
 -- whether two tests differ
 abbrev pub differ : Bool → Bool → Bool

@@ -1,16 +1,16 @@
 //! What each operation gives.
 
 ghost use Rattle.std.specs.Prelude.{◌≡◌, ◌<◌};
-ghost use Rattle.sb_exec.specs.Size.{modulus};
-ghost use Rattle.sb_exec.specs.Operated.{
+ghost use Rattle.sb_alu.specs.Size.{modulus};
+ghost use Rattle.sb_alu.specs.Operated.{
   without_value as without_value_of,
   keeping_carry as keeping_carry_of,
   scanned as scanned_of,
   operated,
 };
 
-use crate::action::{Operation, Outcome};
 use crate::arithmetic::{added, logical, multiplied, subtracted};
+use crate::operation::{Operation, Outcome};
 use crate::shift::{left_by, right_by, signed_right_by};
 use crate::size::Size;
 use sb_insn::Flags;
