@@ -28,7 +28,8 @@ fn permits(access: Access, entry: u64) -> bool
 fn is_misconfigured(level: u8, entry: u64) -> bool
     ensures { result ≡ misconfigured_entry level entry }
 {
-    has_bit(entry, WRITABLE) && !has_bit(entry, READABLE) || level == 1 && (entry >> 3) & 7 != WRITE_BACK
+    has_bit(entry, WRITABLE) && !has_bit(entry, READABLE)
+        || level == 1 && (entry >> 3) & 7 != WRITE_BACK
 }
 
 /// Whether an entry maps a large page.

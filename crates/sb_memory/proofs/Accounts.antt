@@ -15,7 +15,7 @@ after_words_append rule memory (place ∷ first) more account =
 pub after_reads_words : {Account : Type 0} (rule : PhysCall → Physical → Account → Account) (memory : Physical)
     (places : List ℕ) (calls : List PhysCall) (account : Account)
     → after_reads rule memory (word_calls places ++ calls) account
-        ≡ after_reads rule memory calls (after_words rule memory places account)
+    ≡ after_reads rule memory calls (after_words rule memory places account)
 after_reads_words rule memory [] calls account = refl
 after_reads_words rule memory (place ∷ places) calls account =
     after_reads_words rule memory places calls (rule (ReadWord place) memory account)

@@ -46,7 +46,7 @@ little_from_same left right i j (suc count) same =
     let left_here : i + 0 ≡ i = omega arith in
     let right_here : j + 0 ≡ j = omega arith in
     let byte : get_or left i 0 ≡ get_or right j 0 = ap (λ n. get_or left n 0) (sym left_here) ∙ here
-        ∙ ap (λ n. get_or right n 0) right_here in
+    ∙ ap (λ n. get_or right n 0) right_here in
     rw (byte, rest) refl
 
 -- ---- a word
@@ -151,11 +151,11 @@ pub length_clear_frame : (bytes : List ℕ) (frame : ℕ) → length (clear_fram
 unfolding clear_frame put_bytes
 length_clear_frame bytes frame = length-sets bytes (4096 * frame) (zeros 4096)
 
-length_zeros : (count : ℕ) → length (zeros count) ≡ count
+pub length_zeros : (count : ℕ) → length (zeros count) ≡ count
 unfolding zeros
 length_zeros count = length-replicate count 0
 
-zero_in_zeros : (count k : ℕ) → get_or (zeros count) k 0 ≡ 0
+pub zero_in_zeros : (count k : ℕ) → get_or (zeros count) k 0 ≡ 0
 unfolding zeros
 zero_in_zeros zero k = refl
 zero_in_zeros (suc count) zero = refl
@@ -183,7 +183,7 @@ byte_of_cleared bytes frame place fits same =
     let size = length_zeros 4096 in
     let there : place ≡ 4096 * frame + place % 4096 = omega arith in
     rw there (get_or-sets_same (zeros 4096) bytes (4096 * frame) (place % 4096) (omega arith) (omega arith)
-        ∙ zero_in_zeros 4096 (place % 4096))
+    ∙ zero_in_zeros 4096 (place % 4096))
 
 -- a word of another frame stays
 pub word_beside_frame : (bytes : List ℕ) (frame place : ℕ) → place % 8 ≡ 0 → place / 4096 ≢ frame
@@ -192,7 +192,7 @@ unfolding word_at
 word_beside_frame bytes frame place aligned different =
     little_from_same (clear_frame bytes frame) bytes place place 8
     (λ k below. byte_beside_frame bytes frame (place + k)
-        (let e : (place + k) / 4096 ≡ place / 4096 = omega arith in rw e different))
+    (let e : (place + k) / 4096 ≡ place / 4096 = omega arith in rw e different))
 
 -- bytes of zero make the word 0
 zero_word : (bytes : List ℕ) (i count : ℕ) → ((k : ℕ) → k < count → get_or bytes (i + k) 0 ≡ 0) → little_from i count bytes ≡ 0

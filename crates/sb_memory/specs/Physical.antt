@@ -1,5 +1,5 @@
 -- Physical memory: its bytes, and which frames are there. A frame is 4,096 bytes.
-use Rattle.std.specs.Prelude.{ℕ, ◌≡◌, ◌*◌, ◌/◌, ◌%◌, ◌^◌, ◌<◌, Bool, true, false, List, length, replicate, get_or}
+use Rattle.std.specs.Prelude.{ℕ, ◌≡◌, ◌+◌, ◌*◌, ◌/◌, ◌%◌, ◌^◌, ◌<◌, Bool, true, false, List, length, replicate, get_or}
 use Rattle.sb_abi.specs.declared.space.TheConstants.{PAGE_SIZE}
 
 -- the bytes of all frames, one after another, and for each frame whether it is there
@@ -31,6 +31,11 @@ IsPlace memory place = place < PAGE_SIZE * frame_count memory
 pub record IsWordPlace (memory : Physical) (place : ℕ) : Type 0 where
   pub inside : IsPlace memory place
   pub aligned : place % 8 ≡ 0
+
+-- the bytes of a frame are those of a page
+abbrev pub HoldsBytes : Physical → ℕ → List ℕ → Type 0
+HoldsBytes memory frame page =
+    (offset : ℕ) → offset < PAGE_SIZE → get_or memory.bytes (PAGE_SIZE * frame + offset) 0 ≡ get_or page offset 0
 
 -- there are few frames, and each has its bytes
 pub record HasSize (memory : Physical) : Type 0 where

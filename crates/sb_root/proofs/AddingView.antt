@@ -1,24 +1,24 @@
 -- A thread gets a view in frames that were free.
-use Rattle.std.proofs.Common.{◌≡◌, ◌≢◌, ℕ, ◌+◌, ◌%◌, ◌^◌, ◌<◌, ◌≤◌, ◌⊎◌, inl, inr, Bool, true, false, length, get_or, refl, sym, ap, ◌∙◌, subst, arith}
+use Rattle.std.proofs.Common.{◌≡◌, ◌≢◌, ℕ, ◌+◌, ◌^◌, ◌<◌, ◌≤◌, ◌⊎◌, inl, inr, Bool, true, false, List, length, get_or, refl, sym, ap, ◌∙◌, subst, arith}
 use Rattle.std.specs.Prelude.{Option, None, Some, if◌then◌else◌}
 use Rattle.std.specs.List.{Contains}
-use Rattle.std.proofs.lemmas.Bool.{cases_lt}
 use Rattle.std.proofs.lemmas.List.Elements.{Contains-get_or}
-use Rattle.sb_memory.specs.Physical.{Physical, frame_of, frame_count}
+use Rattle.sb_memory.specs.Physical.{Physical, HoldsBytes, frame_count}
 use Rattle.sb_memory.specs.Reading.{with_bytes}
 use Rattle.sb_memory.specs.Words.{put_word}
 use Rattle.sb_memory.specs.Changes.{SameOutside}
 use Rattle.sb_memory.proofs.Words.{length_put_word, byte_beside_word}
 use Rattle.sb_memory.proofs.Changes.{beside_word}
+use Rattle.sb_memory.proofs.Pages.{holds_beside_word}
 use Rattle.sb_memory.specs.declared.address.Frame.{Frame}
 use Rattle.sb_walks.specs.Entry.{entry_in}
 use Rattle.sb_frames.specs.Book.{Book, holder, free_count}
 use Rattle.sb_tramp.specs.declared.record_words.RecordWords.{RecordWords}
-use Rattle.sb_tramp.specs.Record.{words_of}
+use Rattle.sb_tramp.specs.Record.{words_of, record_bytes}
 use Rattle.sb_root.specs.declared.root_kernel.RootKernel.{RootKernel}
 use Rattle.sb_root.specs.declared.view.View.{View}
 use Rattle.sb_root.specs.Tables.{IsPage, HasTables, from_start, view_entries}
-use Rattle.sb_root.specs.Root.{Use, IsSet, IsLowestFree, AreDifferent, is_listed, list_of, view_of, list_entry, entry_of_index, entry_of_view, eptp_of_view, with_view, view_frames, used_frame, part_kind, kind_for, owner_for}
+use Rattle.sb_root.specs.Root.{Use, IsSet, IsLowestFree, AreDifferent, list_of, view_of, list_entry, entry_of_index, entry_of_view, eptp_of_view, with_view, view_frames, used_frame, part_kind, kind_for, owner_for}
 use Rattle.sb_root.specs.Standing.{HasView, IsRootFrame, Stands, IsBooked, IsApart}
 use Rattle.sb_root.specs.Answers.{SameAnswers, SameViews, IsViewOf}
 use Rattle.sb_root.specs.Calls.{IsFree, IsAddedView, IsZeroed, SameBeside, with_parts}
@@ -205,6 +205,14 @@ module _ (root : RootKernel) (book : Book) (old mid : Physical) (thread index : 
       page_stays mid new view.record_page.0 entries
       (part_stays more mid thread index list (entry_of_view view) but index_small word_fits word_is thread index 4 view.record_page.0 (used_part more thread index 4 view kept_here (omega arith))) page
 
+  pub bytes_stay : (page : List ℕ) → HoldsBytes mid view.record_page.0 page → HoldsBytes new view.record_page.0 page
+  bytes_stay page holds =
+      let differs = part_differs more mid thread index list (entry_of_view view) but index_small word_fits word_is
+      thread index 4 view.record_page.0 (used_part more thread index 4 view kept_here (omega arith)) in
+      let few = index_small in
+      holds_beside_word mid page view.record_page.0 (entry_in list.0 index) (entry_of_view view) (omega arith)
+      (λ same. differs (same ∙ omega arith)) holds
+
   pub scratch : IsZeroed mid view.scratch_page.0 → IsZeroed new view.scratch_page.0
   scratch zeros place within =
       let differs = part_differs more mid thread index list (entry_of_view view) but index_small word_fits word_is thread index 5 view.scratch_page.0 (used_part more thread index 5 view kept_here (omega arith)) in
@@ -234,11 +242,12 @@ pub record ViewAdded (root root' : RootKernel) (book book' : Book) (old new : Ph
 pub view_added : (root root' : RootKernel) (book book' : Book) (old mid new : Physical) (thread index : ℕ) (home target : Frame) (words : RecordWords) (server : Bool) (view : View)
     → (list : (list : Frame) × (list_of root thread ≡ Some list)) → Adding root book old mid thread index list.0 view
     → view.home_root ≡ home → view.target_root ≡ target → view.server ≡ server → view.listed ≡ true
-    → IsPage mid view.record_page.0 (from_start (words_of words)) → IsZeroed mid view.scratch_page.0 → free_count book' + 6 ≡ free_count book
+    → IsPage mid view.record_page.0 (from_start (words_of words)) → HoldsBytes mid view.record_page.0 (record_bytes words)
+    → IsZeroed mid view.scratch_page.0 → free_count book' + 6 ≡ free_count book
     → book' ≡ with_parts book thread 0 (view_frames view) → root' ≡ with_view root thread index view
     → ((list : Frame) → list_of root thread ≡ Some list → new ≡ with_bytes mid (put_word mid.bytes (entry_in list.0 index) (entry_of_view view)))
     → ViewAdded root root' book book' old new thread home target words server index view
-view_added root root' book book' old mid new thread index home target words server view list adding is_home is_target is_server listed page zeros count taken kept written =
+view_added root root' book book' old mid new thread index home target words server view list adding is_home is_target is_server listed page held zeros count taken kept written =
     let written_here = written list.0 list.1 in
     rw (kept, written_here) (record {
       added = record {
@@ -250,6 +259,7 @@ view_added root root' book book' old mid new thread index home target words serv
         kept = refl;
         answers = answers root book old mid thread index list.0 view adding;
         record_page = record_page root book old mid thread index list.0 view adding (from_start (words_of words)) page;
+        record_page_bytes = bytes_stay root book old mid thread index list.0 view adding (record_bytes words) held;
         scratch = scratch root book old mid thread index list.0 view adding zeros;
         same = λ other is. subst (λ (frame : Frame). SameBeside (view_frames view) (entry_in frame.0 index) old (with_bytes mid (put_word mid.bytes (entry_in list.0.0 index) (entry_of_view view))))
             (some_frame list.0 other (sym list.1 ∙ is)) (same_beside root book old mid thread index list.0 view adding);

@@ -1,12 +1,13 @@
 -- A frame is cleared and filled with words, one after another.
-use Rattle.std.proofs.Common.{◌≡◌, ℕ, ◌+◌, ◌^◌, ◌<◌, ◌≤◌, ◌==◌, Bool, true, false, nat_lt, List, [], ◌∷◌, length, get_or, get_or-set_other, get_or-set_same, refl, sym, ap, ◌∙◌, subst, inl, inr, arith}
+use Rattle.std.proofs.Common.{◌≡◌, ℕ, ◌+◌, ◌*◌, ◌^◌, ◌<◌, ◌≤◌, ◌==◌, Bool, true, false, nat_lt, List, [], ◌∷◌, suc, length, take, get_or, get_or-set_other, get_or-set_same, refl, sym, ap, ◌∙◌, subst, inl, inr, arith}
 use Rattle.std.specs.Prelude.{if◌then◌else◌, slice_set}
 use Rattle.std.proofs.lemmas.Bool.{cases_lt, eqb-true, eqb-false}
 use Rattle.std.proofs.lemmas.Grind.{common_steps}
-use Rattle.sb_memory.specs.Physical.{Physical, HasSize, frame_of, frame_count}
+use Rattle.sb_memory.specs.Physical.{Physical, HasSize, HoldsBytes, frame_of, frame_count}
 use Rattle.sb_memory.specs.Reading.{with_bytes}
-use Rattle.sb_memory.specs.Words.{word_at, put_word, clear_frame}
-use Rattle.sb_memory.proofs.Words.{length_clear_frame, word_of_cleared, word_read_back, word_elsewhere}
+use Rattle.sb_memory.specs.Words.{word_at, put_word, words_put, clear_frame, zeros}
+use Rattle.sb_memory.proofs.Words.{word_of_cleared, word_read_back, word_elsewhere, length_zeros}
+use Rattle.sb_memory.proofs.Pages.{length_words_put, words_put_next, cleared_holds, word_holds}
 use Rattle.std.specs.List.{Contains}
 use Rattle.std.proofs.lemmas.List.Elements.{Contains-get_or}
 use Rattle.sb_memory.specs.Changes.{SameOutside}
@@ -69,6 +70,42 @@ put_next old memory new frame count place words here is size inside filled small
     let there : frame_of (entry_in frame count) ≡ frame = omega arith in
     let same = same_outside_then (frame ∷ []) old memory _ filled.2 (same_outside_word (frame ∷ []) memory (entry_in frame count) (get_or words count 0) (omega arith) (subst (Contains (frame ∷ [])) (sym there) (Contains-get_or (frame ∷ []) 0 0 (omega arith)))) in
     (subst (λ (m : Physical). IsPage m frame (first_words (count + 1) words)) (sym written) page, size, subst (SameOutside (frame ∷ []) old) (sym written) same)
+
+-- ---- the bytes of the page
+
+-- zeros with the words before an index put at their start
+abbrev pub first_bytes : ℕ → List ℕ → List ℕ
+first_bytes count words = words_put (zeros 4096) 0 (take count words)
+
+-- the same memory and the same page
+holds_same : (memory new : Physical) (frame : ℕ) (page other : List ℕ) → new ≡ memory → other ≡ page
+    → HoldsBytes memory frame page → HoldsBytes new frame other
+holds_same memory new frame page other is same holds =
+    subst (λ (m : Physical). HoldsBytes m frame other) (sym is) (subst (HoldsBytes memory frame) (sym same) holds)
+
+pub bytes_first : (old new : Physical) (frame : ℕ) (words : List ℕ) → new ≡ with_bytes old (clear_frame old.bytes frame) → HasSize new
+    → frame < frame_count old → HoldsBytes new frame (first_bytes 0 words)
+bytes_first old new frame words is size inside =
+    holds_same _ new frame (zeros 4096) (first_bytes 0 words) is refl
+    (cleared_holds old frame (size_before_clear old new frame is size) inside)
+
+pub bytes_next : (memory new : Physical) (frame count place : ℕ) (words : List ℕ) → place ≡ entry_in frame count
+    → new ≡ with_bytes memory (put_word memory.bytes place (get_or words count 0)) → HasSize memory → frame < frame_count memory
+    → count < length words → count < 512 → HoldsBytes memory frame (first_bytes count words)
+    → HoldsBytes new frame (first_bytes (count + 1) words)
+bytes_next memory new frame count place words here is size inside within small holds =
+    let word = get_or words count 0 in
+    let page = first_bytes count words in
+    let written : new ≡ with_bytes memory (put_word memory.bytes (4096 * frame + 8 * count) word) =
+    is ∙ ap (λ (at : ℕ). with_bytes memory (put_word memory.bytes at word)) here in
+    let one_more : count + 1 ≡ suc count = omega arith in
+    let start : 0 + 8 * count ≡ 8 * count = omega arith in
+    let next : first_bytes (count + 1) words ≡ put_word page (8 * count) word =
+    ap (λ (n : ℕ). first_bytes n words) one_more
+    ∙ (words_put_next words (zeros 4096) 0 count within ∙ ap (λ (at : ℕ). put_word page at word) start) in
+    let length_page : length page ≡ 4096 = length_words_put (take count words) (zeros 4096) 0 ∙ length_zeros 4096 in
+    holds_same _ new frame _ (first_bytes (count + 1) words) written next
+    (word_holds memory page frame (8 * count) word size inside (omega arith) length_page holds)
 
 -- ---- a list that is made entry by entry
 

@@ -1,11 +1,8 @@
 -- Frames that are taken one after another.
-use Rattle.std.proofs.Common.{◌≡◌, ◌≢◌, ℕ, zero, suc, ◌+◌, ◌-◌, ◌<◌, ◌≤◌, List, [], ◌∷◌, length, length-set, get_or, get_or-set_other, get_or-set_same, refl, sym, ap, ◌∙◌, add-zero, subst, inl, inr, arith}
-use Rattle.std.specs.Prelude.{Option, None, Some, slice_set, count_by, is_none, if◌then◌else◌}
-use Rattle.std.proofs.lemmas.List.Sums.{sum_by-set}
+use Rattle.std.proofs.Common.{◌≡◌, ◌≢◌, ℕ, zero, suc, ◌+◌, ◌<◌, ◌≤◌, List, [], ◌∷◌, length, get_or, refl, sym, ap, ◌∙◌, subst, arith}
+use Rattle.std.specs.Prelude.{Some}
 use Rattle.std.specs.List.{Contains}
-use Rattle.std.proofs.lemmas.Bool.{cases_lt}
-use Rattle.sb_frames.specs.declared.kind.Kind.{Kind}
-use Rattle.sb_frames.specs.Book.{Book, IsInBook, IsLowestFree, holder, with_holder, free_count}
+use Rattle.sb_frames.specs.Book.{Book, IsInBook, holder, with_holder, free_count}
 use Rattle.sb_frames.proofs.Taking.{Takes, holder_other, holder_same, length_with_holder, takes_fewer, takes_rise}
 use Rattle.sb_root.specs.Root.{AreDifferent, part_kind}
 use Rattle.sb_root.specs.Calls.{IsFree, with_parts}

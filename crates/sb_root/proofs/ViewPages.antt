@@ -2,14 +2,15 @@
 use Rattle.std.proofs.Common.{◌≡◌, ℕ, zero, suc, ◌<◌, List, [], ◌∷◌, get_or, sym, ◌∙◌, subst, arith}
 use Rattle.std.specs.List.{Contains}
 use Rattle.std.proofs.lemmas.List.Elements.{Contains-get_or}
-use Rattle.sb_memory.specs.Physical.{Physical, HasSize, frame_count}
+use Rattle.sb_memory.specs.Physical.{Physical, HasSize, HoldsBytes, frame_count}
 use Rattle.sb_memory.specs.Reading.{with_bytes}
-use Rattle.sb_memory.specs.Words.{clear_frame}
+use Rattle.sb_memory.specs.Words.{clear_frame, words_put, zeros}
 use Rattle.sb_memory.specs.Changes.{SameOutside}
 use Rattle.sb_memory.proofs.Changes.{same_outside_then, same_outside_cleared}
 use Rattle.sb_memory.proofs.Words.{byte_of_cleared}
+use Rattle.sb_memory.proofs.Pages.{holds_outside}
 use Rattle.sb_tramp.specs.declared.record_words.RecordWords.{RecordWords}
-use Rattle.sb_tramp.specs.Record.{words_of}
+use Rattle.sb_tramp.specs.Record.{words_of, record_bytes}
 use Rattle.sb_root.specs.declared.view.View.{View}
 use Rattle.sb_root.specs.Tables.{IsPage, HasTables, from_start, upper_entries, directory_entries, view_entries}
 use Rattle.sb_root.specs.Root.{AreDifferent, view_frames}
@@ -73,3 +74,16 @@ view_written view words old upper lowest full new entries written inside differe
           (same_outside_then frames lowest full new (same_within_one _ frames lowest full (Contains-get_or frames 4 0 (omega arith)) same_record)
           (same_within_one _ frames full new (Contains-get_or frames 5 0 (omega arith)) same_scratch)));
     }
+
+-- the bytes of the record page
+pub bytes_written : (view : View) (words : RecordWords) (full new : Physical) (written : List ℕ) → AreDifferent (view_frames view)
+    → written ≡ words_of words → HoldsBytes full view.record_page.0 (words_put (zeros 4096) 0 written)
+    → new ≡ with_bytes full (clear_frame full.bytes view.scratch_page.0) → HoldsBytes new view.record_page.0 (record_bytes words)
+unfolding record_bytes
+bytes_written view words full new written different is_words holds is =
+    let scratch = view.scratch_page.0 in
+    let same : SameOutside (scratch ∷ []) full new =
+    subst (SameOutside (scratch ∷ []) full) (sym is) (same_outside_cleared (scratch ∷ []) full scratch (Contains-get_or (scratch ∷ []) 0 0 (omega arith))) in
+    holds_outside (scratch ∷ []) full new view.record_page.0 (words_put (zeros 4096) 0 (words_of words)) same
+    (not_one _ _ (different 4 5 (omega arith) (omega arith) (omega arith)))
+    (subst (λ (list : List ℕ). HoldsBytes full view.record_page.0 (words_put (zeros 4096) 0 list)) is_words holds)

@@ -1,14 +1,14 @@
 -- What calls of a root kernel take and change.
 use Rattle.std.specs.Prelude.{ℕ, ◌≡◌, ◌+◌, ◌<◌, ◌≤◌, ◌⊎◌, Bool, true, None, Some, List, [], ◌∷◌, length, get_or}
 use Rattle.std.specs.List.{Contains}
-use Rattle.sb_memory.specs.Physical.{Physical, frame_of}
+use Rattle.sb_memory.specs.Physical.{Physical, HoldsBytes, frame_of}
 use Rattle.sb_memory.specs.Changes.{SameOutside}
 use Rattle.sb_memory.specs.declared.address.Frame.{Frame}
 use Rattle.sb_walks.specs.Entry.{entry_in}
 use Rattle.sb_frames.specs.Book.{Book, IsInBook, holder, with_holder, free_count}
 use Rattle.sb_frames.specs.declared.kind.Kind.TheVariants.{EptpList}
 use Rattle.sb_tramp.specs.declared.record_words.RecordWords.{RecordWords}
-use Rattle.sb_tramp.specs.Record.{words_of}
+use Rattle.sb_tramp.specs.Record.{words_of, record_bytes}
 use Rattle.sb_root.specs.declared.root_kernel.NoFrames.{NoFrames}
 use Rattle.sb_root.specs.declared.root_kernel.RootKernel.{RootKernel}
 use Rattle.sb_root.specs.declared.view.View.{View}
@@ -58,5 +58,6 @@ pub record IsAddedView (root root' : RootKernel) (book book' : Book) (old new : 
   pub kept : root' ≡ with_view root thread index view
   pub answers : IsViewOf new view (eptp_of_view view)
   pub record_page : IsPage new view.record_page.0 (from_start (words_of words))
+  pub record_page_bytes : HoldsBytes new view.record_page.0 (record_bytes words)
   pub scratch : IsZeroed new view.scratch_page.0
   pub same : (list : Frame) → list_of root thread ≡ Some list → SameBeside (view_frames view) (entry_in list.0 index) old new

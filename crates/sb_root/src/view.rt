@@ -1,9 +1,9 @@
 //! Views: EPTs that equal the base but for four pages.
 
 ghost use Rattle.std.specs.Prelude.{ℕ, ◌≡◌, ◌≢◌, ◌<◌, ◌≤◌, length, get_or};
-ghost use Rattle.sb_memory.specs.Physical.{HasSize, frame_count};
+ghost use Rattle.sb_memory.specs.Physical.{HasSize, HoldsBytes, frame_count};
 ghost use Rattle.sb_memory.specs.Changes.{SameOutside};
-ghost use Rattle.sb_tramp.specs.Record.{words_of};
+ghost use Rattle.sb_tramp.specs.Record.{record_bytes, words_of};
 ghost use Rattle.sb_root.specs.Tables.{HasTables, IsPage, base_entries as base_page, from_start, view_entries};
 ghost use Rattle.sb_root.specs.Root.{AreDifferent, entry_of_view, view_frames};
 ghost use Rattle.sb_root.specs.Calls.{IsZeroed};
@@ -62,6 +62,7 @@ impl View {
         requires home { self.now.home_root.0 < 32 }
         ensures tables { HasTables memory.new self.now.tables (view_entries self.now) }
         ensures words { IsPage memory.new self.now.record_page.0 (from_start (words_of words.now)) }
+        ensures record_bytes { HoldsBytes memory.new self.now.record_page.0 (record_bytes words.now) }
         ensures scratch { IsZeroed memory.new self.now.scratch_page.0 }
         ensures size { HasSize memory.new }
         ensures same { SameOutside (view_frames self.now) memory.old memory.new }

@@ -18,6 +18,7 @@ mod keys;
 mod landing;
 mod pages;
 mod record_words;
+
 pub use keys::KeyWords;
 pub use landing::{LandingRow, landing_row};
 pub use pages::{put_home, put_server, rows_stand};

@@ -76,15 +76,15 @@ pub ept_walked-read : (memory : Physical) (eptp at : ℕ) (place : PhysAddr) →
 unfolding ept_walked
 ept_walked-read memory eptp at place e =
     below_test (nat_le (2 ^ 48) at) _ _ _ _ place (λ h. h)
-        (and_then_ok _ _ _ _ place (λ frame. ept_levels-read memory at frame four_levels (frame_in eptp)) (λ frame h. h)) e
+    (and_then_ok _ _ _ _ place (λ frame. ept_levels-read memory at frame four_levels (frame_in eptp)) (λ frame h. h)) e
 
 pub walked-read : (entries : ℕ → Result ℕ TableStop) (cr3 at : ℕ) (place : GuestPhys)
     → walked entries cr3 at Write ≡ Ok place → walked entries cr3 at Read ≡ Ok place
 unfolding walked
 walked-read entries cr3 at place e =
     below_test (is_canonical at) _ _ _ _ place
-        (and_then_ok _ _ _ _ place (λ frame. walk_levels-read entries at frame four_levels (frame_in cr3)) (λ frame h. h))
-        (λ h. h) e
+    (and_then_ok _ _ _ _ place (λ frame. walk_levels-read entries at frame four_levels (frame_in cr3)) (λ frame h. h))
+    (λ h. h) e
 
 answered : (r s : Result PhysAddr EptStop) (place : PhysAddr) → ((p : PhysAddr) → r ≡ Ok p → s ≡ Ok p)
     → page_answer r ≡ Ok place → page_answer s ≡ Ok place

@@ -46,7 +46,7 @@ abbrev pub level_reads : (ℕ → Result ℕ TableStop) → ℕ → Access → L
 level_reads entries linear access [] frame = []
 level_reads entries linear access (level ∷ levels) frame =
     entry_place frame level linear ∷ where_ok (walk_step entries linear access level frame)
-        (level_reads entries linear access levels)
+    (level_reads entries linear access levels)
 
 -- the address in a frame that stands where a linear address stands in its page
 abbrev pub address_in : ℕ → ℕ → GuestPhys

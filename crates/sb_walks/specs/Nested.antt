@@ -44,7 +44,7 @@ guest_entry memory at = entry_behind memory.physical (ept_walked memory.physical
 unfoldable pub guest_entry_reads : Mapped → ℕ → List ℕ
 guest_entry_reads memory at =
     ept_walk_reads memory.physical memory.eptp at Read
-        ++ where_ok (ept_walked memory.physical memory.eptp at Read) (λ place. place.0 ∷ [])
+    ++ where_ok (ept_walked memory.physical memory.eptp at Read) (λ place. place.0 ∷ [])
 
 -- the account after the entry at a guest-physical place is read
 unfoldable pub entry_rule : {Account : Type 0} → (PhysCall → Physical → Account → Account) → Mapped → ℕ → Account → Account

@@ -38,7 +38,7 @@ adding c =
 done : (c : goal.After-put_view) → ViewAdded c.args.self.now c.put_view.new.self c.args.book.now c.take_view-view.new.book c.args.memory.now c.put_view.new.memory c.args.thread c.args.home_root c.args.target_root c.args.words.now c.args.server c.free_index-index.result c.take_view-view.result
 done c =
     let taken = c.take_view-view.ensures in
-    view_added _ _ _ _ _ _ _ _ _ _ _ _ _ _ (list c) (adding c) taken.home taken.target taken.server taken.listed c.put.ensures.words c.put.ensures.scratch taken.count taken.taken c.put_view.ensures.root c.put_view.ensures.entry
+    view_added _ _ _ _ _ _ _ _ _ _ _ _ _ _ (list c) (adding c) taken.home taken.target taken.server taken.listed c.put.ensures.words c.put.ensures.record_bytes c.put.ensures.scratch taken.count taken.taken c.put_view.ensures.root c.put_view.ensures.entry
 
 pub returns-clause-added : goal.returns-clause-added
 returns-clause-added c = (c.take_view-view.result, (done c).added)
