@@ -17,4 +17,3 @@ pub mod Rows
 pub mod Steps
 pub mod Fetching
 pub mod Simulation
-pub mod TestBus

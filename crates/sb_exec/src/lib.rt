@@ -41,5 +41,3 @@ pub use sb_alu::{Operation, Outcome, Size};
 pub use sb_bus::{Bus, BusStop, FaultKind};
 pub use step::execute;
 
-#[cfg(test)]
-mod tests;

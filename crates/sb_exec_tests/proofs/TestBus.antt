@@ -6,7 +6,7 @@ use Rattle.sb_memory.specs.declared.address.Access.TheVariants.{Write}
 use Rattle.sb_memory.specs.Outcome.{and_then}
 use Rattle.sb_bus.specs.declared.stop.BusStop.{BusStop}
 use Rattle.sb_bus.specs.Access.{loaded_from, byte_for, byte_for_write}
-use Rattle.sb_exec.specs.TestBus.{TestMemory, test_byte, data_byte, refused_at}
+use Rattle.sb_exec_tests.specs.TestBus.{TestMemory, test_byte, data_byte, refused_at}
 
 twice : (answer : Result ℕ BusStop) → and_then answer (λ _. answer) ≡ answer
 twice (Ok byte) = refl
