@@ -1,9 +1,9 @@
 -- The test on bytes is whether the pattern stands at some place.
 use Rattle.std.proofs.Common.{◌≡◌, ℕ, zero, suc, ◌+◌, true, false, List, [], ◌∷◌, Option, Some, None, get_or, refl, sym, ap, ◌∙◌, arith, inl, inr}
 use Rattle.std.specs.Prelude.{is_some, ◌&&◌, ◌==◌}
-use Rattle.std.proofs.lemmas.Bool.{and_parts, or_cases, or_left, or_right, eqb-true, eq-eqb, false_from_ne_true, false≢true, both_ways}
+use Rattle.std.proofs.lemmas.Bool.{and_parts, and_right, or_cases, or_from, or_left, or_right, eqb-true, eq-eqb, false_from_ne_true, false≢true, both_ways}
 use Rattle.sb_scan.specs.Pattern.{pattern, HasPatternAt, HasNoPattern, IsFirstPattern}
-use Rattle.sb_forms.specs.Holding.{begins_with, holds_pattern}
+use Rattle.sb_scan.specs.Holding.{begins_with, holds_pattern}
 
 begins_at : (bytes : List ℕ) → begins_with pattern bytes ≡ true → HasPatternAt bytes 0
 begins_at [] e = absurd cc
@@ -59,3 +59,8 @@ none_held bytes none = false_from_ne_true (holds_pattern bytes) (λ e. none (hol
 pub found_holds : (bytes : List ℕ) (found : Option ℕ) → IsFirstPattern bytes found → is_some found ≡ holds_pattern bytes
 found_holds bytes None none = sym (none_held bytes none)
 found_holds bytes (Some place) first = sym (at_holds bytes place first.0)
+
+-- one byte does not hold the pattern
+pub byte_holds : (byte : ℕ) → holds_pattern (byte ∷ []) ≡ false
+unfolding holds_pattern
+byte_holds byte = or_from ((byte == 0x0F) && false) false (and_right (byte == 0x0F) false refl) refl

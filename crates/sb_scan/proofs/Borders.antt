@@ -1,24 +1,14 @@
--- Where the pattern stands in bytes that have others before and behind them.
+-- Where the pattern stands in bytes that have others before and after them.
 use Rattle.std.proofs.Common.{◌≡◌, ◌∙◌, ℕ, ◌+◌, ◌-◌, ◌<◌, ◌≤◌, List, ◌++◌, length, get_or, Some, None, sym, ap, subst, arith, append_assoc}
-use Rattle.std.proofs.lemmas.List.{get_or_append_left, get_or-append-add, get_or_past, length-append}
+use Rattle.std.proofs.lemmas.List.{get_or_append_left, get_or-append-add, length-append}
 use Rattle.sb_scan.specs.Pattern.{HasPatternAt, HasFirstPatternAt, HasNoPattern, IsSpan, SpansBy}
-use Rattle.sb_trace.specs.Pattern.{first_pattern}
-use Rattle.sb_trace.proofs.Pattern.{first_place}
+use Rattle.sb_scan.proofs.Places.{read_within, apart}
 
 -- ---- a place in a part
 
 -- the pattern ends inside the bytes
 ends_within : (bytes : List ℕ) (place : ℕ) → HasPatternAt bytes place → place + 2 < length bytes
-ends_within bytes place stands =
-    let past : length bytes ≤ place + 2 → get_or bytes (place + 2) 0 ≡ 0 = get_or_past bytes (place + 2) 0 in
-    grind (arith, stands.2)
-
--- it does not overlap itself
-apart : (bytes : List ℕ) (place other : ℕ) → HasPatternAt bytes place → HasPatternAt bytes other → place < other → place + 2 < other
-apart bytes place other here there before =
-    let not_next : other ≡ place + 1 → ⊥ = λ same. omega (arith, sym there.0 ∙ ap (λ (k : ℕ). get_or bytes k 0) same ∙ here.1) in
-    let not_last : other ≡ place + 2 → ⊥ = λ same. omega (arith, sym there.0 ∙ ap (λ (k : ℕ). get_or bytes k 0) same ∙ here.2) in
-    omega arith
+ends_within bytes place stands = read_within bytes (place + 2) (omega (arith, stands.2))
 
 in_front : (bytes others : List ℕ) (place : ℕ) → place + 2 < length bytes → HasPatternAt (bytes ++ others) place → HasPatternAt bytes place
 in_front bytes others place within stands = (
@@ -95,14 +85,16 @@ past_front before bytes behind place few some none stands =
 
 -- ---- the first place
 
-front_first : (before bytes behind : List ℕ) (count : ℕ) → length before ≤ 2 → 2 ≤ length bytes → SpansBy before bytes count
+-- across the front
+pub front_first : (before bytes behind : List ℕ) (count : ℕ) → length before ≤ 2 → 2 ≤ length bytes → SpansBy before bytes count
     → HasFirstPatternAt (before ++ (bytes ++ behind)) (length before - count)
 front_first before bytes behind count few some spans =
     let all : (before ++ bytes) ++ behind ≡ before ++ (bytes ++ behind) = append_assoc before bytes behind in
     let stands = subst (λ (whole : List ℕ). HasPatternAt whole (length before - count)) all (with_others (before ++ bytes) behind (length before - count) spans.stands) in
-    (stands, λ earlier early there. let far = apart (before ++ (bytes ++ behind)) earlier (length before - count) there stands early in omega arith)
+    (stands, λ earlier early there. let far = apart (before ++ (bytes ++ behind)) earlier (length before - count) there stands (omega arith) in omega arith)
 
-inside_first : (before bytes behind : List ℕ) (place : ℕ) → length before ≤ 2 → 2 ≤ length bytes → IsSpan before bytes None
+-- in the bytes
+pub inside_first : (before bytes behind : List ℕ) (place : ℕ) → length before ≤ 2 → 2 ≤ length bytes → IsSpan before bytes None
     → HasFirstPatternAt bytes place → HasFirstPatternAt (before ++ (bytes ++ behind)) (length before + place)
 inside_first before bytes behind place few some none first =
     let end = ends_within bytes place first.0 in (
@@ -112,7 +104,8 @@ inside_first before bytes behind place few some none first =
           first.1 (earlier - length before) (omega (arith, past.0)) (in_front bytes behind (earlier - length before) (omega (arith, past.0)) past.1),
     )
 
-end_first : (before bytes behind : List ℕ) (count : ℕ) → length before ≤ 2 → 2 ≤ length bytes → IsSpan before bytes None → HasNoPattern bytes
+-- across the end
+pub end_first : (before bytes behind : List ℕ) (count : ℕ) → length before ≤ 2 → 2 ≤ length bytes → IsSpan before bytes None → HasNoPattern bytes
     → SpansBy bytes behind count → HasFirstPatternAt (before ++ (bytes ++ behind)) (length before + length bytes - count)
 end_first before bytes behind count few some none nowhere spans =
     let within = spans.within in
@@ -121,7 +114,7 @@ end_first before bytes behind count few some none nowhere spans =
       λ earlier early there.
           let past = past_front before bytes behind earlier few some none there in
           let sooner : earlier - length before < length bytes - count = omega (arith, past.0) in
-          let far = apart (bytes ++ behind) (earlier - length before) (length bytes - count) past.1 spans.stands sooner in
+          let far = apart (bytes ++ behind) (earlier - length before) (length bytes - count) past.1 spans.stands (omega arith) in
           nowhere (earlier - length before) (in_front bytes behind (earlier - length before) (omega arith) past.1),
     )
 
@@ -134,27 +127,9 @@ early_or_late bytes behind place few nowhere none stands =
     let not_early : place + 2 < length bytes → ⊥ = λ early. nowhere place (in_front bytes behind place early stands) in
     none (length bytes - place) (spans_end bytes behind place inside (omega arith) stands)
 
-none_first : (before bytes behind : List ℕ) → length before ≤ 2 → 2 ≤ length bytes → length behind ≤ 2 → IsSpan before bytes None → HasNoPattern bytes
+-- nowhere
+pub none_first : (before bytes behind : List ℕ) → length before ≤ 2 → 2 ≤ length bytes → length behind ≤ 2 → IsSpan before bytes None → HasNoPattern bytes
     → IsSpan bytes behind None → HasNoPattern (before ++ (bytes ++ behind))
 none_first before bytes behind few some few_behind front nowhere end = λ place stands.
     let past = past_front before bytes behind place few some front stands in
     early_or_late bytes behind (place - length before) few_behind nowhere end past.1
-
--- ---- by the definition
-
-pub front_is_first : (before bytes behind : List ℕ) (count : ℕ) → length before ≤ 2 → 2 ≤ length bytes → SpansBy before bytes count
-    → Some (length before - count) ≡ first_pattern (before ++ (bytes ++ behind))
-front_is_first before bytes behind count few some spans = first_place _ (Some (length before - count)) (front_first before bytes behind count few some spans)
-
-pub inside_is_first : (before bytes behind : List ℕ) (place : ℕ) → length before ≤ 2 → 2 ≤ length bytes → IsSpan before bytes None
-    → HasFirstPatternAt bytes place → Some (length before + place) ≡ first_pattern (before ++ (bytes ++ behind))
-inside_is_first before bytes behind place few some none first = first_place _ (Some (length before + place)) (inside_first before bytes behind place few some none first)
-
-pub end_is_first : (before bytes behind : List ℕ) (count : ℕ) → length before ≤ 2 → 2 ≤ length bytes → IsSpan before bytes None → HasNoPattern bytes
-    → SpansBy bytes behind count → Some (length before + length bytes - count) ≡ first_pattern (before ++ (bytes ++ behind))
-end_is_first before bytes behind count few some none nowhere spans =
-    first_place _ (Some (length before + length bytes - count)) (end_first before bytes behind count few some none nowhere spans)
-
-pub none_is_first : (before bytes behind : List ℕ) → length before ≤ 2 → 2 ≤ length bytes → length behind ≤ 2 → IsSpan before bytes None → HasNoPattern bytes
-    → IsSpan bytes behind None → None ≡ first_pattern (before ++ (bytes ++ behind))
-none_is_first before bytes behind few some few_behind front nowhere end = first_place _ None (none_first before bytes behind few some few_behind front nowhere end)
