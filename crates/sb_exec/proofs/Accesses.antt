@@ -13,7 +13,7 @@ use Rattle.sb_exec.specs.declared.action.After.{After}
 use Rattle.sb_bus.specs.Interface.{Interface}
 use Rattle.sb_exec.specs.Row.{Row, accesses, store_accesses}
 use Rattle.sb_exec.specs.Execution.{Execution, execution_of, execution_by, run, run_on}
-use Rattle.sb_exec.specs.Steps.{load_then_store, store_after_load, effect_if, registers_if}
+use Rattle.sb_exec.specs.LoadThenStore.{load_then_store, store_after_load, effect_if, registers_if}
 
 -- the row of these parts
 abbrev pub row_from : Load → Store → (ℕ → After) → Effect → Row

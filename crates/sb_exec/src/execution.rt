@@ -1,9 +1,9 @@
-//! One instruction.
+//! An instruction executed: its row's load, then its store, then the registers.
 
 ghost use Rattle.std.specs.Prelude.{◌≡◌, ◌≢◌, ◌↔◌};
 ghost use Rattle.sb_insn.specs.Grammar.{IsValid};
 ghost use Rattle.sb_exec.specs.Execution.{Executes};
-ghost use Rattle.sb_exec.specs.Steps.{row_load_answer, row_load_account, row_store_answer, row_store_meaning, row_store_account};
+ghost use Rattle.sb_exec.specs.LoadThenStore.{row_load_answer, row_load_account, row_store_answer, row_store_meaning, row_store_account};
 ghost use Rattle.sb_exec.specs.Rows.{row_of};
 
 use crate::action::{Effect, Load, Store};
@@ -40,8 +40,8 @@ fn stored<B: Bus>(store: Store, value: u64, bus: &mut B) -> Result<(), BusStop>
 }
 
 /// Makes the accesses of an instruction's row, and then sets the registers.
-#[tactic(auto, using(crate::proofs::Accesses::two_steps), unfolding(crate::specs::Rows::row_of, crate::specs::Steps::load_then_store))]
-fn perform<B: Bus>(insn: &Insn, regs: &mut Regs, bus: &mut B) -> Result<Effect, BusStop>
+#[tactic(auto, using(crate::proofs::Accesses::two_steps), unfolding(crate::specs::Rows::row_of, crate::specs::LoadThenStore::load_then_store))]
+fn execute_row<B: Bus>(insn: &Insn, regs: &mut Regs, bus: &mut B) -> Result<Effect, BusStop>
     ensures row { Executes B.interface (row_of insn.now regs.old) regs.old regs.new
         (B.meaning bus.old) (B.meaning bus.new) (B.account bus.old) (B.account bus.new) result }
     ensures kept { B.kept bus.new ≡ B.kept bus.old }
@@ -70,5 +70,5 @@ pub fn execute<B: Bus>(insn: &Insn, regs: &mut Regs, bus: &mut B) -> Result<Effe
     ensures undefined { (result ≡ Ok Effect.Undefined) ↔ (insn.now.op ≡ Op.Two 0x0B) }
     ensures kept { B.kept bus.new ≡ B.kept bus.old }
 {
-    perform(insn, regs, bus)
+    execute_row(insn, regs, bus)
 }
