@@ -9,8 +9,8 @@ ghost use Rattle.sb_forms.specs.Table.{spelled};
 use crate::code::Code;
 use crate::helper::{Helper, modrm_of};
 use crate::pattern::number_holds_pattern;
-use crate::rex::{rex_b, rex_x, with_x_b_exchanged};
-use sb_insn::{Disp, Imm, Insn, Op};
+use crate::rex::with_x_b_exchanged;
+use sb_insn::{Disp, Imm, Insn, Op, mod_field, rex_b, rex_x, rm_field};
 
 /// Where a slot saves its first helper: a word of the scratch page (docs/FORMS.md).
 pub const FIRST_SAVED: i32 = 0x7000_4000;
@@ -235,7 +235,7 @@ fn without_sib_0f(insn: &Insn) -> Insn
 fn is_from_next(modrm: u8) -> bool
     ensures { result ≡ is_from_next_at modrm }
 {
-    modrm / 64 == 0 && modrm % 8 == 5
+    mod_field(modrm) == 0 && rm_field(modrm) == 5
 }
 
 /// `lea helper, [operand]`, with this displacement.
@@ -249,7 +249,10 @@ fn load_address(helper: Helper, insn: &Insn, disp: Disp) -> Insn
         rex: Some(0x48 + 2 * rex_x(insn.rex) + rex_b(insn.rex)),
         sib: insn.sib,
         disp,
-        ..wide(0x8D, 64 * (modrm / 64) + 8 * helper.number() + modrm % 8)
+        ..wide(
+            0x8D,
+            64 * mod_field(modrm) + 8 * helper.number() + rm_field(modrm),
+        )
     }
 }
 

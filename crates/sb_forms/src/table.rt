@@ -17,7 +17,7 @@ use crate::slots::{
     Site, address_and_constant_slot, address_slot, constant_slot, displaced, jump_slot,
     wide_constant_slot,
 };
-use sb_insn::{Imm, Insn, Instruction, Mnemonic, Op, instruction_of};
+use sb_insn::{Imm, Insn, Instruction, Mnemonic, Op, instruction_of, mod_field};
 
 /// Whether it is VMFUNC.
 fn is_vmfunc(op: Op) -> bool
@@ -66,7 +66,7 @@ fn has_memory(modrm: Option<u8>) -> bool
 {
     match modrm {
         None => false,
-        Some(modrm) => modrm / 64 != 3,
+        Some(modrm) => mod_field(modrm) != 3,
     }
 }
 
