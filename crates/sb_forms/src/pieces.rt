@@ -10,16 +10,20 @@ use crate::code::Code;
 use crate::helper::{Helper, modrm_of};
 use crate::pattern::number_holds_pattern;
 use crate::rex::with_x_b_exchanged;
+use sb_abi::SCRATCH_ADDRESS;
 use sb_insn::{Disp, Imm, Insn, Op, mod_field, rex_b, rex_x, rm_field};
 
-/// Where a slot saves its first helper: a word of the scratch page (docs/FORMS.md).
-pub const FIRST_SAVED: i32 = 0x7000_4000;
+/// Where a slot saves its first helper: the first word of the scratch page (docs/FORMS.md).
+pub const FIRST_SAVED: i32 = SCRATCH_ADDRESS as i32;
+
 /// Where a slot saves its second helper.
-pub const SECOND_SAVED: i32 = 0x7000_4008;
+pub const SECOND_SAVED: i32 = FIRST_SAVED + 8;
+
 /// A constant of eight bytes by halves, or where a jump leads.
-pub const SCRATCH_WORD: i32 = 0x7000_4010;
+pub const SCRATCH_WORD: i32 = FIRST_SAVED + 16;
+
 /// The upper half of that word.
-pub const UPPER_HALF: i32 = 0x7000_4014;
+pub const UPPER_HALF: i32 = SCRATCH_WORD + 4;
 
 /// What a number is lowered by that would hold the bytes of VMFUNC: it changes the byte 01, or 0F where that comes second.
 const STEP: i32 = 0x100;
