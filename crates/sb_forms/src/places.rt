@@ -5,7 +5,7 @@ ghost use Rattle.sb_insn.specs.Spelling.{spelling};
 ghost use Rattle.sb_insn.specs.Branch.{is_direct};
 ghost use Rattle.sb_insn.specs.Grammar.{IsValid};
 ghost use Rattle.sb_forms.specs.Holding.{holds_pattern};
-ghost use Rattle.sb_forms.specs.Places.{HasForm, BehindOpcode, AtModrm, NotInJumps};
+ghost use Rattle.sb_forms.specs.Places.{HasForm};
 
 use crate::pattern::insn_holds_pattern;
 use sb_insn::Insn;
@@ -22,20 +22,9 @@ fn direct_holds(insn: &Insn) -> bool
 ///
 /// Each one that leads from a text into a text or the trampoline page is taken (`pattern_places`).
 #[tactic(auto, using(crate::proofs::Where::has_form))]
-pub fn has_form(insn: &Insn) -> bool
+pub fn form_applies(insn: &Insn) -> bool
     requires { IsValid insn.now }
     ensures { IsTrue result ↔ HasForm insn.now }
 {
     !direct_holds(insn)
 }
-
-/// Laws of the grammar: where the bytes of VMFUNC can stand in an instruction that is not VMFUNC.
-///
-/// They begin behind the opcode. They begin at ModRM only in `81 /1` and `69`, where ModRM is 0F. And no direct jump or
-/// call from a text into a text or the trampoline page holds them.
-#[tactic(auto, using(crate::proofs::Where::behind_opcode_only))]
-pub fn pattern_places()
-    ensures behind_opcode { BehindOpcode }
-    ensures at_modrm { AtModrm }
-    ensures not_in_jumps { NotInJumps }
-{}
