@@ -26,6 +26,7 @@ use Rattle.sb_forms.specs.Pieces.{is_sib_0f, exchanged}
 use Rattle.sb_forms.specs.Mains.{with_displacement}
 use Rattle.sb_forms.specs.Table.{Replacement, Keep, InPlace, Unmovable, moved, is_vmfunc, is_one_byte, is_modrm, is_add_esp_edx, begins_at_modrm, completes_pattern, nop, add_from_rm, has_memory, is_call, is_jump, jump_form, wide_constant_form, address_and_constant_form, address_form, constant_form, form_by, slot_form, slot_form_of, is_exchangeable, held_form, replacement, bytes_of, site_of, form_of}
 use Rattle.sb_forms.specs.Answers.{IsSmall, HasRoom}
+use Rattle.sb_scan.proofs.Places.{read_within}
 use Rattle.sb_forms.proofs.Held.{holds_at}
 use Rattle.sb_forms.proofs.Lengths.{spelling_length, exchanged_length}
 use Rattle.sb_forms.proofs.Operands.{bare_0f, modrm_is}
@@ -33,12 +34,9 @@ use Rattle.sb_forms.proofs.CleanForms.{IsHeld, behind_opcode, behind_holds}
 
 -- ---- an instruction that holds the pattern has five bytes
 
-within : (bytes : List ℕ) (place : ℕ) → 0 < get_or bytes place 0 → place < length bytes
-within bytes place some = let past : length bytes ≤ place → get_or bytes place 0 ≡ 0 = get_or_past bytes place 0 in grind arith
-
 few_at : (bytes : List ℕ) (place : ℕ) → length bytes ≤ 3 → HasPatternAt bytes place → (length bytes ≡ 3) × (get_or bytes 0 0 ≡ 0x0F)
-few_at bytes zero few stands = (omega (arith, few, within bytes 2 (omega (arith, stands.2))), stands.0)
-few_at bytes (suc place) few stands = absurd (omega (arith, few, within bytes (suc place + 2) (omega (arith, stands.2))))
+few_at bytes zero few stands = (omega (arith, few, read_within bytes 2 (omega (arith, stands.2))), stands.0)
+few_at bytes (suc place) few stands = absurd (omega (arith, few, read_within bytes (suc place + 2) (omega (arith, stands.2))))
 
 few : (bytes : List ℕ) → length bytes ≤ 3 → holds_pattern bytes ≡ true → (length bytes ≡ 3) × (get_or bytes 0 0 ≡ 0x0F)
 few bytes short e = let found = holds_at bytes e in few_at bytes found.0 short found.1
