@@ -4,6 +4,7 @@ use Rattle.sb_memory.specs.declared.address.Access.TheVariants.{Read, Write}
 use Rattle.sb_insn.specs.declared.registers.Regs.{Regs}
 use Rattle.sb_bus.specs.declared.stop.BusStop.{BusStop}
 use Rattle.sb_exec.specs.declared.action.Effect.{Effect}
+use Rattle.sb_exec.specs.declared.action.Effect.TheVariants.{Next}
 use Rattle.sb_exec.specs.declared.action.Load.{Load}
 use Rattle.sb_exec.specs.declared.action.Load.TheVariants as load
 use Rattle.sb_exec.specs.declared.action.Store.{Store}
@@ -11,6 +12,7 @@ use Rattle.sb_exec.specs.declared.action.Store.TheVariants as store
 use Rattle.sb_alu.specs.Size.{size_bytes}
 use Rattle.sb_bus.specs.Interface.{Interface, LoadBytes, LoadForWrite, StoreBytes}
 use Rattle.sb_bus.specs.Access.{loaded_from, store_answer, byte_for, byte_for_write, where_stored}
+use Rattle.sb_exec.specs.WriteBack.{keeping}
 use Rattle.sb_exec.specs.Row.{Row}
 use Rattle.sb_exec.specs.Execution.{Execution}
 
@@ -80,3 +82,10 @@ store_after_load bus row regs meaning account (Ok loaded) = record {
 unfoldable pub load_then_store : {M A : Type 0} → Interface M A → Row → Regs → M → A → Execution M A
 load_then_store bus row regs meaning account =
     store_after_load bus row regs meaning (row_load_account bus row.load meaning account) (row_load_answer bus row.load meaning)
+
+-- ---- a row that stores nothing
+
+-- it loads this, and the registers after it follow from the loaded number
+abbrev pub row_without_store : Load → (ℕ → Regs) → Row
+row_without_store loads after =
+    record { load = loads; store = store.Nothing; after = λ loaded. keeping (after loaded); effect = Next }

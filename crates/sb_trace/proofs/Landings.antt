@@ -178,7 +178,7 @@ IsWithout state other = other ≡ without_flights state
 
 stores_mapped : (thread view : ℕ) → StoresKeep IsWithout (plain thread view) (plain thread view)
 stores_mapped thread view = record {
-  stored = λ state other same address size value _ _.
+  stored = λ state other same address size value _ _ _.
       ap (λ (one : State). plain_stored thread view one address size value) same ∙ stored_mapped thread view state address size value;
 }
 
