@@ -20,7 +20,8 @@ use Rattle.sb_exec.specs.declared.action.Load.TheVariants as load
 use Rattle.sb_exec.specs.declared.action.Store.TheVariants as store
 use Rattle.sb_exec.specs.Interface.{Interface}
 use Rattle.sb_exec.specs.Size.{low}
-use Rattle.sb_exec.specs.Operand.{general, next_rip, imm_value}
+use Rattle.sb_insn.specs.Branch.{imm_value}
+use Rattle.sb_exec.specs.Operand.{general, next_rip}
 use Rattle.sb_exec.specs.Address.{linear, rm_place}
 use Rattle.sb_exec.specs.WriteBack.{stepped, storing, last_operand}
 use Rattle.sb_exec.specs.Branch.{top_pushed, pushed}

@@ -15,11 +15,11 @@ use Rattle.sb_insn.specs.declared.opcode_map.Cell.{Cell}
 use Rattle.sb_insn.specs.declared.opcode_map.Cell.TheVariants.{Absent, Plain, ModRm, Extended}
 use Rattle.sb_insn.specs.OpcodeMap.{two_byte, two_byte_rows, cell_of}
 use Rattle.sb_insn.specs.Groups.{extensions, group_operand}
-use Rattle.sb_insn.specs.Fields.{mod_field, reg_field}
+use Rattle.sb_insn.specs.Fields.{mod_field, reg_field, rex_r, rex_b}
 use Rattle.sb_insn.specs.Listing.{named, instruction_in, instruction_of}
 use Rattle.sb_insn.proofs.Rows.{looked_up, some_holds, every_extension, extended}
 use Rattle.sb_exec.specs.declared.action.Place.TheVariants.{Register, Memory}
-use Rattle.sb_exec.specs.Operand.{bit_of_rex, modrm_of, reg_number, rm_number, opcode_number, general}
+use Rattle.sb_exec.specs.Operand.{modrm_of, reg_number, rm_number, opcode_number, general}
 use Rattle.sb_exec.specs.Operand as exec
 use Rattle.sb_exec.specs.Address.{linear, disp_value, operand_address, rm_place}
 use Rattle.sb_forms.specs.declared.helper.Helper.{Helper}
@@ -33,7 +33,7 @@ use Rattle.sb_original.proofs.Memory.{memory_place, rm_base}
 
 -- ---- fields
 
-pub with_r_0 : (rex : Option ℕ) (b : ℕ) → b ≤ 1 → bit_of_rex (with_r_b rex 0 b) 2 ≡ 0
+pub with_r_0 : (rex : Option ℕ) (b : ℕ) → b ≤ 1 → rex_r (with_r_b rex 0 b) ≡ 0
 with_r_0 None b bb = refl
 with_r_0 (Some rex) b bb = omega arith
 
@@ -47,7 +47,7 @@ register_place insn regs is = cond-true (mod_field (modrm_of insn) == 3) (Regist
 -- ---- memory at a helper
 
 memory_fields : (name : Mnemonic) (insn : Insn) (at helper : Helper)
-    → (modrm_of (with_constant name insn (at_helper at) helper) ≡ 0x40 + number_of at + 8 * number_of helper) × (bit_of_rex (with_constant name insn (at_helper at) helper).rex 0 ≡ 0) × (bit_of_rex (with_constant name insn (at_helper at) helper).rex 2 ≡ 0)
+    → (modrm_of (with_constant name insn (at_helper at) helper) ≡ 0x40 + number_of at + 8 * number_of helper) × (rex_b (with_constant name insn (at_helper at) helper).rex ≡ 0) × (rex_r (with_constant name insn (at_helper at) helper).rex ≡ 0)
 unfolding with_constant at_helper
 memory_fields name insn at helper = (refl, with_b_0 insn.rex 0 (omega arith), with_r_0 insn.rex 0 (omega arith))
 
@@ -95,9 +95,9 @@ pub own_reg : (name : Mnemonic) (insn : Insn) (operand : RmOperand) (helper : He
 own_reg name insn operand helper low bit is =
     let fields = own_fields name insn operand helper in
     let reg = ap (λ (m : ℕ). m / 8 % 8) (fields.0 ∙ ap (λ (m : ℕ). m + 8 * number_of helper) is.mod_rm) ∙ (reg_fields low (number_of helper) is.within (helper_low helper)).1 in
-    omega (arith, reg, ap (λ r. bit_of_rex r 2) fields.1 ∙ with_r_0 insn.rex operand.rex_b is.rex)
+    omega (arith, reg, ap (λ r. rex_r r) fields.1 ∙ with_r_0 insn.rex operand.rex_b is.rex)
 
-pub own_place : (name : Mnemonic) (insn : Insn) (operand : RmOperand) (helper : Helper) (low bit number : ℕ) (regs : Regs) → IsRegister operand low bit → low + 8 * bit_of_rex (with_r_b insn.rex 0 operand.rex_b) 0 ≡ number
+pub own_place : (name : Mnemonic) (insn : Insn) (operand : RmOperand) (helper : Helper) (low bit number : ℕ) (regs : Regs) → IsRegister operand low bit → low + 8 * rex_b (with_r_b insn.rex 0 operand.rex_b) ≡ number
     → rm_place (with_constant name insn operand helper) regs ≡ Register number
 own_place name insn operand helper low bit number regs is same =
     let main = with_constant name insn operand helper in
@@ -106,7 +106,7 @@ own_place name insn operand helper low bit number regs is same =
     let parts = reg_fields low (number_of helper) is.within (helper_low helper) in
     let low_field = ap (λ (m : ℕ). m % 8) modrm ∙ parts.2 in
     let top = ap (λ (m : ℕ). m / 64) modrm ∙ parts.0 in
-    let rex = ap (λ r. bit_of_rex r 0) fields.1 in
+    let rex = ap (λ r. rex_b r) fields.1 in
     let whole : rm_number main ≡ number = omega (arith, low_field, rex, same) in
     register_place main regs top ∙ ap (λ (n : ℕ). Register n) whole
 

@@ -23,7 +23,7 @@ use Rattle.sb_insn.specs.declared.opcode_map.Cell.{Cell}
 use Rattle.sb_insn.specs.declared.opcode_map.Cell.TheVariants.{Absent, Plain, ModRm, Extended}
 use Rattle.sb_insn.specs.OpcodeMap.{one_byte, one_byte_rows, two_byte, two_byte_rows, cell_of}
 use Rattle.sb_insn.specs.Spelling.{number, spelling}
-use Rattle.sb_insn.specs.Fields.{is_register, is_wide, mod_field, is_modrm_field, is_sib_field, disp_kind_of, kind_of_disp, rule_of, imm_kind_of, kind_of_imm}
+use Rattle.sb_insn.specs.Fields.{is_register, is_wide, mod_field, is_modrm_field, is_sib_field, disp_kind_of, kind_of_disp, rule_of, imm_kind_of, kind_of_imm, rex_w}
 use Rattle.sb_insn.specs.Listing.{instruction_in, instruction_of}
 use Rattle.sb_insn.specs.Grammar.{IsValid, FitsImm}
 use Rattle.sb_insn.proofs.Rows.{looked_up}
@@ -33,7 +33,7 @@ use Rattle.sb_alu.specs.declared.operation.Operation.{Operation}
 use Rattle.sb_alu.specs.declared.operation.Operation.TheVariants as operation
 use Rattle.sb_exec.specs.declared.action.Action.TheVariants.{Compute}
 use Rattle.sb_exec.specs.Interface.{Interface}
-use Rattle.sb_exec.specs.Operand.{bit_of_rex, next_rip}
+use Rattle.sb_exec.specs.Operand.{next_rip}
 use Rattle.sb_exec.specs.Actions.{action_by, action_for, action_of, moved_size}
 use Rattle.sb_exec.specs.Row.{Row}
 use Rattle.sb_exec.specs.Rows.{row_of}
@@ -204,9 +204,9 @@ wide_rule rules.Wide rex value k = wide_kind (is_wide rex) k
     wide_kind true k = refl
     wide_kind false k = absurd cc
 
-wide_size : (rex : Option ℕ) → is_wide rex ≡ true → (if bit_of_rex rex 3 == 1 then Quad else Double) ≡ Quad
+wide_size : (rex : Option ℕ) → is_wide rex ≡ true → (if rex_w rex == 1 then Quad else Double) ≡ Quad
 wide_size None e = absurd cc
-wide_size (Some rex) e = cond-true (rex / 2 ^ 3 % 2 == 1) Quad Double e
+wide_size (Some rex) e = cond-true (rex / 8 % 2 == 1) Quad Double e
 
 wide_action : (insn : Insn) (instruction : Instruction) (value : ℤ) → IsValid insn → instruction_of insn ≡ Some instruction → insn.imm ≡ imm.I64 value → instruction.mnemonic ≡ mnemonic.Mov → instruction.form ≡ form.OpcodeImm
     → action_of insn ≡ Compute operation.Move form.OpcodeImm Quad

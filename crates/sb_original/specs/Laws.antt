@@ -27,7 +27,8 @@ use Rattle.sb_original.specs.Slot.{Slotted, Does, address_of, saved, restored, n
 use Rattle.sb_original.specs.Original.{Behind, IsRegs, SameAccesses, InPlaceLaw, FormLaw}
 use Rattle.sb_original.specs.Going.{Left, original_behind, Goes, IsMovable}
 use Rattle.sb_original.specs.Work.{IsMemoryWork, IsEntered, IsConstantWork, IsJumpWork, IsWideWork, IsPushWork, IsCallWork}
-use Rattle.sb_original.specs.Beside.{AllOutside, AreBeside, IsStopped, MainStep}
+use Rattle.sb_exec.specs.Simulation.{IsRowAt}
+use Rattle.sb_original.specs.Beside.{AreBeside, IsStopped, MainStep}
 
 -- ---- pieces
 
@@ -95,7 +96,7 @@ abbrev pub MainSteps : {M A N B : Type 0} → Interface M A → Interface N B �
 MainSteps {M} {A} {N} {B} left right Holds IsOutside naming =
     AreBeside left right Holds IsOutside naming → (row other : Row) (regs other_regs : Regs) (words : Words) (first : M) (second : N) (account : A) (account' : B)
     → SameAccesses row other → Holds words first second
-    → AllOutside IsOutside row ⊎ IsStopped (execution_of left other other_regs first account).answer
+    → IsRowAt IsOutside row ⊎ IsStopped (execution_of left other other_regs first account).answer
     → MainStep Holds naming words row other regs other_regs (execution_of right row regs second account') (execution_of left other other_regs first account)
 
 -- ---- jumps, and 01 D4
