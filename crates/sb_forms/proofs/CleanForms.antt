@@ -123,11 +123,11 @@ jump_good instruction insn site valid place small =
     (inl (load_target_quiet helper))
     (save_word helper, (restore_first helper, (jump_through_word, tt)))
 
-low_fits : (value : ℤ) → FitsSigned w32 (low_half value)
+pub low_fits : (value : ℤ) → FitsSigned w32 (low_half value)
 unfolding low_half
 low_fits value = sfits_to_z {w = w32} {n = cast_unsigned w64 value % 2 ^ 32} (omega arith)
 
-high_fits : (value : ℤ) → FitsSigned w64 value → FitsSigned w32 (high_half value)
+pub high_fits : (value : ℤ) → FitsSigned w64 value → FitsSigned w32 (high_half value)
 unfolding high_half
 high_fits value fits =
     let below = Fits-of_z {w = w64} {z = value} fits in

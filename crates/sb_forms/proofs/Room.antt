@@ -116,7 +116,7 @@ vmfunc_fields (Two opcode) lock rex modrm sib displacement immediate is e s d i 
 vmfunc_fields Endbr lock rex modrm sib displacement immediate is e s d i = absurd cc
 vmfunc_fields Vmfunc lock rex modrm sib displacement immediate is e s d i = omega (arith, vmfunc_alone lock rex modrm sib displacement immediate e s d i)
 
-vmfunc_3 : (insn : Insn) → IsValid insn → is_vmfunc insn.op ≡ true → length (spelling insn) ≡ 3
+pub vmfunc_3 : (insn : Insn) → IsValid insn → is_vmfunc insn.op ≡ true → length (spelling insn) ≡ 3
 vmfunc_3 insn valid is = omega (arith, spelling_length insn, vmfunc_fields insn.op insn.lock insn.rex insn.modrm insn.sib insn.disp insn.imm is valid.modrm valid.sib valid.disp valid.imm)
 
 -- what the fields of such an instruction come to
@@ -137,7 +137,7 @@ add_fields false None None disp.None (imm.I8 value) none e s d i = absurd cc
 add_fields false None None disp.None (imm.I32 value) none e s d i = absurd cc
 add_fields false None None disp.None (imm.I64 value) none e s d i = absurd cc
 
-one_byte_is : (opcode : ℕ) (op : Op) → is_one_byte opcode op ≡ true → op ≡ One opcode
+pub one_byte_is : (opcode : ℕ) (op : Op) → is_one_byte opcode op ≡ true → op ≡ One opcode
 one_byte_is opcode (One other) e = ap (λ (byte : ℕ). One byte) (sym (eqb-true opcode other e))
 one_byte_is opcode (Two other) e = absurd cc
 one_byte_is opcode Endbr e = absurd cc

@@ -31,6 +31,7 @@ use Rattle.sb_scan.proofs.Held.{byte_holds}
 use Rattle.sb_forms.proofs.CleanForms.{IsHeld, imm_holds}
 use Rattle.sb_forms.proofs.QuietMains.{nothing_holds}
 use Rattle.sb_forms.proofs.Maps.{short_5, imul_unlocked}
+use Rattle.sb_forms.proofs.Lengths.{product_3}
 
 -- ---- one piece
 
@@ -66,7 +67,7 @@ target_4 : (helper : Helper) → length (spelling (load_target helper)) ≡ 4
 unfolding load_target
 target_4 helper = refl
 
-word_8 : (insn : Insn) → length (spelling (load_word insn)) ≡ 8
+pub word_8 : (insn : Insn) → length (spelling (load_word insn)) ≡ 8
 unfolding load_word
 word_8 insn = refl
 
@@ -130,10 +131,6 @@ moved_small site pre main post a b c d =
     let one = one_more (jump from site.next) [] in
     let five = jump_5 from site.next in
     record { before = a; work = b; behind = omega (arith, c, last, one, five); whole = omega (arith, d, last, one, five) }
-
-product_3 : (insn : Insn) (helper : Helper) → length (spelling (move_product insn helper)) ≤ 3
-unfolding move_product
-product_3 insn helper = omega (arith, spelling_length (move_product insn helper), one_field (move_product insn helper).rex)
 
 behind_3 : (name : Mnemonic) (insn : Insn) (helper : Helper) → length (spelled (behind_main name insn helper)) ≤ 3
 unfolding behind_main
