@@ -53,7 +53,8 @@ unfolding with_helper at_helper
 with_helper_9 helper insn short =
     omega (arith, spelling_length (with_helper helper insn), lock_1 insn.lock, one_field (with_helper helper insn).rex)
 
-product_3 : (insn : Insn) (helper : Helper) → length (spelling (move_product insn helper)) ≤ 3
+-- MOV of the product has three bytes at most
+pub product_3 : (insn : Insn) (helper : Helper) → length (spelling (move_product insn helper)) ≤ 3
 unfolding move_product
 product_3 insn helper = omega (arith, spelling_length (move_product insn helper), one_field (move_product insn helper).rex)
 

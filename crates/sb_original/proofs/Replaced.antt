@@ -45,7 +45,7 @@ use Rattle.sb_forms.specs.Places.{is_distance, is_direct, HasForm}
 use Rattle.sb_forms.specs.Table.{Replacement, Keep, InPlace, Moved, Unmovable, moved, is_vmfunc, is_modrm, is_add_esp_edx, completes_pattern, begins_with_01_d4, begins_at_modrm, has_memory, is_call, is_jump, jump_form, wide_constant_form, address_and_constant_form, address_form, constant_form, form_by, slot_form, slot_form_of, is_exchangeable, held_form, nop, add_from_rm, replacement}
 use Rattle.sb_forms.proofs.Held.{none_held}
 use Rattle.sb_forms.proofs.Operands.{modrm_is}
-use Rattle.sb_forms.proofs.CleanForms.{IsHeld}
+use Rattle.sb_forms.proofs.ByTable.{IsHeld}
 use Rattle.sb_original.specs.Words.{Words, HasWords}
 use Rattle.sb_original.specs.Alike.{is_rm_form}
 use Rattle.sb_original.specs.Slot.{Slotted}
@@ -70,6 +70,7 @@ use Rattle.sb_original.proofs.FormThrough.{jump_exchanged, call_exchanged}
 use Rattle.sb_original.proofs.FormSmall.{add_law}
 use Rattle.sb_original.proofs.FormNops.{passed, nop_does}
 use Rattle.sb_original.proofs.Going.{work_is, slot_goes}
+use Rattle.sb_forms.proofs.Room.{vmfunc_3}
 
 -- ---- names and operands
 
@@ -265,12 +266,6 @@ vmfunc_fields false None None None disp.None imm.None e s d i = refl
 vmfunc_op : (op : Op) → is_vmfunc op ≡ true → op ≡ Vmfunc
 vmfunc_op Vmfunc e = refl
 vmfunc_op _ e = absurd cc
-
-vmfunc_3 : (insn : Insn) → IsValid insn → is_vmfunc insn.op ≡ true → length (spelling insn) ≡ 3
-vmfunc_3 insn valid e =
-    let fields : VmfuncFields insn.lock insn.rex insn.modrm insn.sib insn.disp insn.imm insn.op =
-    subst (λ op. VmfuncFields insn.lock insn.rex insn.modrm insn.sib insn.disp insn.imm op) (sym (vmfunc_op insn.op e)) (vmfunc_fields insn.lock insn.rex insn.modrm insn.sib insn.disp insn.imm) in
-    fields valid.modrm valid.sib valid.disp valid.imm
 
 passes : {M A N : Type 0} (bus : Interface M A) (Holds : Words → M → N → Type 0) (insn : Insn) (start : ℕ) (state : Slotted) → IsValid insn → is_vmfunc insn.op ≡ true → Goes bus Holds insn start state (InPlace (nop ∷ nop ∷ nop ∷ []))
 passes bus Holds insn start state valid e =

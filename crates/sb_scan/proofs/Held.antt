@@ -60,6 +60,11 @@ pub found_holds : (bytes : List ℕ) (found : Option ℕ) → IsFirstPattern byt
 found_holds bytes None none = sym (none_held bytes none)
 found_holds bytes (Some place) first = sym (at_holds bytes place first.0)
 
+-- no bytes do not hold the pattern
+pub nothing_holds : holds_pattern [] ≡ false
+unfolding holds_pattern
+nothing_holds = refl
+
 -- one byte does not hold the pattern
 pub byte_holds : (byte : ℕ) → holds_pattern (byte ∷ []) ≡ false
 unfolding holds_pattern
