@@ -23,7 +23,7 @@ use Rattle.sb_trace.specs.declared.state.Thread.{Thread}
 use Rattle.sb_trace.specs.PageName.{same_name, mode_of}
 use Rattle.sb_trace.specs.State.{State, find_page}
 use Rattle.sb_trace.specs.Windows.{name_at, is_within}
-use Rattle.sb_trace.specs.SystemCall.{with_mode, protected}
+use Rattle.sb_trace.specs.SyscallProtect.{with_mode, protected}
 use Rattle.sb_trace.proofs.Names.{name_same}
 use Rattle.sb_trace.proofs.Pages.{mode_same, mode_other, with_executable}
 use Rattle.sb_shows.specs.Placement.{Placement, BaseTable, GuestTable, Holds, IsThere, IsOneToOne, is_own, guest_page, leaf_for, leaf_if, rights_for, name_entry, entry_of}

@@ -18,7 +18,10 @@ use Rattle.sb_trace.specs.Registers.{rax, rdi, rsi}
 use Rattle.sb_trace.specs.Home.{Outcome, faulted_home, sent_home}
 use Rattle.sb_trace.specs.Pattern.{heap_pattern}
 use Rattle.sb_trace.specs.Windows.{present_of}
-use Rattle.sb_trace.specs.SystemCall.{after_syscall, answered, returned, declined, exited, heap_count, protected, made_executable, protects, called_by, called}
+use Rattle.sb_trace.specs.SyscallRegisters.{after_syscall, answered}
+use Rattle.sb_trace.specs.SyscallAnswer.{returned, declined}
+use Rattle.sb_trace.specs.SyscallProtect.{heap_count, protected, made_executable, protects}
+use Rattle.sb_trace.specs.Syscall.{exited, called_by, called}
 use Rattle.sb_sub.specs.Kernel.{Kernel, Seat, seat_of, shown_in, process_from}
 use Rattle.sb_sub.specs.Refusals.{pattern_refusal, protect_refusal}
 use Rattle.sb_sub.specs.Outcomes.{ProtectsBy, after_protect, protect_by}

@@ -18,7 +18,7 @@ use Rattle.sb_trace.specs.declared.page.Page.{Page}
 use Rattle.sb_trace.specs.PageName.{same_name, mode_of}
 use Rattle.sb_trace.specs.State.{State, Process, find_page, process_at}
 use Rattle.sb_trace.specs.Pattern.{heap_pattern}
-use Rattle.sb_trace.specs.SystemCall.{heap_count, with_mode, protected}
+use Rattle.sb_trace.specs.SyscallProtect.{heap_count, with_mode, protected}
 use Rattle.sb_trace.proofs.Names.{name_same}
 use Rattle.sb_trace.proofs.Pages.{mode_same, mode_other, with_executable}
 use Rattle.sb_shows.specs.Placement.{IsThere, leaf_for, rights_for}

@@ -10,7 +10,8 @@ use Rattle.sb_trace.specs.State.{State, process_at}
 use Rattle.sb_trace.specs.Registers.{rax}
 use Rattle.sb_trace.specs.Home.{Outcome}
 use Rattle.sb_trace.specs.Pattern.{heap_pattern}
-use Rattle.sb_trace.specs.SystemCall.{returned, declined, heap_count, protected}
+use Rattle.sb_trace.specs.SyscallAnswer.{returned, declined}
+use Rattle.sb_trace.specs.SyscallProtect.{heap_count, protected}
 use Rattle.sb_sub.specs.Kernel.{Kernel}
 use Rattle.sb_sub.specs.Refusals.{protect_refusal}
 use Rattle.sb_sub.specs.StandsFor.{StandsFor}

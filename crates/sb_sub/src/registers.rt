@@ -1,7 +1,7 @@
 //! Registers of a system call.
 
 ghost use Rattle.std.specs.Prelude.{◌≡◌};
-ghost use Rattle.sb_trace.specs.SystemCall.{answered as answered_by};
+ghost use Rattle.sb_trace.specs.SyscallRegisters.{answered as answered_by};
 ghost use Rattle.sb_trace.specs.Home.{faulted_home as regs_sent_home};
 ghost use Rattle.sb_sub.specs.Serving.{entered as entered_by};
 

@@ -4,7 +4,7 @@ ghost use Rattle.std.specs.Prelude.{◌≡◌, ◌≢◌, ◌<◌, IfSome, Some,
 ghost use Rattle.sb_trace.specs.State.{State};
 ghost use Rattle.sb_trace.specs.Registers.{rax, rdi};
 ghost use Rattle.sb_trace.specs.Windows.{server_of as server_from};
-ghost use Rattle.sb_trace.specs.SystemCall.{called};
+ghost use Rattle.sb_trace.specs.Syscall.{called};
 ghost use Rattle.sb_frames.specs.Book.{Book};
 ghost use Rattle.sb_sub.specs.Kernel.{shown_in};
 ghost use Rattle.sb_sub.specs.StandsFor.{StandsFor};

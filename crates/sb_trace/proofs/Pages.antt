@@ -6,7 +6,7 @@ use Rattle.sb_trace.specs.declared.page.PageName.{PageName}
 use Rattle.sb_trace.specs.declared.page.Page.{Page}
 use Rattle.sb_trace.specs.PageName.{same_name}
 use Rattle.sb_trace.specs.State.{find_page, replaced}
-use Rattle.sb_trace.specs.SystemCall.{with_mode}
+use Rattle.sb_trace.specs.SyscallProtect.{with_mode}
 use Rattle.sb_trace.proofs.Names.{name_same}
 
 -- ---- one page is changed, by name

@@ -1,3 +1,7 @@
+pub use Rattle.sb_abi.specs.Numbers
+pub use Rattle.sb_calls.specs.Refusals
+pub use Rattle.sb_calls.specs.Views
+pub use Rattle.sb_calls.specs.SyscallRegisters
 pub mod EventText
 pub mod Report
 pub mod Landing
@@ -13,7 +17,11 @@ pub mod Home
 pub mod KernelCall
 pub mod Flight
 pub mod Pattern
-pub mod SystemCall
+pub mod SyscallAnswer
+pub mod SyscallRegister
+pub mod SyscallBind
+pub mod SyscallProtect
+pub mod Syscall
 pub mod Step
 pub mod OneStep
 pub mod Code

@@ -5,8 +5,8 @@
 //! plain machine, which has a separate memory for each process: its pages by name and which page a thread sees where
 //! (`specs/`: PageName, State, Windows, PlainMemory), its start and its step (Start, Step), and what the kernel does in a
 //! step: calls and returns in one step (KernelCall), the landing that stands for them (Flight), and system calls
-//! (SystemCall); and the laws of its runs, each the contract of a function of `laws` (docs/LAWS.md). Not inside: code that
-//! steps.
+//! (Syscall, and SyscallRegister, SyscallBind and SyscallProtect); and the laws of its runs, each the contract of a
+//! function of `laws` (docs/LAWS.md). Not inside: code that steps.
 //!
 //! A line is the core and what happened there, as in `0 step 400000`. Addresses are hexadecimal, all other numbers
 //! decimal (docs/FORMATS.md, "The report").
