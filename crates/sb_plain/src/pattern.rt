@@ -1,7 +1,7 @@
 //! The bytes of VMFUNC, `0F 01 D4`, in a heap page and across its borders.
 
 ghost use Rattle.std.specs.Prelude.{◌≡◌, ◌<◌, ◌≤◌, ◌+◌, ◌*◌, ◌^◌, ◌++◌, IfSome, length, drop};
-ghost use Rattle.sb_trace.specs.declared.page.PageName.TheVariants.{Heap};
+ghost use Rattle.sb_state.specs.declared.page.PageName.TheVariants.{Heap};
 ghost use Rattle.sb_trace.specs.State.{find_page};
 ghost use Rattle.sb_trace.specs.Pattern.{first_pattern, executable_bytes as bytes_executed, bytes_before as bytes_in_front, bytes_behind as bytes_after, heap_pattern as pattern_by};
 

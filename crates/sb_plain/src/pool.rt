@@ -2,7 +2,7 @@
 //! its registration.
 
 ghost use Rattle.std.specs.Prelude.{◌≡◌, ◌<◌, ◌^◌, IsSome};
-ghost use Rattle.sb_trace.specs.declared.page.PageName.TheVariants.{Pool};
+ghost use Rattle.sb_state.specs.declared.page.PageName.TheVariants.{Pool};
 ghost use Rattle.sb_trace.specs.State.{registration_at};
 ghost use Rattle.sb_trace.specs.PageWords.{with_word};
 ghost use Rattle.sb_trace.specs.KernelCall.{pool_word as pool_word_of, handler_in};

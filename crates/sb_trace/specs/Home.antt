@@ -4,9 +4,9 @@ use Rattle.sb_exec.specs.declared.stop.FaultKind.{FaultKind}
 use Rattle.sb_insn.specs.declared.registers.Regs.{Regs}
 use Rattle.sb_trace.specs.declared.event.Event.{Event}
 use Rattle.sb_trace.specs.declared.event.Event.TheVariants.{Fault, ServerFault}
-use Rattle.sb_trace.specs.declared.end.EndKind.TheVariants.{Faulted}
-use Rattle.sb_trace.specs.State.{State, thread_at, with_view, with_end}
-use Rattle.sb_trace.specs.Registers.{no_flags}
+use Rattle.sb_state.specs.declared.end_kind.EndKind.TheVariants.{Faulted}
+use Rattle.sb_state.specs.State.{State, thread_at, with_view, with_end}
+use Rattle.sb_state.specs.Registers.{no_flags}
 
 -- what a step does: its line, and the state after it
 abbrev pub Outcome : Type 0

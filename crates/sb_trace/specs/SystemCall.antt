@@ -7,22 +7,22 @@ use Rattle.sb_exec.specs.Operand.{next_rip}
 use Rattle.sb_memory.specs.Words.{put_word}
 use Rattle.sb_tramp.specs.declared.record_words.RecordWords.{RecordWords}
 use Rattle.sb_trace.specs.declared.event.Event.TheVariants.{Printed, Sys, Exit, ServerExit}
-use Rattle.sb_trace.specs.declared.end.EndKind.TheVariants.{Ended}
-use Rattle.sb_trace.specs.declared.page.Page.{Page}
-use Rattle.sb_trace.specs.declared.page.PageName.{PageName}
-use Rattle.sb_trace.specs.declared.page.PageName.TheVariants.{Heap, Pool, ServerStack, Buffer, Record, Scratch}
-use Rattle.sb_trace.specs.declared.state.Binding.{Binding}
-use Rattle.sb_trace.specs.declared.state.Registration.{Registration}
-use Rattle.sb_trace.specs.declared.state.Thread.{Thread}
-use Rattle.sb_trace.specs.PageName.{same_name}
-use Rattle.sb_trace.specs.State.{State, Process, thread_at, with_thread, with_regs, with_end, process_at, registration_at}
-use Rattle.sb_trace.specs.PageWords.{zeros, with_word}
-use Rattle.sb_trace.specs.Registers.{rax, rsi, rdi}
+use Rattle.sb_state.specs.declared.end_kind.EndKind.TheVariants.{Ended}
+use Rattle.sb_state.specs.declared.page.Page.{Page}
+use Rattle.sb_state.specs.declared.page.PageName.{PageName}
+use Rattle.sb_state.specs.declared.page.PageName.TheVariants.{Heap, Pool, ServerStack, Buffer, Record, Scratch}
+use Rattle.sb_state.specs.declared.state.Binding.{Binding}
+use Rattle.sb_state.specs.declared.state.Registration.{Registration}
+use Rattle.sb_state.specs.declared.state.Thread.{Thread}
+use Rattle.sb_state.specs.PageName.{same_name}
+use Rattle.sb_state.specs.State.{State, Process, thread_at, with_thread, with_regs, with_end, process_at, registration_at}
+use Rattle.sb_state.specs.PageWords.{zeros, with_word}
+use Rattle.sb_state.specs.Registers.{rax, rsi, rdi}
 use Rattle.sb_trace.specs.Home.{Outcome, sent_home}
 use Rattle.sb_trace.specs.KernelCall.{handler_in}
-use Rattle.sb_trace.specs.Windows.{present_of}
+use Rattle.sb_state.specs.Windows.{present_of}
 use Rattle.sb_trace.specs.Start.{named, pages_from, record_bytes}
-use Rattle.sb_trace.specs.Pattern.{heap_pattern}
+use Rattle.sb_state.specs.Pattern.{heap_pattern}
 
 -- ---- registers
 

@@ -1,6 +1,6 @@
 //! The text of each kind of line, and of a thread in flight.
 
-use crate::{
+use sb_trace::{
     EndKind, EndState, Event, Line, Lines, ThreadEnd, ThreadEnds, VMFUNC_PHASE, is_landing,
     report_text,
 };
