@@ -74,7 +74,7 @@ fn first_place(before: &[u8], bytes: &[u8], behind: &[u8]) -> Option<usize>
 }
 
 /// The lowest address at which the pattern stands in a heap page or across its border with an executable one.
-#[tactic(auto, unfolding(sb_trace::specs::Pattern::heap_pattern))]
+#[tactic(auto, unfolding(sb_state::specs::Pattern::heap_pattern))]
 pub fn heap_pattern(state: &Plain, process: u32, page: u32) -> Option<u64>
     requires { page + 1 < 2 ^ 32 }
     ensures { result ≡ pattern_by state.now process page }

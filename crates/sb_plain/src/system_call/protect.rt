@@ -21,7 +21,7 @@ const WRITE: u64 = 0;
 
 const EXECUTE: u64 = 1;
 
-#[tactic(auto, unfolding(sb_trace::specs::State::process_at))]
+#[tactic(auto, unfolding(sb_state::specs::State::process_at))]
 fn heap_count(state: &Plain, process: u32) -> u32
     ensures { result ≡ pages_of_heap (process_at state.now process) }
 {

@@ -35,7 +35,7 @@ const EXIT_STUB: u64 = 0x7000_0000;
 
 // ---- refusals
 
-#[tactic(auto, unfolding(sb_trace::specs::State::process_at))]
+#[tactic(auto, unfolding(sb_state::specs::State::process_at))]
 fn is_start(state: &Plain, process: u32, address: u64) -> bool
     ensures { result ≡ is_start_of (process_at state.now process) address }
 {
@@ -110,7 +110,7 @@ fn note_registration(processes: &mut [Process], process: u32, registration: Regi
     }
 }
 
-#[tactic(auto, unfolding(sb_trace::specs::State::process_at))]
+#[tactic(auto, unfolding(sb_state::specs::State::process_at))]
 fn set_registration(state: &mut Plain, process: u32, registration: Registration)
     ensures { state.new ≡ record state.old { processes = with_registration (process_at state.old process) state.old.processes process registration } }
 {
@@ -118,7 +118,7 @@ fn set_registration(state: &mut Plain, process: u32, registration: Registration)
 }
 
 // The process has so many stacks, all of them free.
-#[tactic(auto, unfolding(sb_trace::specs::SystemCall::with_server, sb_trace::specs::State::process_at, sb_trace::specs::PageWords::with_word, sb_trace::specs::State::with_contents))]
+#[tactic(auto, unfolding(sb_trace::specs::SystemCall::with_server, sb_state::specs::State::process_at, sb_state::specs::PageWords::with_word, sb_state::specs::State::with_contents))]
 fn make_server(state: &mut Plain, process: u32, handler: u64, stacks: u32)
     requires count { stacks ≤ 16 }
     requires frames { 4 * stacks ≤ state.old.free }
