@@ -7,7 +7,7 @@ use Rattle.sb_insn.specs.declared.insn.Insn.{Insn}
 use Rattle.sb_insn.specs.Spelling.{spelling}
 use Rattle.sb_insn.specs.Grammar.{IsValid}
 use Rattle.sb_decode.proofs.Exact.{none_begins_another}
-use Rattle.sb_exec.specs.declared.stop.BusStop.{BusStop}
+use Rattle.sb_bus.specs.declared.stop.BusStop.{BusStop}
 use Rattle.sb_exec.specs.Fetching.{further, Stands, HasShortFronts, Fetches, FetchesOn, fetch_of, after_fetches}
 use Rattle.sb_tramp.specs.Page.{Row, StandsIn}
 use Rattle.sb_tramp.specs.Server.{server_page}

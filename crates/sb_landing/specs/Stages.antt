@@ -2,7 +2,7 @@
 use Rattle.std.specs.Prelude.{ℕ, ◌+◌, ◌-◌, ◌*◌, ◌^◌, List, [], ◌∷◌, false, Option, Some, None, slice_index, bit_and}
 use Rattle.sb_insn.specs.declared.registers.Flags.{Flags}
 use Rattle.sb_insn.specs.declared.registers.Regs.{Regs}
-use Rattle.sb_exec.specs.declared.size.Size.TheVariants.{Quad}
+use Rattle.sb_alu.specs.declared.size.Size.TheVariants.{Quad}
 use Rattle.sb_exec.specs.Arithmetic.{logical, added}
 use Rattle.sb_exec.specs.Shift.{shifted_left}
 use Rattle.sb_state.specs.declared.state.Decision.{Decision}

@@ -7,10 +7,10 @@ use Rattle.std.proofs.lemmas.List.Edits.{sets}
 use Rattle.std.proofs.Math.Nat.{pow-suc, div-div-eq-div-mul}
 use Rattle.sb_memory.specs.declared.address.Access.TheVariants.{Write}
 use Rattle.sb_memory.specs.Words.{put_word}
-use Rattle.sb_exec.specs.declared.stop.BusStop.{BusStop}
+use Rattle.sb_bus.specs.declared.stop.BusStop.{BusStop}
 use Rattle.sb_exec.specs.Access.{bytes_from, byte_for, store_answer}
 use Rattle.sb_exec.specs.Fetching.{further}
-use Rattle.sb_exec.proofs.Loads.{stored_where_loaded, stops_where_loaded}
+use Rattle.sb_bus.proofs.Loads.{stored_where_loaded, stops_where_loaded}
 use Rattle.sb_state.specs.declared.page.PageName.{PageName}
 use Rattle.sb_state.specs.declared.page.Page.{Page}
 use Rattle.sb_trace.specs.PageName.{same_name}

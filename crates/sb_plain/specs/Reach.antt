@@ -1,8 +1,8 @@
 -- Which page an access reaches.
 use Rattle.std.specs.Prelude.{ℕ, ◌/◌, Option, Some, None, Result, Ok, Err, if◌then◌else◌}
 use Rattle.sb_memory.specs.declared.address.Access.{Access}
-use Rattle.sb_exec.specs.declared.stop.BusStop.{BusStop}
-use Rattle.sb_exec.specs.declared.stop.FaultKind.TheVariants.{Canon, Memory}
+use Rattle.sb_bus.specs.declared.stop.BusStop.{BusStop}
+use Rattle.sb_bus.specs.declared.stop.FaultKind.TheVariants.{Canon, Memory}
 use Rattle.sb_state.specs.declared.page.PageName.{PageName}
 use Rattle.std.specs.Borrow.{Bor}
 use Rattle.sb_state.specs.declared.page.Page.{Page}

@@ -4,7 +4,7 @@ use sb_trace::{
     EndKind, EndState, Event, Line, Lines, ThreadEnd, ThreadEnds, VMFUNC_PHASE, is_landing,
     report_text,
 };
-use sb_exec::FaultKind;
+use sb_bus::FaultKind;
 use sb_insn::{Flags, Regs};
 use std::test::Fail;
 

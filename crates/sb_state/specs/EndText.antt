@@ -1,7 +1,7 @@
 -- The text of whether a thread goes on, as the report has it.
 use Rattle.std.specs.Prelude.{ℕ, List, ◌++◌, codes, false}
 use Rattle.std.specs.Fmt.{digits, decimal}
-use Rattle.sb_exec.specs.Stop.{fault_kind_text}
+use Rattle.sb_bus.specs.Stop.{fault_kind_text}
 use Rattle.sb_state.specs.declared.end_kind.EndKind.{EndKind}
 use Rattle.sb_state.specs.declared.end_kind.EndKind.TheVariants.{Running, Ended, Faulted}
 

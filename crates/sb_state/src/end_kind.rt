@@ -1,6 +1,6 @@
 //! Whether a thread goes on, and if not, why.
 
-use sb_exec::FaultKind;
+use sb_bus::FaultKind;
 use std::fmt;
 
 /// Whether a thread goes on.

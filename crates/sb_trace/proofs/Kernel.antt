@@ -3,8 +3,8 @@ use Rattle.std.proofs.Common.{◌≡◌, ◌≢◌, ◌∙◌, sym, subst, ℕ, 
 use Rattle.std.specs.Prelude.{Option, Some, None, if◌then◌else◌, nat_le, nat_lt, not, ◌||◌, length}
 use Rattle.sb_insn.specs.declared.insn.Insn.{Insn}
 use Rattle.sb_insn.specs.declared.registers.Regs.{Regs}
-use Rattle.sb_exec.specs.declared.stop.FaultKind.{FaultKind}
-use Rattle.sb_exec.specs.declared.stop.FaultKind.TheVariants as kind
+use Rattle.sb_bus.specs.declared.stop.FaultKind.{FaultKind}
+use Rattle.sb_bus.specs.declared.stop.FaultKind.TheVariants as kind
 use Rattle.sb_trace.specs.declared.event.Event.{Event}
 use Rattle.sb_trace.specs.declared.event.Event.TheVariants.{Fault, ServerFault, ServerExit, Exit, Printed, Sys, Entered, WrongKey, PoolEmpty, Unbound, BadLeaf, Return, Turn, Landing}
 use Rattle.sb_state.specs.declared.end_kind.EndKind.{EndKind}

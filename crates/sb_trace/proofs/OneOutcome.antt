@@ -3,8 +3,8 @@ use Rattle.std.proofs.Common.{◌≡◌, ◌∙◌, sym, ap, subst, ℕ, Result,
 use Rattle.std.specs.Prelude.{Option, Some, None}
 use Rattle.sb_insn.specs.declared.insn.Insn.{Insn}
 use Rattle.sb_insn.specs.declared.registers.Regs.{Regs}
-use Rattle.sb_exec.specs.declared.stop.BusStop.{BusStop}
-use Rattle.sb_exec.specs.declared.stop.BusStop.TheVariants.{Fault as FaultStop, Missing}
+use Rattle.sb_bus.specs.declared.stop.BusStop.{BusStop}
+use Rattle.sb_bus.specs.declared.stop.BusStop.TheVariants.{Fault as FaultStop, Missing}
 use Rattle.sb_exec.specs.declared.action.Effect.{Effect}
 use Rattle.sb_exec.proofs.OneFetch.{one_fetch_on}
 use Rattle.sb_state.specs.declared.end_kind.EndKind.{EndKind}

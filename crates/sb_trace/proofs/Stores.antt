@@ -6,8 +6,8 @@ use Rattle.std.proofs.lemmas.List.{length-set}
 use Rattle.sb_memory.specs.declared.address.Access.TheVariants.{Write}
 use Rattle.sb_memory.specs.Outcome.{and_then, done}
 use Rattle.sb_insn.specs.declared.registers.Regs.{Regs}
-use Rattle.sb_exec.specs.declared.stop.BusStop.{BusStop}
-use Rattle.sb_exec.specs.declared.stop.FaultKind.TheVariants.{Canon}
+use Rattle.sb_bus.specs.declared.stop.BusStop.{BusStop}
+use Rattle.sb_bus.specs.declared.stop.FaultKind.TheVariants.{Canon}
 use Rattle.sb_exec.specs.Access.{bytes_from, store_answer, byte_for}
 use Rattle.sb_exec.specs.Row.{Row}
 use Rattle.sb_exec.specs.Execution.{execution_of}

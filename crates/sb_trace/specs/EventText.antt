@@ -1,7 +1,7 @@
 -- The text of one line: the core, and what happened there.
 use Rattle.std.specs.Prelude.{ℕ, ◌==◌, if◌then◌else◌, List, ◌++◌, codes}
 use Rattle.std.specs.Fmt.{decimal}
-use Rattle.sb_exec.specs.declared.stop.FaultKind.{FaultKind}
+use Rattle.sb_bus.specs.declared.stop.FaultKind.{FaultKind}
 use Rattle.sb_exec.specs.Stop.{fault_kind_text}
 use Rattle.sb_state.specs.EndText.{hex}
 use Rattle.sb_trace.specs.declared.event.Event.{Event}

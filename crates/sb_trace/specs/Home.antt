@@ -1,6 +1,6 @@
 -- How a thread comes home, and what a fault does.
 use Rattle.std.specs.Prelude.{ℕ, ◌==◌, if◌then◌else◌, replicate, slice_set}
-use Rattle.sb_exec.specs.declared.stop.FaultKind.{FaultKind}
+use Rattle.sb_bus.specs.declared.stop.FaultKind.{FaultKind}
 use Rattle.sb_insn.specs.declared.registers.Regs.{Regs}
 use Rattle.sb_trace.specs.declared.event.Event.{Event}
 use Rattle.sb_trace.specs.declared.event.Event.TheVariants.{Fault, ServerFault}
