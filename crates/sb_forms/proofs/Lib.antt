@@ -1,4 +1,4 @@
-pub mod Held
+pub use Rattle.sb_scan.proofs.Held
 pub mod Lowered
 pub mod Spelled
 pub mod Lengths

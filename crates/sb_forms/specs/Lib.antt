@@ -1,4 +1,4 @@
-pub mod Holding
+pub use Rattle.sb_scan.specs.Holding
 pub mod Rex
 pub mod Registers
 pub mod Pieces

@@ -6,8 +6,8 @@ use Rattle.std.proofs.lemmas.Bool.{false≢true}
 use Rattle.std.proofs.lemmas.List.{set_past, length-replicate}
 use Rattle.std.proofs.lemmas.List.Elements.{All-pop, All-push, All-same, All-set}
 use Rattle.std.proofs.lemmas.Grind.{common_steps}
-use Rattle.sb_trace.specs.declared.page.PageName.{PageName}
-use Rattle.sb_trace.specs.declared.page.Page.{Page}
+use Rattle.sb_state.specs.declared.page.PageName.{PageName}
+use Rattle.sb_state.specs.declared.page.Page.{Page}
 use Rattle.sb_trace.specs.PageName.{same_name}
 use Rattle.sb_trace.specs.State.{find_page, replaced, bytes_of}
 use Rattle.sb_trace.specs.PageWords.{zeros}

@@ -96,7 +96,7 @@ impl Model for Pages {
 }
 
 /// Bytes of zero for a page.
-#[tactic(auto, unfolding(sb_trace::specs::PageWords::zeros))]
+#[tactic(auto, unfolding(sb_state::specs::PageWords::zeros))]
 pub fn zero_bytes(alloc: Global) -> Result<PageBytes, AllocError>
     ensures bytes { IfOk result (λ bytes. bytes ≡ zeros) }
     ensures size { IfOk result (λ bytes. length bytes ≡ 4096) }

@@ -12,15 +12,16 @@ use Rattle.sb_pagewalk.specs.TableSet.{table_frame}
 use Rattle.sb_pagewalk.specs.Standing.{HasTables}
 use Rattle.sb_root.specs.declared.root_kernel.RootKernel.{RootKernel}
 use Rattle.sb_root.specs.Standing.{IsApart, IsBooked, Stands}
-use Rattle.sb_trace.specs.declared.page.PageName.{PageName}
-use Rattle.sb_trace.specs.declared.page.PageName.TheVariants.{Heap}
-use Rattle.sb_trace.specs.declared.page.Page.{Page}
+use Rattle.sb_state.specs.declared.page.PageName.{PageName}
+use Rattle.sb_state.specs.declared.page.PageName.TheVariants.{Heap}
+use Rattle.sb_state.specs.declared.page.Page.{Page}
 use Rattle.sb_trace.specs.PageName.{same_name, mode_of}
 use Rattle.sb_trace.specs.State.{State, Process, find_page, process_at}
 use Rattle.sb_trace.specs.Pattern.{heap_pattern}
 use Rattle.sb_trace.specs.SyscallProtect.{heap_count, with_mode, protected}
-use Rattle.sb_trace.proofs.Names.{name_same}
-use Rattle.sb_trace.proofs.Pages.{mode_same, mode_other, with_executable}
+use Rattle.sb_state.proofs.Names.{name_same}
+use Rattle.sb_state.proofs.Pages.{with_executable}
+use Rattle.sb_trace.proofs.Modes.{mode_same, mode_other}
 use Rattle.sb_abi.specs.declared.call.CallRefusal.{CallRefusal}
 use Rattle.sb_abi.specs.declared.call.CallRefusal.TheVariants.{BadPage, BadMode}
 use Rattle.sb_calls.specs.Refusals.{protect_refusal}

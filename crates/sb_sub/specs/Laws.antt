@@ -3,10 +3,10 @@ use Rattle.std.specs.Prelude.{ℕ, ◌≡◌, ◌+◌, slice_get, slice_set, ◌
 use Rattle.sb_memory.specs.Physical.{Physical}
 use Rattle.sb_frames.specs.Book.{Book, free_count}
 use Rattle.sb_root.specs.declared.root_kernel.RootKernel.{RootKernel}
-use Rattle.sb_trace.specs.declared.page.Mode.TheVariants.{ReadWrite}
-use Rattle.sb_trace.specs.declared.page.Page.{Page}
-use Rattle.sb_trace.specs.declared.page.PageName.{PageName}
-use Rattle.sb_trace.specs.declared.page.PageName.TheVariants.{Pool, ServerStack}
+use Rattle.sb_state.specs.declared.page.Mode.TheVariants.{ReadWrite}
+use Rattle.sb_state.specs.declared.page.Page.{Page}
+use Rattle.sb_state.specs.declared.page.PageName.{PageName}
+use Rattle.sb_state.specs.declared.page.PageName.TheVariants.{Pool, ServerStack}
 use Rattle.sb_trace.specs.PageName.{mode_of}
 use Rattle.sb_trace.specs.Start.{named}
 use Rattle.sb_trace.specs.State.{State, Process, find_page, process_at}

@@ -5,7 +5,7 @@ ghost use Rattle.sb_memory.specs.Physical.{HasSize, frame_count};
 ghost use Rattle.sb_memory.specs.Changes.{SameOutside};
 ghost use Rattle.sb_frames.specs.Book.{IsLowestFree, free_count, with_holder};
 ghost use Rattle.sb_pagewalk.specs.Windows.{IsInWindow};
-ghost use Rattle.sb_trace.specs.declared.page.Mode.TheVariants.{ReadWrite};
+ghost use Rattle.sb_state.specs.declared.page.Mode.TheVariants.{ReadWrite};
 ghost use Rattle.sb_shows.specs.Placement.{leaf_for};
 ghost use Rattle.sb_sub.specs.Carries.{TakesStacks, stack_at, stack_top};
 ghost use Rattle.sb_sub.specs.Taking.{CanTake, TakesPage, top_bytes};

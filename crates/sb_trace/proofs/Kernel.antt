@@ -2,22 +2,22 @@
 use Rattle.std.proofs.Common.{◌≡◌, ◌≢◌, ◌∙◌, sym, subst, ℕ, ◌-◌, ◌*◌, ◌^◌, Bool, true, false, List, [], ◌∷◌, ◌++◌, ◌==◌, refl, arith, inl, inr}
 use Rattle.std.specs.Prelude.{Option, Some, None, if◌then◌else◌, nat_le, nat_lt, not, ◌||◌, length}
 use Rattle.sb_insn.specs.declared.registers.Regs.{Regs}
-use Rattle.sb_exec.specs.declared.stop.FaultKind.{FaultKind}
-use Rattle.sb_exec.specs.declared.stop.FaultKind.TheVariants as kind
+use Rattle.sb_bus.specs.declared.stop.FaultKind.{FaultKind}
+use Rattle.sb_bus.specs.declared.stop.FaultKind.TheVariants as kind
 use Rattle.sb_trace.specs.declared.event.Event.{Event}
 use Rattle.sb_trace.specs.declared.event.Event.TheVariants.{Fault, ServerFault, ServerExit, Exit, Printed, Sys, Entered, WrongKey, PoolEmpty, Unbound, BadLeaf, Return, Turn, Landing}
-use Rattle.sb_trace.specs.declared.end.EndKind.{EndKind}
-use Rattle.sb_trace.specs.declared.end.EndKind.TheVariants.{Ended, Faulted}
-use Rattle.sb_trace.specs.declared.page.PageName.TheVariants.{Pool}
-use Rattle.sb_trace.specs.declared.state.Binding.{Binding}
-use Rattle.sb_trace.specs.declared.state.Thread.{Thread}
-use Rattle.sb_trace.specs.State.{State, thread_at, with_thread, with_regs, with_end, with_view, process_at, registration_at, with_contents}
-use Rattle.sb_trace.specs.PageWords.{with_word}
-use Rattle.sb_trace.specs.Registers.{rax, rsi, rdi, eax, ecx}
+use Rattle.sb_state.specs.declared.end_kind.EndKind.{EndKind}
+use Rattle.sb_state.specs.declared.end_kind.EndKind.TheVariants.{Ended, Faulted}
+use Rattle.sb_state.specs.declared.page.PageName.TheVariants.{Pool}
+use Rattle.sb_state.specs.declared.state.Binding.{Binding}
+use Rattle.sb_state.specs.declared.state.Thread.{Thread}
+use Rattle.sb_state.specs.State.{State, thread_at, with_thread, with_regs, with_end, with_view, process_at, registration_at, with_contents}
+use Rattle.sb_state.specs.PageWords.{with_word}
+use Rattle.sb_state.specs.Registers.{rax, rsi, rdi, eax, ecx}
 use Rattle.sb_trace.specs.Home.{Outcome, faulted, faulted_home, home_address}
 use Rattle.sb_trace.specs.KernelCall.{binding_in, pool_word, refused, not_switched, lowest_bit, entered, entered_regs, taken, called_through, switched_by, kernel_call, handler_in}
-use Rattle.sb_trace.specs.Windows.{present_of, server_of}
-use Rattle.sb_trace.specs.Pattern.{heap_pattern}
+use Rattle.sb_state.specs.Windows.{present_of, server_of}
+use Rattle.sb_state.specs.Pattern.{heap_pattern}
 use Rattle.sb_abi.specs.declared.call.CallRefusal.{CallRefusal}
 use Rattle.sb_abi.specs.declared.call.CallRefusal.TheVariants as refusal
 use Rattle.sb_abi.specs.Numbers.{refusal_number}
@@ -29,9 +29,10 @@ use Rattle.sb_trace.specs.SyscallProtect.{protected, made_executable, protects_b
 use Rattle.sb_trace.specs.Syscall.{exited, called_by, called}
 use Rattle.sb_trace.specs.Sound.{HasView}
 use Rattle.sb_trace.specs.Changes.{OnlyThreads, LineChanges, StepChanges}
-use Rattle.sb_trace.proofs.Cases.{claim_if}
-use Rattle.sb_trace.proofs.Names.{number}
-use Rattle.sb_trace.proofs.Threads.{thread_set, only_thread, only_both, only_none, bound_there, view_bound}
+use Rattle.sb_state.proofs.Cases.{claim_if}
+use Rattle.sb_state.proofs.Names.{number}
+use Rattle.sb_state.proofs.Threads.{thread_set}
+use Rattle.sb_trace.proofs.Threads.{only_thread, only_both, only_none, bound_there, view_bound}
 
 -- a line of no landing
 abbrev pub IsOwn : Event → Type 0

@@ -6,10 +6,10 @@ use Rattle.sb_memory.specs.declared.address.Access.{Access}
 use Rattle.sb_insn.specs.declared.insn.Insn.{Insn}
 use Rattle.sb_insn.specs.declared.insn.Op.TheVariants.{Vmfunc}
 use Rattle.sb_insn.specs.declared.registers.Regs.{Regs}
-use Rattle.sb_exec.specs.declared.stop.BusStop.{BusStop}
-use Rattle.sb_exec.specs.declared.stop.BusStop.TheVariants.{Fault as FaultStop, Missing}
-use Rattle.sb_exec.specs.declared.stop.FaultKind.{FaultKind}
-use Rattle.sb_exec.specs.declared.stop.FaultKind.TheVariants as kind
+use Rattle.sb_bus.specs.declared.stop.BusStop.{BusStop}
+use Rattle.sb_bus.specs.declared.stop.BusStop.TheVariants.{Fault as FaultStop, Missing}
+use Rattle.sb_bus.specs.declared.stop.FaultKind.{FaultKind}
+use Rattle.sb_bus.specs.declared.stop.FaultKind.TheVariants as kind
 use Rattle.sb_exec.specs.declared.action.Effect.{Effect}
 use Rattle.sb_exec.specs.declared.action.Effect.TheVariants.{Next, Syscall, Switch, Undefined}
 use Rattle.sb_exec.specs.Rows.{row_of}
@@ -21,17 +21,17 @@ use Rattle.sb_tramp.specs.Forms.{opcode_alone}
 use Rattle.sb_trace.specs.declared.event.Event.{Event}
 use Rattle.sb_trace.specs.declared.event.Event.TheVariants.{Step as StepLine, Idle, Landing}
 use Rattle.sb_trace.specs.declared.event.Line.{Line}
-use Rattle.sb_trace.specs.declared.end.EndKind.{EndKind}
-use Rattle.sb_trace.specs.declared.end.EndKind.TheVariants.{Running, Ended, Faulted}
-use Rattle.sb_trace.specs.declared.state.Binding.{Binding}
-use Rattle.sb_trace.specs.declared.state.Decision.{Decision}
-use Rattle.sb_trace.specs.declared.state.Flight.{Flight}
-use Rattle.sb_trace.specs.declared.state.Thread.{Thread}
-use Rattle.sb_trace.specs.State.{State, contents, with_contents, thread_at, no_thread, with_regs, with_end, with_view, flight_at, with_flight, process_at, registration_at}
-use Rattle.sb_trace.specs.PageWords.{with_word}
-use Rattle.sb_trace.specs.Windows.{shown, shown_by, page_seen, present_of}
-use Rattle.sb_trace.specs.PlainMemory.{Placed, placed, placed_at, put_byte, put_all, plain, plain_byte, plain_stored}
-use Rattle.sb_trace.specs.Registers.{rax, rsi, rdi, eax, ecx}
+use Rattle.sb_state.specs.declared.end_kind.EndKind.{EndKind}
+use Rattle.sb_state.specs.declared.end_kind.EndKind.TheVariants.{Running, Ended, Faulted}
+use Rattle.sb_state.specs.declared.state.Binding.{Binding}
+use Rattle.sb_state.specs.declared.state.Decision.{Decision}
+use Rattle.sb_state.specs.declared.state.Flight.{Flight}
+use Rattle.sb_state.specs.declared.state.Thread.{Thread}
+use Rattle.sb_state.specs.State.{State, contents, with_contents, thread_at, no_thread, with_regs, with_end, with_view, flight_at, with_flight, process_at, registration_at}
+use Rattle.sb_state.specs.PageWords.{with_word}
+use Rattle.sb_state.specs.Windows.{shown, shown_by, page_seen, present_of}
+use Rattle.sb_state.specs.PlainMemory.{Placed, placed, placed_at, put_byte, put_all, plain, plain_byte, plain_stored}
+use Rattle.sb_state.specs.Registers.{rax, rsi, rdi, eax, ecx}
 use Rattle.sb_trace.specs.Home.{Outcome, faulted}
 use Rattle.sb_abi.specs.declared.call.CallRefusal.{CallRefusal}
 use Rattle.sb_abi.specs.declared.call.CallRefusal.TheVariants.{Pattern}
@@ -44,13 +44,13 @@ use Rattle.sb_trace.specs.SyscallProtect.{heap_count, protected, made_executable
 use Rattle.sb_trace.specs.Syscall.{exited, called_by, called}
 use Rattle.sb_trace.specs.KernelCall.{binding_in, pool_word, refused, not_switched, returned_home, taken, called_through, switched_by, kernel_call}
 use Rattle.sb_trace.specs.Flight.{flight_binding, is_key, bound_pool, decided_at, landed, flown, called_binding, switched_into, switched}
-use Rattle.sb_trace.specs.Pattern.{heap_pattern}
+use Rattle.sb_state.specs.Pattern.{heap_pattern}
 use Rattle.sb_trace.specs.Run.{RunBy}
 use Rattle.sb_trace.specs.Step.{StopsWith, PerformsBy, FollowsFetch, Performs, RunsOn, executed, GoesOn, StepsBy}
 use Rattle.sb_trace.specs.OneStep.{StepsOnceBy, StepsOnce, StepsAlike, without_flights, with_line, without_landings, core_of}
 use Rattle.sb_trace.specs.Sound.{HasView, StandsAtSwitch, IsDecidedSound, IsFlightSound, IsSound}
 use Rattle.sb_trace.specs.Laws.{LandingsDrop, StepsDrop}
-use Rattle.sb_trace.proofs.Cases.{none_some}
+use Rattle.sb_state.proofs.Cases.{none_some}
 use Rattle.sb_exec.specs.Operand.{next_rip}
 use Rattle.sb_trace.proofs.Kernel.{IsOwn, did_fault, did_call, did_syscall}
 use Rattle.sb_trace.proofs.Phases.{decides_no_more}

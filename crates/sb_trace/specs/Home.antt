@@ -1,12 +1,12 @@
 -- How a thread comes home, and what a fault does.
 use Rattle.std.specs.Prelude.{ℕ, ◌==◌, if◌then◌else◌}
-use Rattle.sb_exec.specs.declared.stop.FaultKind.{FaultKind}
+use Rattle.sb_bus.specs.declared.stop.FaultKind.{FaultKind}
 use Rattle.sb_abi.specs.declared.trampoline.TheConstants.{RETURN_ADDRESS}
 pub use Rattle.sb_calls.specs.SyscallRegisters.{faulted_home}
 use Rattle.sb_trace.specs.declared.event.Event.{Event}
 use Rattle.sb_trace.specs.declared.event.Event.TheVariants.{Fault, ServerFault}
-use Rattle.sb_trace.specs.declared.end.EndKind.TheVariants.{Faulted}
-use Rattle.sb_trace.specs.State.{State, thread_at, with_view, with_end}
+use Rattle.sb_state.specs.declared.end_kind.EndKind.TheVariants.{Faulted}
+use Rattle.sb_state.specs.State.{State, thread_at, with_view, with_end}
 
 -- what a step does: its line, and the state after it
 abbrev pub Outcome : Type 0

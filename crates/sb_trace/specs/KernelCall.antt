@@ -5,16 +5,16 @@ use Rattle.sb_insn.specs.declared.registers.Regs.{Regs}
 use Rattle.sb_abi.specs.declared.call.CallStatus.TheVariants as status
 use Rattle.sb_abi.specs.declared.space.TheConstants.{FIRST_STACK_TOP, STACK_DISTANCE}
 use Rattle.sb_abi.specs.Numbers.{status_number}
-use Rattle.sb_exec.specs.declared.stop.FaultKind.TheVariants as kind
+use Rattle.sb_bus.specs.declared.stop.FaultKind.TheVariants as kind
 use Rattle.sb_trace.specs.declared.event.Event.{Event}
 use Rattle.sb_trace.specs.declared.event.Event.TheVariants.{Entered, WrongKey, PoolEmpty, Unbound, BadLeaf, Return, Turn}
-use Rattle.sb_trace.specs.declared.page.PageName.TheVariants.{Pool}
-use Rattle.sb_trace.specs.declared.state.Binding.{Binding}
-use Rattle.sb_trace.specs.declared.state.Registration.{Registration}
-use Rattle.sb_trace.specs.declared.state.Thread.{Thread}
-use Rattle.sb_trace.specs.State.{State, thread_at, with_view, registration_at}
-use Rattle.sb_trace.specs.PageWords.{word_in, with_word}
-use Rattle.sb_trace.specs.Registers.{eax, ecx, rsi, zero_flags}
+use Rattle.sb_state.specs.declared.page.PageName.TheVariants.{Pool}
+use Rattle.sb_state.specs.declared.state.Binding.{Binding}
+use Rattle.sb_state.specs.declared.state.Registration.{Registration}
+use Rattle.sb_state.specs.declared.state.Thread.{Thread}
+use Rattle.sb_state.specs.State.{State, thread_at, with_view, registration_at}
+use Rattle.sb_state.specs.PageWords.{word_in, with_word}
+use Rattle.sb_state.specs.Registers.{eax, ecx, rsi, zero_flags}
 use Rattle.sb_trace.specs.Home.{Outcome, home_address, faulted}
 
 -- ---- what a call looks at

@@ -3,12 +3,12 @@ use Rattle.std.specs.Prelude.{ℕ, ◌==◌, if◌then◌else◌}
 use Rattle.sb_insn.specs.declared.registers.Regs.{Regs}
 use Rattle.sb_abi.specs.declared.call.CallRefusal.TheVariants.{NoCall}
 use Rattle.sb_trace.specs.declared.event.Event.TheVariants.{Printed, Exit, ServerExit}
-use Rattle.sb_trace.specs.declared.end.EndKind.TheVariants.{Ended}
-use Rattle.sb_trace.specs.declared.state.Thread.{Thread}
-use Rattle.sb_trace.specs.State.{State, thread_at, with_regs, with_end}
-use Rattle.sb_trace.specs.Registers.{rax, rsi, rdi}
+use Rattle.sb_state.specs.declared.end_kind.EndKind.TheVariants.{Ended}
+use Rattle.sb_state.specs.declared.state.Thread.{Thread}
+use Rattle.sb_state.specs.State.{State, thread_at, with_regs, with_end}
+use Rattle.sb_state.specs.Registers.{rax, rsi, rdi}
 use Rattle.sb_trace.specs.Home.{Outcome, sent_home}
-use Rattle.sb_trace.specs.Windows.{present_of}
+use Rattle.sb_state.specs.Windows.{present_of}
 use Rattle.sb_trace.specs.SyscallAnswer.{returned, declined}
 use Rattle.sb_trace.specs.SyscallRegister.{refuses_register, registered}
 use Rattle.sb_trace.specs.SyscallBind.{refuses_bind, bound}

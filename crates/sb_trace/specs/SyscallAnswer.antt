@@ -5,8 +5,8 @@ use Rattle.sb_abi.specs.declared.call.CallRefusal.{CallRefusal}
 use Rattle.sb_abi.specs.Numbers.{refusal_number}
 use Rattle.sb_calls.specs.SyscallRegisters.{answered}
 use Rattle.sb_trace.specs.declared.event.Event.TheVariants.{Sys}
-use Rattle.sb_trace.specs.State.{State, with_regs}
-use Rattle.sb_trace.specs.Registers.{rax}
+use Rattle.sb_state.specs.State.{State, with_regs}
+use Rattle.sb_state.specs.Registers.{rax}
 use Rattle.sb_trace.specs.Home.{Outcome}
 
 -- the thread of this number goes on with the registers after SYSCALL, an answer and a second value

@@ -7,13 +7,13 @@ use Rattle.sb_calls.specs.SyscallRegisters.{bound_regs}
 use Rattle.sb_calls.specs.Views.{server_record}
 use Rattle.sb_tramp.specs.declared.record_words.RecordWords.{RecordWords}
 use Rattle.sb_trace.specs.declared.event.Event.TheVariants.{Sys}
-use Rattle.sb_trace.specs.declared.page.Page.{Page}
-use Rattle.sb_trace.specs.declared.page.PageName.TheVariants.{Buffer, Record, Scratch}
-use Rattle.sb_trace.specs.declared.state.Binding.{Binding}
-use Rattle.sb_trace.specs.declared.state.Thread.{Thread}
-use Rattle.sb_trace.specs.State.{State, with_thread, with_regs, registration_at}
-use Rattle.sb_trace.specs.PageWords.{zeros}
-use Rattle.sb_trace.specs.Registers.{rax, rdi}
+use Rattle.sb_state.specs.declared.page.Page.{Page}
+use Rattle.sb_state.specs.declared.page.PageName.TheVariants.{Buffer, Record, Scratch}
+use Rattle.sb_state.specs.declared.state.Binding.{Binding}
+use Rattle.sb_state.specs.declared.state.Thread.{Thread}
+use Rattle.sb_state.specs.State.{State, with_thread, with_regs, registration_at}
+use Rattle.sb_state.specs.PageWords.{zeros}
+use Rattle.sb_state.specs.Registers.{rax, rdi}
 use Rattle.sb_trace.specs.Home.{Outcome}
 use Rattle.sb_trace.specs.KernelCall.{handler_in}
 use Rattle.sb_trace.specs.Start.{named, pages_from, record_bytes}

@@ -4,13 +4,13 @@ use Rattle.sb_insn.specs.declared.registers.Regs.{Regs}
 use Rattle.sb_abi.specs.declared.call.CallRefusal.{CallRefusal}
 use Rattle.sb_abi.specs.declared.call.CallRefusal.TheVariants.{Pattern}
 use Rattle.sb_calls.specs.Refusals.{protect_refusal}
-use Rattle.sb_trace.specs.declared.page.Page.{Page}
-use Rattle.sb_trace.specs.declared.page.PageName.{PageName}
-use Rattle.sb_trace.specs.declared.page.PageName.TheVariants.{Heap}
-use Rattle.sb_trace.specs.PageName.{same_name}
-use Rattle.sb_trace.specs.State.{State, Process, process_at}
+use Rattle.sb_state.specs.declared.page.Page.{Page}
+use Rattle.sb_state.specs.declared.page.PageName.{PageName}
+use Rattle.sb_state.specs.declared.page.PageName.TheVariants.{Heap}
+use Rattle.sb_state.specs.PageName.{same_name}
+use Rattle.sb_state.specs.State.{State, Process, process_at}
 use Rattle.sb_trace.specs.Home.{Outcome}
-use Rattle.sb_trace.specs.Pattern.{heap_pattern}
+use Rattle.sb_state.specs.Pattern.{heap_pattern}
 use Rattle.sb_trace.specs.SyscallAnswer.{declined, accepted}
 
 -- the pages of a process's heap

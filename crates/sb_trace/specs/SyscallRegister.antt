@@ -6,12 +6,12 @@ use Rattle.sb_abi.specs.declared.space.TheConstants.{TOP_WORD}
 use Rattle.sb_abi.specs.declared.trampoline.TheConstants.{EXIT_STUB}
 use Rattle.sb_calls.specs.Refusals.{register_refusal}
 use Rattle.sb_memory.specs.Words.{put_word}
-use Rattle.sb_trace.specs.declared.page.Page.{Page}
-use Rattle.sb_trace.specs.declared.page.PageName.TheVariants.{Pool, ServerStack}
-use Rattle.sb_trace.specs.declared.state.Registration.{Registration}
-use Rattle.sb_trace.specs.State.{State, Process, process_at, registration_at}
-use Rattle.sb_trace.specs.PageWords.{zeros, with_word}
-use Rattle.sb_trace.specs.Registers.{rsi, rdi}
+use Rattle.sb_state.specs.declared.page.Page.{Page}
+use Rattle.sb_state.specs.declared.page.PageName.TheVariants.{Pool, ServerStack}
+use Rattle.sb_state.specs.declared.state.Registration.{Registration}
+use Rattle.sb_state.specs.State.{State, Process, process_at, registration_at}
+use Rattle.sb_state.specs.PageWords.{zeros, with_word}
+use Rattle.sb_state.specs.Registers.{rsi, rdi}
 use Rattle.sb_trace.specs.Home.{Outcome}
 use Rattle.sb_trace.specs.Start.{named, pages_from}
 use Rattle.sb_trace.specs.SyscallAnswer.{declined, accepted}

@@ -25,7 +25,7 @@ const PAGES: u32 = STACK_PAGES as u32;
 
 // ---- refusals
 
-#[tactic(auto, unfolding(sb_trace::specs::State::process_at))]
+#[tactic(auto, unfolding(sb_state::specs::State::process_at))]
 fn is_start(state: &Plain, process: u32, address: u64) -> bool
     ensures { result ≡ is_start_of (process_at state.now process) address }
 {
@@ -90,7 +90,7 @@ fn note_registration(processes: &mut [Process], process: u32, registration: Regi
     }
 }
 
-#[tactic(auto, unfolding(sb_trace::specs::State::process_at))]
+#[tactic(auto, unfolding(sb_state::specs::State::process_at))]
 fn set_registration(state: &mut Plain, process: u32, registration: Registration)
     ensures { state.new ≡ record state.old { processes = with_registration (process_at state.old process) state.old.processes process registration } }
 {
@@ -98,7 +98,7 @@ fn set_registration(state: &mut Plain, process: u32, registration: Registration)
 }
 
 // The process has so many stacks, all of them free.
-#[tactic(auto, unfolding(sb_trace::specs::SyscallRegister::with_server, sb_trace::specs::State::process_at, sb_trace::specs::PageWords::with_word, sb_trace::specs::State::with_contents))]
+#[tactic(auto, unfolding(sb_trace::specs::SyscallRegister::with_server, sb_state::specs::State::process_at, sb_state::specs::PageWords::with_word, sb_state::specs::State::with_contents))]
 fn make_server(state: &mut Plain, process: u32, handler: u64, stacks: u32)
     requires count { stacks ≤ 16 }
     requires frames { 4 * stacks ≤ state.old.free }
