@@ -5,22 +5,8 @@ ghost use Rattle.sb_calls.specs.SyscallRegisters.{after_syscall as after_syscall
 
 use crate::views::buffer_address;
 use sb_abi::{CallStatus, RETURN_ADDRESS};
+use sb_insn::registers::{R8, R9, R10, R11, RAX, RCX, RDX};
 use sb_insn::{Flags, Regs};
-
-// Numbers of registers (SDM volume 2, section 2.2.1).
-const RAX: usize = 0;
-
-const RCX: usize = 1;
-
-const RDX: usize = 2;
-
-const R8: usize = 8;
-
-const R9: usize = 9;
-
-const R10: usize = 10;
-
-const R11: usize = 11;
 
 /// Bit 1 of RFLAGS, which is always set, and bit 9, IF.
 const FIXED_FLAGS: u64 = 0x202;

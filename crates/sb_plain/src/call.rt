@@ -10,11 +10,12 @@ ghost use Rattle.sb_trace.specs.KernelCall.{binding_in as binding_by_index, pool
 
 use crate::home::fault;
 use crate::pool::{handler_of, pool_word, set_pool_word};
-use crate::registers::{R9, R10, RAX, RCX, RSI, RSP, eax, ecx, zero_result};
+use crate::registers::{eax, ecx, zero_result};
 use crate::state::Plain;
 use sb_abi::{CallStatus, FIRST_STACK_TOP, RETURN_ADDRESS, STACK_DISTANCE};
 use sb_exec::FaultKind;
 use sb_insn::Regs;
+use sb_insn::registers::{R9, R10, RAX, RCX, RSI, RSP};
 use sb_trace::{Binding, Event};
 
 /// The binding with this index.

@@ -21,7 +21,6 @@ ghost use Rattle.sb_trace.specs.Syscall.{exited, called_by, called};
 ghost use Rattle.sb_plain.specs.Declined.{IsDeclined, LeavesAll};
 
 use crate::home::send_home;
-use crate::registers::{RAX, RDI};
 use crate::state::Plain;
 use bind::bind;
 use protect::protect;
@@ -29,6 +28,7 @@ use register::register;
 use sb_abi::CallRefusal;
 use sb_calls::{after_syscall, answered};
 use sb_insn::{Insn, Regs};
+use sb_insn::registers::{RAX, RDI};
 use sb_trace::{EndKind, Event};
 
 // ---- the ways in which a call ends

@@ -7,13 +7,6 @@ ghost use Rattle.sb_sub.specs.Serving.{entered as entered_by};
 use sb_calls::{after_syscall, answered};
 use sb_insn::Regs;
 
-// Numbers of registers (SDM volume 2, section 2.2.1).
-pub const RAX: usize = 0;
-
-pub const RSI: usize = 6;
-
-pub const RDI: usize = 7;
-
 /// The registers after SYSCALL, of a thread that stands at the next instruction.
 pub fn entered(regs: &Regs) -> Regs
     ensures { result ≡ entered_by regs.now }

@@ -2,6 +2,8 @@
 use Rattle.std.specs.Prelude.{ℕ, suc, zero, ◌+◌, ◌-◌, ◌==◌, ◌||◌, Bool, false, List, [], ◌∷◌, ◌++◌, length, drop, Option, Some, None, if◌then◌else◌, slice_index}
 use Rattle.sb_insn.specs.declared.registers.Regs.{Regs}
 use Rattle.sb_abi.specs.declared.call.CallRefusal.{CallRefusal}
+use Rattle.sb_abi.specs.declared.frames.TheConstants.{BIND_FRAMES}
+use Rattle.sb_abi.specs.declared.space.TheConstants.{BUFFER_PAGES}
 use Rattle.sb_calls.specs.Refusals.{bind_refusal}
 use Rattle.sb_calls.specs.SyscallRegisters.{bound_regs}
 use Rattle.sb_calls.specs.Views.{server_record}
@@ -62,13 +64,13 @@ buffer_page thread index page = named (Buffer thread index page) zeros
 -- the pages of a binding's view, and its buffer
 unfoldable pub binding_pages : ℕ → ℕ → RecordWords → List Page
 binding_pages thread index words =
-    named (Record thread index) (record_bytes words) ∷ named (Scratch thread index) zeros ∷ pages_from (buffer_page thread index) 0 4
+    named (Record thread index) (record_bytes words) ∷ named (Scratch thread index) zeros ∷ pages_from (buffer_page thread index) 0 BUFFER_PAGES
 
 -- the view is there, its key is drawn, and its frames are taken
 unfoldable pub with_binding : State → ℕ → Thread → Binding → State
 with_binding state number thread binding = record (with_thread state number (record thread { bindings = thread.bindings ++ binding ∷ [] })) {
   pages = state.pages ++ binding_pages number binding.index (server_words number thread binding (handler_in (registration_at state binding.server)));
-  free = state.free - 10;
+  free = state.free - BIND_FRAMES;
   keys = drop 1 state.keys;
 }
 

@@ -2,7 +2,7 @@
 use Rattle.std.specs.Prelude.{ℕ, ◌+◌, ◌-◌, ◌*◌, ◌%◌, ◌^◌, ◌==◌, ◌||◌, Bool, true, false, List, [], ◌∷◌, ◌++◌, Option, Some, None, if◌then◌else◌, slice_set}
 use Rattle.sb_insn.specs.declared.registers.Regs.{Regs}
 use Rattle.sb_abi.specs.declared.call.CallRefusal.{CallRefusal}
-use Rattle.sb_abi.specs.declared.space.TheConstants.{TOP_WORD}
+use Rattle.sb_abi.specs.declared.space.TheConstants.{STACK_PAGES, TOP_WORD}
 use Rattle.sb_abi.specs.declared.trampoline.TheConstants.{EXIT_STUB}
 use Rattle.sb_calls.specs.Refusals.{register_refusal}
 use Rattle.sb_memory.specs.Words.{put_word}
@@ -42,7 +42,7 @@ refuses_register state view process handler stacks =
 
 -- the bytes of a page of a server stack: the last page of a stack has the address of the exit stub in its top word
 unfoldable pub stack_bytes : ℕ → List ℕ
-stack_bytes page = if page % 4 == 3 then put_word zeros TOP_WORD EXIT_STUB else zeros
+stack_bytes page = if page % STACK_PAGES == STACK_PAGES - 1 then put_word zeros TOP_WORD EXIT_STUB else zeros
 
 -- a page of a server stack
 abbrev pub server_stack_page : ℕ → ℕ → Page
@@ -57,9 +57,9 @@ with_registration (Some process) processes number registration =
 -- the pages of the stacks are there, all of them are free, and their frames are taken
 unfoldable pub with_server : State → ℕ → ℕ → ℕ → State
 with_server state process handler stacks = record (with_word state (Pool process) 0 (2 ^ stacks - 1)) {
-  pages = (with_word state (Pool process) 0 (2 ^ stacks - 1)).pages ++ pages_from (server_stack_page process) 0 (4 * stacks);
+  pages = (with_word state (Pool process) 0 (2 ^ stacks - 1)).pages ++ pages_from (server_stack_page process) 0 (STACK_PAGES * stacks);
   processes = with_registration (process_at state process) state.processes process (record { handler = handler; stacks = stacks });
-  free = state.free - 4 * stacks;
+  free = state.free - STACK_PAGES * stacks;
 }
 
 -- register of a thread by its refusal: the handler is in RDI, the number of stacks in RSI

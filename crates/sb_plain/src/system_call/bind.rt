@@ -8,11 +8,11 @@ ghost use Rattle.sb_trace.specs.SyscallBind.{refuses_bind, has_index as is_index
 use super::decline;
 use crate::pages::Pages;
 use crate::pool::{handler_of, registration_of};
-use crate::registers::{RAX, RDI};
 use crate::state::Plain;
 use sb_abi::{BIND_FRAMES, CallRefusal};
 use sb_calls::{bind_refusal, bound_regs, server_record};
 use sb_insn::Regs;
+use sb_insn::registers::{RAX, RDI};
 use sb_trace::{Binding, Event, PageName, Thread};
 use sb_tramp::RecordWords;
 

@@ -9,12 +9,12 @@ ghost use Rattle.sb_trace.specs.SyscallProtect.{heap_count as pages_of_heap, pro
 
 use super::{accept, decline};
 use crate::pattern::heap_pattern;
-use crate::registers::{RDI, RSI};
 use crate::state::Plain;
 use crate::windows::present_of;
 use sb_abi::CallRefusal;
 use sb_calls::{EXECUTE_MODE, protect_refusal};
 use sb_insn::Regs;
+use sb_insn::registers::{RDI, RSI};
 use sb_trace::{Event, PageName};
 
 #[tactic(auto, unfolding(sb_state::specs::State::process_at))]

@@ -12,12 +12,12 @@ use super::{accept, decline};
 use crate::pages::Pages;
 use crate::pool::{registration_of, set_pool_word};
 use crate::process::Process;
-use crate::registers::{RDI, RSI};
 use crate::state::Plain;
 use crate::windows::present_of;
 use sb_abi::{CallRefusal, EXIT_STUB, STACK_PAGES, TOP_WORD};
 use sb_calls::register_refusal;
 use sb_insn::Regs;
+use sb_insn::registers::{RDI, RSI};
 use sb_trace::{Event, PageName, Registration};
 
 /// The pages of a server stack, as numbers of pages are counted here.
