@@ -21,7 +21,7 @@ use Rattle.sb_trace.specs.PageName.{same_name}
 use Rattle.sb_trace.specs.State.{State, find_page, bytes_of, contents, with_contents, thread_at, no_thread, with_thread, with_regs, flight_at, process_at, registration_at}
 use Rattle.sb_trace.specs.KernelCall.{binding_in, handler_in}
 use Rattle.sb_trace.specs.Start.{record_bytes}
-use Rattle.sb_trace.specs.SystemCall.{server_words}
+use Rattle.sb_trace.specs.SyscallBind.{server_words}
 use Rattle.sb_trace.specs.Step.{executed}
 use Rattle.sb_trace.specs.Windows.{page_seen}
 use Rattle.sb_trace.specs.PlainMemory.{Placed, placed, placed_at, put_byte, put_all, plain, plain_stored}

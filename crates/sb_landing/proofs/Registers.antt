@@ -13,7 +13,7 @@ use Rattle.sb_trace.specs.State.{State, Process, find_page, thread_at, flight_at
 use Rattle.sb_trace.specs.PageWords.{with_word}
 use Rattle.sb_trace.specs.State.{with_contents}
 use Rattle.sb_trace.specs.Start.{pages_from}
-use Rattle.sb_trace.specs.SystemCall.{is_listed, server_stack_page, with_registration, with_server}
+use Rattle.sb_trace.specs.SyscallRegister.{is_listed, server_stack_page, with_registration, with_server}
 use Rattle.sb_state.proofs.Pages.{either, found_added}
 use Rattle.sb_landing.specs.Bound.{HasPoolBytes, HavePools, HaveHandlers, HasWordStarts, IsBound}
 use Rattle.sb_landing.specs.Laws.{CanRegister, RegistrationsKeepBound}

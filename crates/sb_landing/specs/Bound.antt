@@ -11,7 +11,7 @@ use Rattle.sb_state.specs.declared.state.Registration.{Registration}
 use Rattle.sb_trace.specs.State.{State, Process, find_page, thread_at, flight_at, process_at, registration_at}
 use Rattle.sb_trace.specs.KernelCall.{binding_in, handler_in}
 use Rattle.sb_trace.specs.Start.{record_bytes}
-use Rattle.sb_trace.specs.SystemCall.{server_words}
+use Rattle.sb_trace.specs.SyscallBind.{server_words}
 use Rattle.sb_trace.specs.Sound.{HasPage}
 
 -- ---- pages

@@ -7,7 +7,7 @@ ghost use Rattle.sb_memory.specs.Words.{word_at, put_word as word_put};
 ghost use Rattle.sb_trace.specs.State.{find_page, replaced, bytes_of};
 ghost use Rattle.sb_trace.specs.PageWords.{zeros, words_put};
 ghost use Rattle.sb_trace.specs.Start.{named};
-ghost use Rattle.sb_trace.specs.SystemCall.{with_mode};
+ghost use Rattle.sb_trace.specs.SyscallProtect.{with_mode};
 ghost use Rattle.sb_plain.specs.Places.{place_of, equal_names, IsIndex, IsNoted, AreWhole, AreBlank, AreKnown, known_at, KeepsKnown, Remembers};
 ghost use Rattle.sb_plain.specs.Store.{with_pages, with_room, added};
 

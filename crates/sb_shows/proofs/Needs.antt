@@ -6,7 +6,7 @@ use Rattle.sb_state.specs.declared.page.PageName.TheVariants.{Heap, Pool, Server
 use Rattle.sb_state.specs.declared.page.Page.{Page}
 use Rattle.sb_trace.specs.State.{State, Process, find_page, process_at, registration_at}
 use Rattle.sb_trace.specs.Windows.{shown}
-use Rattle.sb_trace.specs.SystemCall.{heap_count}
+use Rattle.sb_trace.specs.SyscallProtect.{heap_count}
 use Rattle.sb_trace.specs.Whole.{IsViewThere, stack_count, IsWhole}
 use Rattle.sb_shows.specs.Placement.{IsThere}
 

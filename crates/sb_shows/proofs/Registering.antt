@@ -19,7 +19,7 @@ use Rattle.sb_state.specs.declared.state.Registration.{Registration}
 use Rattle.sb_trace.specs.PageWords.{zeros, with_word}
 use Rattle.sb_trace.specs.State.{State, Process, find_page, replaced, contents, with_contents, bytes_of, thread_at, process_at}
 use Rattle.sb_trace.specs.Start.{pages_from}
-use Rattle.sb_trace.specs.SystemCall.{stack_bytes, server_stack_page, with_registration, with_server}
+use Rattle.sb_trace.specs.SyscallRegister.{stack_bytes, server_stack_page, with_registration, with_server}
 use Rattle.sb_trace.specs.Windows.{name_at, is_within}
 use Rattle.sb_state.proofs.Names.{name_other}
 use Rattle.sb_state.proofs.Pages.{found_other}

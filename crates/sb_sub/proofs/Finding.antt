@@ -15,7 +15,7 @@ use Rattle.sb_root.specs.declared.root_kernel.RootKernel.{RootKernel}
 use Rattle.sb_state.specs.declared.page.PageName.TheVariants.{Heap}
 use Rattle.sb_state.specs.declared.page.Page.{Page}
 use Rattle.sb_trace.specs.State.{State, Process, find_page}
-use Rattle.sb_trace.specs.SystemCall.{heap_count}
+use Rattle.sb_trace.specs.SyscallProtect.{heap_count}
 use Rattle.sb_trace.specs.Pattern.{heap_pattern, heap_address, first_pattern, pattern_around, bytes_before, bytes_behind, executable_bytes}
 use Rattle.sb_shows.specs.Placement.{IsThere}
 use Rattle.sb_sub.specs.Kernel.{Entry, Kernel, process_of}

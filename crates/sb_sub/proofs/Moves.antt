@@ -12,7 +12,7 @@ use Rattle.sb_state.specs.declared.page.PageName.TheVariants.{Text, Area, Data, 
 use Rattle.sb_state.specs.declared.state.Thread.{Thread}
 use Rattle.sb_trace.specs.State.{State, Process, find_page, thread_at, no_thread}
 use Rattle.sb_trace.specs.Windows.{shown, shown_by}
-use Rattle.sb_trace.specs.SystemCall.{heap_count}
+use Rattle.sb_trace.specs.SyscallProtect.{heap_count}
 use Rattle.sb_shows.specs.Placement.{IsThere}
 use Rattle.sb_shows.specs.Threads.{SameSight}
 use Rattle.sb_shows.proofs.Threads.{keeps_moved}

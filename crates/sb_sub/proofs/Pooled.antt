@@ -29,7 +29,7 @@ use Rattle.sb_trace.specs.PageName.{mode_of, same_name}
 use Rattle.sb_trace.specs.PageWords.{with_word}
 use Rattle.sb_trace.specs.State.{State, Process, find_page, replaced, contents, with_contents, thread_at, process_at}
 use Rattle.sb_trace.specs.Windows.{name_at}
-use Rattle.sb_trace.specs.SystemCall.{with_registration, with_server}
+use Rattle.sb_trace.specs.SyscallRegister.{with_registration, with_server}
 use Rattle.sb_state.proofs.Names.{name_other, name_same}
 use Rattle.sb_state.proofs.Pages.{found_other, found_same, with_bytes as page_with}
 use Rattle.sb_shows.specs.Placement.{Placement, Holds, IsThere, is_own, guest_page, leaf_for, leaf_if, entry_of, entries_of}

@@ -11,7 +11,7 @@ use Rattle.sb_trace.specs.PageName.{same_name}
 use Rattle.sb_trace.specs.PageWords.{with_word}
 use Rattle.sb_trace.specs.State.{find_page, replaced, contents, with_contents}
 use Rattle.sb_trace.specs.Start.{pages_from}
-use Rattle.sb_trace.specs.SystemCall.{server_stack_page, with_server}
+use Rattle.sb_trace.specs.SyscallRegister.{server_stack_page, with_server}
 use Rattle.sb_trace.specs.Windows.{name_at, shown, seen, seen_as, page_seen}
 use Rattle.sb_state.proofs.Names.{name_same}
 use Rattle.sb_state.proofs.Pages.{either, found_added, found_other, found_same, with_bytes as page_with}

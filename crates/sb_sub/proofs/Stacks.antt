@@ -16,7 +16,7 @@ use Rattle.sb_trace.specs.PageName.{mode_of}
 use Rattle.sb_trace.specs.PageWords.{zeros}
 use Rattle.sb_trace.specs.State.{State, find_page}
 use Rattle.sb_trace.specs.Start.{named, pages_from}
-use Rattle.sb_trace.specs.SystemCall.{stack_bytes, server_stack_page}
+use Rattle.sb_trace.specs.SyscallRegister.{stack_bytes, server_stack_page}
 use Rattle.sb_state.proofs.Names.{name_other}
 use Rattle.sb_shows.specs.Placement.{Placement, IsThere, is_own}
 use Rattle.sb_shows.specs.Windows.{page_number}

@@ -14,7 +14,8 @@ use Rattle.sb_trace.specs.PageName.{same_name}
 use Rattle.sb_trace.specs.PageWords.{with_word}
 use Rattle.sb_trace.specs.State.{State, Process, find_page, replaced, contents, with_contents, process_at, registration_of}
 use Rattle.sb_trace.specs.Start.{pages_from}
-use Rattle.sb_trace.specs.SystemCall.{heap_count, server_stack_page, with_registration, with_server}
+use Rattle.sb_trace.specs.SyscallRegister.{server_stack_page, with_registration, with_server}
+use Rattle.sb_trace.specs.SyscallProtect.{heap_count}
 use Rattle.sb_state.proofs.Names.{name_same}
 use Rattle.sb_state.proofs.Pages.{either, found_added, found_other, found_same, with_bytes as page_with}
 use Rattle.sb_shows.specs.Placement.{IsThere}

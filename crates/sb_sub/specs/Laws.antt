@@ -15,7 +15,7 @@ use Rattle.sb_shows.specs.Placement.{Placement}
 use Rattle.sb_shows.specs.Windows.{page_number}
 use Rattle.sb_sub.specs.Carries.{Carries}
 use Rattle.sb_sub.specs.Registering.{FindsPool, RegistersPages, Registered, with_entry}
-use Rattle.sb_trace.specs.SystemCall.{with_server}
+use Rattle.sb_trace.specs.SyscallRegister.{with_server}
 use Rattle.sb_sub.specs.Whole.{ImagePages, IsWhole}
 use Rattle.sb_sub.specs.Taking.{CanTake, TakesPage, top_bytes}
 use Rattle.sb_shows.specs.Related.{HasCores}

@@ -6,7 +6,7 @@ use Rattle.sb_state.specs.declared.state.Registration.{Registration}
 use Rattle.sb_state.specs.declared.state.Thread.{Thread}
 use Rattle.sb_trace.specs.State.{State, Process, registration_of}
 use Rattle.sb_trace.specs.Windows.{shown}
-use Rattle.sb_trace.specs.SystemCall.{heap_count}
+use Rattle.sb_trace.specs.SyscallProtect.{heap_count}
 use Rattle.sb_shows.specs.Placement.{IsThere}
 
 -- the pages of a process's text, area and initial data, which never change

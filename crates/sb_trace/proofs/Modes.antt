@@ -6,7 +6,7 @@ use Rattle.sb_state.specs.declared.page.Page.{Page}
 use Rattle.sb_state.specs.PageName.{same_name}
 use Rattle.sb_state.specs.State.{find_page}
 use Rattle.sb_state.proofs.Pages.{changed, changed_other, changed_same, with_executable}
-use Rattle.sb_trace.specs.SystemCall.{with_mode}
+use Rattle.sb_trace.specs.SyscallProtect.{with_mode}
 
 -- a change of the mode is one change of the page of that name
 pub mode_changes : (pages : List Page) (name : PageName) (executable : Bool) → with_mode pages name executable ≡ changed (with_executable executable) pages name

@@ -34,6 +34,8 @@ use Rattle.sb_state.proofs.Threads.{thread_set}
 use Rattle.sb_trace.proofs.Threads.{only_thread, only_flight, only_both, only_none}
 use Rattle.sb_trace.proofs.Stores.{execution_written}
 use Rattle.sb_trace.proofs.Vmfunc.{vmfunc_stands}
+use Rattle.sb_exec.specs.Operand.{next_rip}
+use Rattle.sb_calls.specs.SyscallRegisters.{after_syscall}
 use Rattle.sb_trace.proofs.Kernel.{Did, did_fault, did_call, did_syscall}
 
 -- ---- an instruction
@@ -74,7 +76,7 @@ performs_claim : (Claim : Outcome → Type 0) (switch : State → ℕ → Outcom
     → Claim (StepLine regs.rip, with_regs state' core regs') → ((outcome : Outcome) → Did state core outcome → Claim outcome)
     → (answer ≡ Ok Switch → Claim (switch state core)) → (outcome : Outcome) → PerformsBy switch state core insn regs answer regs' state' outcome → Claim outcome
 performs_claim Claim switch state core insn regs (Ok Next) regs' state' next own switches outcome is = subst Claim (sym is) next
-performs_claim Claim switch state core insn regs (Ok Syscall) regs' state' next own switches outcome is = subst Claim (sym is) (own _ (did_syscall state core insn regs))
+performs_claim Claim switch state core insn regs (Ok Syscall) regs' state' next own switches outcome is = subst Claim (sym is) (own _ (did_syscall state core (after_syscall (next_rip insn regs) regs)))
 performs_claim Claim switch state core insn regs (Ok Undefined) regs' state' next own switches outcome is =
     subst Claim (sym is) (own _ (did_fault state core kind.Undefined regs.rip))
 performs_claim Claim switch state core insn regs (Ok Switch) regs' state' next own switches outcome is = subst Claim (sym is) (switches refl)

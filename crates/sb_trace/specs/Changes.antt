@@ -15,7 +15,9 @@ use Rattle.sb_state.specs.State.{State, find_page, contents, replaced, thread_at
 use Rattle.sb_state.specs.Windows.{page_seen, present_of, server_of}
 use Rattle.sb_trace.specs.Start.{pages_from}
 use Rattle.sb_state.specs.Pattern.{heap_pattern}
-use Rattle.sb_trace.specs.SystemCall.{server_stack_page, binding_pages, with_mode}
+use Rattle.sb_trace.specs.SyscallRegister.{server_stack_page}
+use Rattle.sb_trace.specs.SyscallBind.{binding_pages}
+use Rattle.sb_trace.specs.SyscallProtect.{with_mode}
 
 -- ---- threads
 

@@ -1,4 +1,8 @@
 pub use Rattle.sb_state.specs.EndText
+pub use Rattle.sb_abi.specs.Numbers
+pub use Rattle.sb_calls.specs.Refusals
+pub use Rattle.sb_calls.specs.Views
+pub use Rattle.sb_calls.specs.SyscallRegisters
 pub mod EventText
 pub mod Report
 pub mod Landing
@@ -14,7 +18,11 @@ pub mod Home
 pub mod KernelCall
 pub mod Flight
 pub use Rattle.sb_state.specs.Pattern
-pub mod SystemCall
+pub mod SyscallAnswer
+pub mod SyscallRegister
+pub mod SyscallBind
+pub mod SyscallProtect
+pub mod Syscall
 pub mod Step
 pub mod OneStep
 pub mod Code

@@ -7,7 +7,7 @@ use Rattle.sb_state.specs.declared.state.Registration.{Registration}
 use Rattle.sb_state.specs.declared.state.Thread.{Thread}
 use Rattle.sb_state.specs.State.{State, find_page, process_at, registration_at}
 use Rattle.sb_state.specs.Windows.{shown}
-use Rattle.sb_trace.specs.SystemCall.{heap_count}
+use Rattle.sb_trace.specs.SyscallProtect.{heap_count}
 
 -- a page of this name is there
 abbrev pub IsPresent : List Page → PageName → Type 0
