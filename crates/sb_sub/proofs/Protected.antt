@@ -20,7 +20,8 @@ use Rattle.sb_trace.specs.State.{State, Process, find_page, process_at}
 use Rattle.sb_trace.specs.Pattern.{heap_pattern}
 use Rattle.sb_trace.specs.SyscallProtect.{heap_count, with_mode, protected}
 use Rattle.sb_state.proofs.Names.{name_same}
-use Rattle.sb_state.proofs.Pages.{mode_same, mode_other, with_executable}
+use Rattle.sb_state.proofs.Pages.{with_executable}
+use Rattle.sb_trace.proofs.Modes.{mode_same, mode_other}
 use Rattle.sb_abi.specs.declared.call.CallRefusal.{CallRefusal}
 use Rattle.sb_abi.specs.declared.call.CallRefusal.TheVariants.{BadPage, BadMode}
 use Rattle.sb_calls.specs.Refusals.{protect_refusal}

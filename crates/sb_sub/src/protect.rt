@@ -33,6 +33,7 @@ fn refusal(process: &Process, memory: &mut Memory, page: u64, mode: u64) -> Opti
     requires finds { FindsHeap memory.old process.now.set process.now.process.heap_pages }
     ensures same { memory.new ≡ memory.old }
     ensures refusal { result ≡ page_refusal process.now.process.heap_pages page mode (pattern_at memory.old process.now.set page process.now.process.heap_pages) }
+    ensures within { IfNone result (page < process.now.process.heap_pages) }
 {
     if let Some(refusal) = protect_refusal(process.heap_pages, page, mode) {
         return Some((refusal, 0));

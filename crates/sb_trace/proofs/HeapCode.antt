@@ -11,7 +11,7 @@ use Rattle.sb_state.specs.declared.page.PageName.TheVariants.{Text, Area, Heap, 
 use Rattle.sb_state.specs.declared.page.Mode.TheVariants as mode
 use Rattle.sb_state.specs.declared.page.Page.{Page}
 use Rattle.sb_state.specs.PageName.{same_name, mode_of, permits}
-use Rattle.sb_state.specs.State.{State, find_page, bytes_of, contents}
+use Rattle.sb_state.specs.State.{State, find_page}
 use Rattle.sb_trace.specs.SyscallProtect.{with_mode}
 use Rattle.sb_state.specs.Pattern.{begins_pattern, first_pattern, executable_bytes, bytes_before, bytes_behind, heap_address, heap_pattern, pattern_around}
 use Rattle.sb_trace.specs.Code.{fetched_byte, code_byte, HasCodePatternAt, HasNoCodePattern}

@@ -1,8 +1,8 @@
-pub use Rattle.sb_state.specs.EndText
 pub use Rattle.sb_abi.specs.Numbers
 pub use Rattle.sb_calls.specs.Refusals
 pub use Rattle.sb_calls.specs.Views
 pub use Rattle.sb_calls.specs.SyscallRegisters
+pub use Rattle.sb_state.specs.EndText
 pub mod EventText
 pub mod Report
 pub mod Landing

@@ -97,7 +97,7 @@ fn draw_key(state: &mut Plain) -> u64
 }
 
 // The thread has a view of a server more, with its pages and a key of its own.
-#[tactic(auto, unfolding(sb_trace::specs::SyscallBind::with_binding, sb_trace::specs::State::thread_at, sb_trace::specs::State::registration_at, sb_trace::specs::State::process_at))]
+#[tactic(auto, unfolding(sb_trace::specs::SyscallBind::with_binding, sb_state::specs::State::thread_at, sb_state::specs::State::registration_at, sb_state::specs::State::process_at))]
 fn make_binding(state: &mut Plain, core: u8, server: u32) -> Binding
     requires inside { core < length state.old.threads }
     requires bindings { length (thread_at state.old core).bindings < 15 }

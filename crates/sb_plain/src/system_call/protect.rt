@@ -17,7 +17,7 @@ use sb_calls::{EXECUTE_MODE, protect_refusal};
 use sb_insn::Regs;
 use sb_trace::{Event, PageName};
 
-#[tactic(auto, unfolding(sb_trace::specs::State::process_at))]
+#[tactic(auto, unfolding(sb_state::specs::State::process_at))]
 fn heap_count(state: &Plain, process: u32) -> u32
     ensures { result ≡ pages_of_heap (process_at state.now process) }
 {

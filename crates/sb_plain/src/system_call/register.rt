@@ -98,7 +98,7 @@ fn set_registration(state: &mut Plain, process: u32, registration: Registration)
 }
 
 // The process has so many stacks, all of them free.
-#[tactic(auto, unfolding(sb_trace::specs::SyscallRegister::with_server, sb_trace::specs::State::process_at, sb_trace::specs::PageWords::with_word, sb_trace::specs::State::with_contents))]
+#[tactic(auto, unfolding(sb_trace::specs::SyscallRegister::with_server, sb_state::specs::State::process_at, sb_state::specs::PageWords::with_word, sb_state::specs::State::with_contents))]
 fn make_server(state: &mut Plain, process: u32, handler: u64, stacks: u32)
     requires count { stacks ≤ 16 }
     requires frames { 4 * stacks ≤ state.old.free }

@@ -15,12 +15,12 @@ returns-in-1-clause-served c = λ state stands view.
 
 pub returns-in-4-clause-served : goal.returns-in-4-clause-served
 returns-in-4-clause-served c = λ state stands view.
-    let by = c.protect_page.ensures.served c.args.book.now state stands in
+    let by = c.protect_page-refusal.ensures.served c.args.book.now state stands in
     let shows = c.shown-process.ensures
         ∙ shown_same c.args.self.now c.args.root.now c.args.book.now c.args.memory.now state c.args.thread c.args.view stands view in
     let now = rw c.answer_of-answer.ensures at c.go_on-in-4.ensures in
-    rw (c.protect_page.ensures.root, c.answer_of-answer.ensures)
-    (protect_served c.protect_page.result c.args.self.now c.args.root.now c.args.book.now c.protect_page.new.memory state c.args.thread
+    rw (c.protect_page-refusal.ensures.root, c.answer_of-answer.ensures)
+    (protect_served c.protect_page-refusal.result c.args.self.now c.args.root.now c.args.book.now c.protect_page-refusal.new.memory state c.args.thread
     c.args.regs.now c.go_on-in-4.new.regs c.shown-process.result by c.requires.thread shows c.in-4.is now)
 
 pub returns-in_default-clause-served : goal.returns-in_default-clause-served
@@ -29,11 +29,13 @@ returns-in_default-clause-served c = λ state stands view.
     let zeroth : rax c.args.regs.now ≢ 0 = search rules in
     let first : rax c.args.regs.now ≢ 1 = search rules in
     let fourth : rax c.args.regs.now ≢ 4 = search rules in
-    subst (Serves c.args.self.now c.args.root.now c.args.book.now c.args.memory.now c.args.thread (Back (rax c.args.regs.now) 21) c.go_on-in_default.new.regs)
+    let now = rw c.number-answer.ensures at c.go_on-in_default.ensures in
+    rw c.number-answer.ensures
+    (subst (Serves c.args.self.now c.args.root.now c.args.book.now c.args.memory.now c.args.thread (Back (rax c.args.regs.now) 21) c.go_on-in_default.new.regs)
     (sym (called_none state c.args.thread (entered c.args.regs.now) (λ is. zeroth (sym same ∙ is)) (λ is. first (sym same ∙ is))
     (λ is. c.requires.built.0 (sym same ∙ is)) (λ is. c.requires.built.1 (sym same ∙ is)) (λ is. fourth (sym same ∙ is))))
     (goes_on _ _ _ _ state c.args.thread (entered c.args.regs.now) c.go_on-in_default.new.regs 21 0 stands c.requires.thread
-    c.go_on-in_default.ensures (Back (rax c.args.regs.now) 21) _ (ap (λ (call : ℕ). event.Sys call 21) (sym same)))
+    now (Back (rax c.args.regs.now) 21) _ (ap (λ (call : ℕ). event.Sys call 21) (sym same))))
 
 pub returns-in-0-clause-served : goal.returns-in-0-clause-served
 returns-in-0-clause-served c = λ state stands view.
