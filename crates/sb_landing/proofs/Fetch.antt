@@ -11,8 +11,8 @@ use Rattle.sb_exec.proofs.OneFetch.{spelled_fetches}
 use Rattle.sb_exec.specs.Fetching.{further, Stands, HasShortFronts, Fetches, FetchesOn, fetch_of, after_fetches}
 use Rattle.sb_tramp.specs.Page.{Row, StandsIn}
 use Rattle.sb_tramp.specs.Server.{server_page}
-use Rattle.sb_trace.specs.declared.page.PageName.TheVariants.{ServerTrampoline}
-use Rattle.sb_trace.specs.declared.page.Mode.TheVariants as mode
+use Rattle.sb_state.specs.declared.page.PageName.TheVariants.{ServerTrampoline}
+use Rattle.sb_state.specs.declared.page.Mode.TheVariants as mode
 use Rattle.sb_trace.specs.PageName.{mode_of}
 use Rattle.sb_trace.specs.State.{State, contents, bytes_of}
 use Rattle.sb_trace.specs.Windows.{name_at, shown, page_seen}

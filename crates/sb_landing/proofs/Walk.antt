@@ -11,7 +11,7 @@ use Rattle.sb_exec.specs.Access.{loaded_from, byte_for}
 use Rattle.sb_exec.specs.Execution.{Execution, execution_of}
 use Rattle.sb_exec.specs.LoadThenStore.{row_load_answer}
 use Rattle.sb_exec.proofs.Accesses.{row_without_store_runs}
-use Rattle.sb_trace.specs.declared.state.Flight.{Flight}
+use Rattle.sb_state.specs.declared.state.Flight.{Flight}
 use Rattle.sb_trace.specs.State.{State, flight_at, with_flight}
 use Rattle.sb_trace.specs.PlainMemory.{plain, plain_byte}
 use Rattle.sb_trace.specs.Step.{executed}

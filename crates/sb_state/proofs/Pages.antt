@@ -1,13 +1,12 @@
 -- Lists of pages whose bytes, or whose mode, are changed, and to which pages are added.
-use Rattle.std.proofs.Common.{◌≡◌, sym, subst, ℕ, Bool, true, false, List, [], ◌∷◌, ◌++◌, refl}
+use Rattle.std.proofs.Common.{◌≡◌, ◌∙◌, ap, sym, subst, ℕ, Bool, true, false, List, [], ◌∷◌, ◌++◌, refl}
 use Rattle.std.specs.Prelude.{Option, Some, None, if◌then◌else◌}
 use Rattle.std.specs.Option.{option_map}
-use Rattle.sb_trace.specs.declared.page.PageName.{PageName}
-use Rattle.sb_trace.specs.declared.page.Page.{Page}
-use Rattle.sb_trace.specs.PageName.{same_name}
-use Rattle.sb_trace.specs.State.{find_page, replaced}
-use Rattle.sb_trace.specs.SystemCall.{with_mode}
-use Rattle.sb_trace.proofs.Names.{name_same}
+use Rattle.sb_state.specs.declared.page.PageName.{PageName}
+use Rattle.sb_state.specs.declared.page.Page.{Page}
+use Rattle.sb_state.specs.PageName.{same_name}
+use Rattle.sb_state.specs.State.{State, find_page, replaced, bytes_of, contents, with_contents}
+use Rattle.sb_state.proofs.Names.{name_same}
 
 -- ---- one page is changed, by name
 
@@ -25,10 +24,6 @@ changed change (page ∷ pages) name = if same_name page.name name then change p
 pub replaced_changes : (pages : List Page) (name : PageName) (bytes : List ℕ) → replaced pages name bytes ≡ changed (with_bytes bytes) pages name
 replaced_changes [] name bytes = refl
 replaced_changes (page ∷ pages) name bytes = rw (replaced_changes pages name bytes) refl
-
-pub mode_changes : (pages : List Page) (name : PageName) (executable : Bool) → with_mode pages name executable ≡ changed (with_executable executable) pages name
-mode_changes [] name executable = refl
-mode_changes (page ∷ pages) name executable = rw (mode_changes pages name executable) refl
 
 -- a change that leaves names
 abbrev pub KeepsNames : (Page → Page) → Type 0
@@ -76,17 +71,6 @@ pub found_same : (pages : List Page) (name : PageName) (bytes : List ℕ)
     → find_page (replaced pages name bytes) name ≡ option_map (with_bytes bytes) (find_page pages name)
 found_same pages name bytes = rw (replaced_changes pages name bytes) (changed_same (with_bytes bytes) (λ page. refl) pages name)
 
--- ---- modes
-
-pub mode_other : (pages : List Page) (name other : PageName) (executable : Bool) → same_name name other ≡ false
-    → find_page (with_mode pages name executable) other ≡ find_page pages other
-mode_other pages name other executable apart =
-    rw (mode_changes pages name executable) (changed_other (with_executable executable) (λ page. refl) pages name other apart)
-
-pub mode_same : (pages : List Page) (name : PageName) (executable : Bool)
-    → find_page (with_mode pages name executable) name ≡ option_map (with_executable executable) (find_page pages name)
-mode_same pages name executable = rw (mode_changes pages name executable) (changed_same (with_executable executable) (λ page. refl) pages name)
-
 -- ---- pages behind others
 
 abbrev pub either : Option Page → Option Page → Option Page
@@ -102,3 +86,52 @@ pub found_added : (pages new : List Page) (name : PageName) → find_page (pages
 found_added [] new name = refl
 found_added (page ∷ pages) new name =
     added_by (same_name page.name name) page (find_page pages name) (find_page (pages ++ new) name) (find_page new name) (found_added pages new name)
+
+-- ---- bytes that are put back, and bytes that are put twice
+
+own_by : (test : Bool) (page : Page) (pages : List Page) (name : PageName) → same_name page.name name ≡ test
+    → replaced pages name (bytes_of (find_page pages name)) ≡ pages
+    → replaced (page ∷ pages) name (bytes_of (find_page (page ∷ pages) name)) ≡ page ∷ pages
+own_by true page pages name is more = rw is refl
+own_by false page pages name is more = rw is (ap (λ (rest : List Page). page ∷ rest) more)
+
+-- a page that is given its own bytes is as before
+pub replaced_own : (pages : List Page) (name : PageName) → replaced pages name (bytes_of (find_page pages name)) ≡ pages
+replaced_own [] name = refl
+replaced_own (page ∷ pages) name = own_by (same_name page.name name) page pages name refl (replaced_own pages name)
+
+twice_by : (test : Bool) (page : Page) (pages : List Page) (name : PageName) (first second : List ℕ)
+    → same_name page.name name ≡ test → replaced (replaced pages name first) name second ≡ replaced pages name second
+    → replaced (replaced (page ∷ pages) name first) name second ≡ replaced (page ∷ pages) name second
+twice_by true page pages name first second is more = rw (is, is) refl
+twice_by false page pages name first second is more = rw (is, is) (ap (λ (rest : List Page). page ∷ rest) more)
+
+-- a page that is given bytes twice has the second
+pub replaced_twice : (pages : List Page) (name : PageName) (first second : List ℕ)
+    → replaced (replaced pages name first) name second ≡ replaced pages name second
+replaced_twice [] name first second = refl
+replaced_twice (page ∷ pages) name first second =
+    twice_by (same_name page.name name) page pages name first second refl (replaced_twice pages name first second)
+
+-- ---- the bytes of a state's page
+
+abbrev with_pages : State → List Page → State
+with_pages state pages = record state { pages = pages }
+
+-- a state in which a page is given its own bytes is as before
+pub contents_own : (state : State) (name : PageName) → with_contents state name (contents state name) ≡ state
+unfolding with_contents contents
+contents_own state name = ap (with_pages state) (replaced_own state.pages name)
+
+-- of bytes that a page is given one after another, the last stay
+pub contents_twice : (state : State) (name : PageName) (first second : List ℕ)
+    → with_contents (with_contents state name first) name second ≡ with_contents state name second
+unfolding with_contents
+contents_twice state name first second = ap (with_pages state) (replaced_twice state.pages name first second)
+
+-- a page that is there has the bytes that it is given
+pub contents_there : (state : State) (name : PageName) (page : Page) (bytes : List ℕ) → find_page state.pages name ≡ Some page
+    → contents (with_contents state name bytes) name ≡ bytes
+unfolding with_contents contents
+contents_there state name page bytes there =
+    ap bytes_of (found_same state.pages name bytes) ∙ ap (λ found. bytes_of (option_map (with_bytes bytes) found)) there

@@ -1,8 +1,8 @@
 -- Words of 8 bytes in pages, the lowest byte first.
 use Rattle.std.specs.Prelude.{ℕ, ◌+◌, List, [], ◌∷◌, replicate}
 use Rattle.sb_memory.specs.Words.{word_at, put_word}
-use Rattle.sb_trace.specs.declared.page.PageName.{PageName}
-use Rattle.sb_trace.specs.State.{State, contents, with_contents}
+use Rattle.sb_state.specs.declared.page.PageName.{PageName}
+use Rattle.sb_state.specs.State.{State, contents, with_contents}
 
 -- a page of zeros
 unfoldable pub zeros : List ℕ

@@ -1,7 +1,7 @@
 //! The threads of the plain machine, and what its processes register.
 
 use crate::bindings::Bindings;
-use crate::end::EndKind;
+use crate::end_kind::EndKind;
 use sb_insn::Regs;
 
 /// What a server told at its registration.

@@ -1,9 +1,9 @@
 -- The first place of the pattern, by the definition and by its places.
-use Rattle.std.proofs.Common.{◌≡◌, ◌∙◌, ℕ, zero, suc, ◌+◌, ◌<◌, ◌==◌, ◌&&◌, Bool, true, false, List, [], ◌∷◌, Option, Some, None, get_or, refl, ap, sym, arith, if◌then◌else◌}
+use Rattle.std.proofs.Common.{◌≡◌, ◌∙◌, ℕ, zero, suc, ◌+◌, ◌==◌, ◌&&◌, Bool, true, false, List, [], ◌∷◌, Option, Some, None, get_or, refl, ap, sym, arith, if◌then◌else◌}
 use Rattle.std.specs.Option.{option_map}
 use Rattle.std.proofs.lemmas.Bool.{and_parts, eqb-true, eq-eqb}
-use Rattle.sb_scan.specs.Pattern.{HasPatternAt, HasFirstPatternAt, HasNoPattern, IsFirstPattern}
-use Rattle.sb_trace.specs.Pattern.{begins_pattern, first_pattern}
+use Rattle.sb_scan.specs.Pattern.{HasPatternAt, IsFirstPattern}
+use Rattle.sb_state.specs.Pattern.{begins_pattern, first_pattern}
 
 begins_there : (bytes : List ℕ) → begins_pattern bytes ≡ true → HasPatternAt bytes 0
 begins_there bytes begins =

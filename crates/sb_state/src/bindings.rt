@@ -17,7 +17,7 @@ pub struct Bindings {
 
 impl Model for Bindings {
     ghost use Rattle.std.specs.Prelude.{List};
-    ghost use Rattle.sb_trace.specs.declared.state.Binding.{Binding};
+    ghost use Rattle.sb_state.specs.declared.state.Binding.{Binding};
 
     ghost Value = { List Binding };
 
