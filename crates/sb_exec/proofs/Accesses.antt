@@ -1,10 +1,11 @@
 -- A row's two steps are the run of its accesses in their order.
-use Rattle.std.proofs.Common.{◌≡◌, ℕ, [], refl, sym}
+use Rattle.std.proofs.Common.{◌≡◌, ◌∙◌, ℕ, [], refl, sym}
 use Rattle.std.specs.Prelude.{Result, Ok, Err}
 use Rattle.sb_memory.specs.Outcome.{and_then}
 use Rattle.sb_insn.specs.declared.registers.Regs.{Regs}
 use Rattle.sb_bus.specs.declared.stop.BusStop.{BusStop}
 use Rattle.sb_exec.specs.declared.action.Effect.{Effect}
+use Rattle.sb_exec.specs.declared.action.Effect.TheVariants.{Next}
 use Rattle.sb_exec.specs.declared.action.Load.{Load}
 use Rattle.sb_exec.specs.declared.action.Load.TheVariants as load
 use Rattle.sb_exec.specs.declared.action.Store.{Store}
@@ -13,7 +14,7 @@ use Rattle.sb_exec.specs.declared.action.After.{After}
 use Rattle.sb_bus.specs.Interface.{Interface}
 use Rattle.sb_exec.specs.Row.{Row, accesses, store_accesses}
 use Rattle.sb_exec.specs.Execution.{Execution, execution_of, execution_by, run, run_on}
-use Rattle.sb_exec.specs.Steps.{load_then_store, store_after_load, effect_if, registers_if}
+use Rattle.sb_exec.specs.LoadThenStore.{load_then_store, store_after_load, effect_if, registers_if, row_load_answer, row_load_account, row_without_store}
 
 -- the row of these parts
 abbrev pub row_from : Load → Store → (ℕ → After) → Effect → Row
@@ -65,3 +66,12 @@ pub two_steps : {M A : Type 0} (bus : Interface M A) (row : Row) (regs : Regs) (
     → execution_of bus row regs meaning account ≡ load_then_store bus row regs meaning account
 unfolding execution_of
 two_steps bus row regs meaning account = sym (parts_run bus row.load row.store row.after row.effect regs meaning account)
+
+-- a row that stores nothing and whose load gives this number changes the registers alone
+pub row_without_store_runs : {M A : Type 0} (bus : Interface M A) (loads : Load) (after : ℕ → Regs) (regs : Regs) (meaning : M) (account : A)
+    (loaded : ℕ) → row_load_answer bus loads meaning ≡ Ok loaded
+    → execution_of bus (row_without_store loads after) regs meaning account
+    ≡ record { answer = Ok Next; registers = after loaded; meaning = meaning; account = row_load_account bus loads meaning account }
+unfolding load_then_store
+row_without_store_runs bus loads after regs meaning account loaded found =
+    two_steps bus (row_without_store loads after) regs meaning account ∙ rw found refl

@@ -15,7 +15,7 @@ use Rattle.sb_bus.specs.Interface.{Interface}
 use Rattle.sb_bus.specs.Access.{where_stored}
 use Rattle.sb_exec.specs.Row.{Row}
 use Rattle.sb_exec.specs.Execution.{Execution, execution_of}
-use Rattle.sb_exec.specs.Steps.{load_then_store, store_after_load, effect_if, registers_if}
+use Rattle.sb_exec.specs.LoadThenStore.{load_then_store, store_after_load, effect_if, registers_if}
 use Rattle.sb_exec.specs.Actions.{action_of}
 use Rattle.sb_exec.specs.Rows.{row_by, row_of, load_of, store_of, after_action, effect_of}
 use Rattle.sb_exec.proofs.Accesses.{row_from, two_steps}

@@ -1,5 +1,4 @@
 pub mod Accesses
-pub mod TestBus
 pub mod Left
 pub mod Named
 pub mod Effects

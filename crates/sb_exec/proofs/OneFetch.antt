@@ -1,11 +1,12 @@
 -- Fetching has one answer.
-use Rattle.std.proofs.Common.{◌≡◌, inl, inr, ℕ, ◌<◌, ◌≤◌, List, [], Result, Ok, Err, length, take, ap, sym, ◌∙◌, subst, arith}
+use Rattle.std.proofs.Common.{◌≡◌, inl, inr, ℕ, ◌+◌, ◌<◌, ◌≤◌, List, [], ◌++◌, Result, Ok, Err, length, take, drop, refl, ap, sym, ◌∙◌, subst, arith, append_assoc}
 use Rattle.std.proofs.lemmas.Bool.{cases_lt}
-use Rattle.std.proofs.lemmas.List.{length-take-le, get_or-take, take_all, append-nil, ext_get_or}
+use Rattle.std.proofs.lemmas.List.{length-take-le, length-append, take-append-drop, get_or-take, take_all, append-nil, ext_get_or}
 use Rattle.sb_insn.specs.declared.insn.Insn.{Insn}
 use Rattle.sb_insn.specs.Spelling.{spelling}
-use Rattle.sb_insn.specs.Grammar.{Spells, BeginsWith, IsShort, IsUndecoded}
-use Rattle.sb_decode.proofs.Exact.{spelled_apart}
+use Rattle.sb_insn.specs.Grammar.{Spells, BeginsWith, IsShort, IsUndecoded, IsValid}
+use Rattle.sb_decode.proofs.Exact.{spelled_apart, none_begins_another}
+use Rattle.sb_decode.proofs.OneAnswer.{short_undecoded}
 use Rattle.sb_bus.specs.declared.stop.BusStop.{BusStop}
 use Rattle.sb_bus.specs.Interface.{Interface}
 use Rattle.sb_exec.specs.Fetching.{further, Stands, HasShortFronts, EndsFetch, Fetches, OneFetch, fetch_of, after_fetches, OneFetchOn}
@@ -41,9 +42,6 @@ spelled_or_undecoded : (bytes : List ℕ) (insn : Insn) → Spells bytes insn �
 spelled_or_undecoded bytes insn spelled undecoded =
     undecoded [] insn (subst (λ (t : List ℕ). BeginsWith t insn) (sym (append-nil bytes)) (begins_self bytes insn spelled))
 
-short_or_undecoded : (bytes : List ℕ) → IsShort bytes → IsUndecoded bytes → ⊥
-short_or_undecoded bytes short undecoded = undecoded short.1.0 short.1.1 short.1.2
-
 -- ---- where fetching ends
 
 -- fetching that ends after some bytes does not go on
@@ -54,7 +52,7 @@ unfolding HasShortFronts
 ends_there fetch address short long (Ok insn) asked ends stands front fronts below =
     spelled_or_short short insn ends.0 (subst (λ (t : List ℕ). IsShort t) front (fronts (length short) below))
 ends_there fetch address short long (Err stop) asked ends stands front fronts below = elim ends [
-  | inl undecoded ↦ short_or_undecoded short (subst (λ (t : List ℕ). IsShort t) front (fronts (length short) below)) undecoded.0
+  | inl undecoded ↦ short_undecoded short (subst (λ (t : List ℕ). IsShort t) front (fronts (length short) below)) undecoded.0
   | inr more ↦ not_both _ stop (fetch (further address (length short))) (stands (length short) below) more.1
 ]
 
@@ -74,10 +72,10 @@ same_end fetch address bytes (Err stop) (Ok insn) asked others ends also = elim 
 same_end fetch address bytes (Err one) (Err two) asked others ends also = elim ends [
   | inl undecoded ↦ elim also [
     | inl again ↦ (ap (λ (stop : BusStop). Err stop) (undecoded.1 ∙ sym again.1), undecoded.2 ∙ sym again.2)
-    | inr more ↦ absurd (short_or_undecoded bytes more.0 undecoded.0)
+    | inr more ↦ absurd (short_undecoded bytes more.0 undecoded.0)
   ]
   | inr more ↦ elim also [
-    | inl undecoded ↦ absurd (short_or_undecoded bytes more.0 undecoded.0)
+    | inl undecoded ↦ absurd (short_undecoded bytes more.0 undecoded.0)
     | inr again ↦ (ap (λ (stop : BusStop). Err stop) (same_err one two _ more.1 again.1), more.2 ∙ sym again.2)
   ]
 ]
@@ -108,3 +106,41 @@ pub one_fetch_on : {M A : Type 0} (bus : Interface M A) → OneFetchOn bus
 one_fetch_on bus meaning address account first_account second_account first second one two =
     let same = one_fetch (fetch_of bus meaning) address first second one.asked two.asked one.fetched two.fetched in
     (same.0, one.account ∙ ap (λ (asked : ℕ). after_fetches bus meaning address asked account) same.1 ∙ sym two.account)
+
+-- ---- where the bytes of an instruction are in memory
+
+-- no instruction is spelled by a proper prefix of another's bytes
+prefix_begins : (insn other : Insn) (count : ℕ) (rest : List ℕ) → IsValid insn → IsValid other → count < length (spelling insn)
+    → take count (spelling insn) ≡ spelling other ++ rest → ⊥
+prefix_begins insn other count rest valid also below front =
+    let behind = drop count (spelling insn) in
+    let whole : spelling insn ≡ spelling other ++ (rest ++ behind) =
+    sym (take-append-drop count (spelling insn)) ∙ ap (λ (t : List ℕ). t ++ behind) front ∙ append_assoc (spelling other) rest behind in
+    let same : other ≡ insn = none_begins_another other insn (rest ++ behind) also valid whole in
+    let size : length (take count (spelling insn)) ≡ count = length-take-le count (spelling insn) (omega arith) in
+    let parts : length (take count (spelling insn)) ≡ length (spelling other) + length rest =
+    ap (λ (t : List ℕ). length t) front ∙ length-append (spelling other) rest in
+    let longer : length (spelling other) ≡ length (spelling insn) = ap (λ (i : Insn). length (spelling i)) same in
+    omega (arith, size, parts, longer, below)
+
+-- after each proper prefix of an instruction's bytes fetching goes on
+pub short_fronts : (insn : Insn) → IsValid insn → HasShortFronts (spelling insn)
+unfolding HasShortFronts
+short_fronts insn valid count below = (
+  λ other begins. prefix_begins insn other count begins.1.0 valid begins.0 below begins.1.1,
+  (
+    drop count (spelling insn),
+    insn,
+    (valid, ([], take-append-drop count (spelling insn) ∙ sym (append-nil (spelling insn)))),
+  ),
+)
+
+-- where the bytes of an instruction are, it is fetched
+pub spelled_fetches : (fetch : ℕ → Result ℕ BusStop) (address : ℕ) (insn : Insn) → IsValid insn → Stands fetch address (spelling insn)
+    → Fetches fetch address (Ok insn) (length (spelling insn))
+spelled_fetches fetch address insn valid stands = record {
+  bytes = spelling insn;
+  stands = stands;
+  fronts = short_fronts insn valid;
+  ends = ((valid, refl), refl);
+}

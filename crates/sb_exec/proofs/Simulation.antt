@@ -1,6 +1,7 @@
 -- A row does the same on two memories that agree where it accesses them.
 use Rattle.std.proofs.Common.{◌≡◌, ◌∙◌, sym, ap, subst, ℕ, zero, suc, ◌+◌, ◌%◌, ◌^◌, List, [], ◌∷◌, refl}
 use Rattle.std.specs.Prelude.{Result, Ok, Err}
+use Rattle.std.specs.List.{AllByRecursion}
 use Rattle.std.proofs.Math.Path.{fun_ext}
 use Rattle.sb_memory.specs.declared.address.Access.TheVariants as access
 use Rattle.sb_bus.specs.declared.stop.BusStop.{BusStop}
@@ -11,7 +12,9 @@ use Rattle.sb_bus.specs.Access.{bytes_from, number_of, loaded_from, store_answer
 use Rattle.sb_bus.specs.Interface.{Interface}
 use Rattle.sb_exec.specs.Row.{Row, MemoryAccess, Loads, LoadsToWrite, Stores, accesses}
 use Rattle.sb_exec.specs.Execution.{Run, Execution, Executes, run, run_on, execution_of, access_answer, meaning_after, execution_by, effect_after, registers_after}
-use Rattle.sb_exec.specs.Simulation.{told, WhereOk, StoresKeep, BytesAgree, AgreeFrom, AgreeAt, AgreeAlong, SameExecution, RowsAgreeing, RowsTold, Alike, RowsAlike, SameEnd, ExecutesAgreeing, ExecutesTold, RowsKeep}
+use Rattle.sb_exec.specs.Simulation.{told, WhereOk, IsAt, IsAnywhere, StoresKeepAt, BytesAgree, AgreeFrom, AgreeAt, AgreeAlong}
+use Rattle.sb_exec.specs.Simulation.{AccessesAgreeAt, SameExecution, RowsAgreeingAt, RowsAgreeing, RowsTold, Alike, RowsAlike, SameEnd}
+use Rattle.sb_exec.specs.Simulation.{ExecutesAgreeing, ExecutesTold, RowsKeep}
 
 -- ---- bytes
 
@@ -69,13 +72,27 @@ stored_related : {M N : Type 0} (Related : M → N → Type 0) (naming : BusStop
 stored_related Related naming (Ok stored) two first first' second second' equal given next = rw equal (next refl equal)
 stored_related Related naming (Err stop) two first first' second second' equal given next = rw equal given
 
-pub access_related : {M N A B : Type 0} (Related : M → N → Type 0) (naming : BusStop → BusStop) (left : Interface M A) (right : Interface N B) → StoresKeep Related left right
-    → (one_access : MemoryAccess) (first : M) (second : N) (loaded : ℕ) → AgreeAt naming left right one_access first second → Related first second
+-- each access is somewhere
+pub anywhere : (one_access : MemoryAccess) → IsAt IsAnywhere one_access
+anywhere (Loads address size) = tt
+anywhere (LoadsToWrite address size) = tt
+anywhere (Stores address size value) = tt
+
+all_anywhere : (accesses : List MemoryAccess) → AllByRecursion (IsAt IsAnywhere) accesses
+all_anywhere [] = tt
+all_anywhere (one_access ∷ accesses) = (anywhere one_access, all_anywhere accesses)
+
+-- an access at which the memories agree keeps them related
+pub access_related : {M N A B : Type 0} (At : ℕ → ℕ → Type 0) (Related : M → N → Type 0) (naming : BusStop → BusStop)
+    (left : Interface M A) (right : Interface N B) → StoresKeepAt At Related left right
+    → (one_access : MemoryAccess) (first : M) (second : N) (loaded : ℕ) → IsAt At one_access
+    → AgreeAt naming left right one_access first second → Related first second
     → Related (meaning_after left one_access first loaded) (meaning_after right one_access second loaded)
-access_related Related naming left right keep (Loads address size) first second loaded given related = related
-access_related Related naming left right keep (LoadsToWrite address size) first second loaded given related = related
-access_related Related naming left right keep (Stores address size value) first second loaded given related =
-    stored_related Related naming _ _ first _ second _ (stores_agree naming _ _ address size given) related (keep.stored first second related address size (value loaded))
+access_related At Related naming left right keep (Loads address size) first second loaded at given related = related
+access_related At Related naming left right keep (LoadsToWrite address size) first second loaded at given related = related
+access_related At Related naming left right keep (Stores address size value) first second loaded at given related =
+    stored_related Related naming _ _ first _ second _ (stores_agree naming _ _ address size given) related
+    (keep.stored first second related address size (value loaded) at)
 
 -- ---- a run
 
@@ -89,15 +106,19 @@ run_on_agrees : {M N A B : Type 0} (Related : M → N → Type 0) (naming : BusS
 run_on_agrees Related naming next next' (Ok loaded) two first second account other equal related given = rw equal given
 run_on_agrees Related naming next next' (Err stop) two first second account other equal related given = rw equal (record { answer = refl; related = related })
 
-pub run_agrees : {M N A B : Type 0} (Related : M → N → Type 0) (naming : BusStop → BusStop) (left : Interface M A) (right : Interface N B) → StoresKeep Related left right
-    → (accesses : List MemoryAccess) (first : M) (second : N) (account : A) (other : B) (loaded : ℕ) → Related first second → AgreeAlong naming left right accesses first second loaded
+-- accesses at these places at which the memories agree run alike
+pub run_agrees : {M N A B : Type 0} (At : ℕ → ℕ → Type 0) (Related : M → N → Type 0) (naming : BusStop → BusStop)
+    (left : Interface M A) (right : Interface N B) → StoresKeepAt At Related left right
+    → (accesses : List MemoryAccess) (first : M) (second : N) (account : A) (other : B) (loaded : ℕ)
+    → Related first second → AllByRecursion (IsAt At) accesses → AgreeAlong naming left right accesses first second loaded
     → SameRun Related naming (run left accesses first account loaded) (run right accesses second other loaded)
-run_agrees Related naming left right keep [] first second account other loaded related given = record { answer = refl; related = related }
-run_agrees Related naming left right keep (one_access ∷ accesses) first second account other loaded related given =
+run_agrees At Related naming left right keep [] first second account other loaded related at given = record { answer = refl; related = related }
+run_agrees At Related naming left right keep (one_access ∷ accesses) first second account other loaded related at given =
+    let next = access_related At Related naming left right keep one_access first second loaded at.0 given.0 related in
     run_on_agrees Related naming (run left accesses) (run right accesses) (access_answer left one_access first loaded) _ _ _ _ _
-    (access_agrees naming left right one_access first second loaded given.0) (access_related Related naming left right keep one_access first second loaded given.0 related)
+    (access_agrees naming left right one_access first second loaded given.0) next
     (where_ok_map (access_answer left one_access first loaded) _ _
-    (λ loaded'. run_agrees Related naming left right keep accesses _ _ _ _ loaded' (access_related Related naming left right keep one_access first second loaded given.0 related)) given.1)
+    (λ loaded'. run_agrees At Related naming left right keep accesses _ _ _ _ loaded' next at.1) given.1)
 
 -- ---- a row
 
@@ -118,10 +139,16 @@ left_same Related naming row regs one two same = record {
   related = same.related;
 }
 
-pub rows_agreeing : {M N A B : Type 0} (Related : M → N → Type 0) (left : Interface M A) (right : Interface N B) → RowsAgreeing Related left right
+-- a row whose accesses are at these places
+pub rows_agreeing_at : {M N A B : Type 0} (At : ℕ → ℕ → Type 0) (Related : M → N → Type 0) (left : Interface M A) (right : Interface N B)
+    → RowsAgreeingAt At Related left right
 unfolding execution_of
+rows_agreeing_at At Related left right keep naming row regs first second account other related at given =
+    left_same Related naming row regs _ _ (run_agrees At Related naming left right keep (accesses row) first second account other 0 related at given)
+
+pub rows_agreeing : {M N A B : Type 0} (Related : M → N → Type 0) (left : Interface M A) (right : Interface N B) → RowsAgreeing Related left right
 rows_agreeing Related left right keep naming row regs first second account other related given =
-    left_same Related naming row regs _ _ (run_agrees Related naming left right keep (accesses row) first second account other 0 related given)
+    rows_agreeing_at IsAnywhere Related left right keep naming row regs first second account other related (all_anywhere (accesses row)) given
 
 -- ---- where all bytes agree
 
@@ -150,19 +177,35 @@ where_all : {Value : Type 0} (answer : Result Value BusStop) (Claim : Value → 
 where_all (Ok value) Claim given = given value
 where_all (Err stop) Claim given = tt
 
-along_all : {M N A B : Type 0} (Related : M → N → Type 0) (naming : BusStop → BusStop) (left : Interface M A) (right : Interface N B)
-    → StoresKeep Related left right → BytesAgree Related naming left right
-    → (accesses : List MemoryAccess) (first : M) (second : N) (loaded : ℕ) → Related first second → AgreeAlong naming left right accesses first second loaded
-along_all Related naming left right keep all [] first second loaded related = tt
-along_all Related naming left right keep all (one_access ∷ accesses) first second loaded related = (
-  at_all Related naming left right all one_access first second related,
-  where_all (access_answer left one_access first loaded) _ (λ loaded'. along_all Related naming left right keep all accesses _ _ loaded'
-      (access_related Related naming left right keep one_access first second loaded (at_all Related naming left right all one_access first second related) related)),
-)
+-- memories that agree at each access at these places agree along such accesses
+pub along_at : {M N A B : Type 0} (At : ℕ → ℕ → Type 0) (Related : M → N → Type 0) (naming : BusStop → BusStop)
+    (left : Interface M A) (right : Interface N B) → StoresKeepAt At Related left right → AccessesAgreeAt At Related naming left right
+    → (accesses : List MemoryAccess) (first : M) (second : N) (loaded : ℕ) → Related first second → AllByRecursion (IsAt At) accesses
+    → AgreeAlong naming left right accesses first second loaded
+along_at At Related naming left right keep agree [] first second loaded related at = tt
+along_at At Related naming left right keep agree (one_access ∷ accesses) first second loaded related at =
+    let here = agree.access first second related one_access at.0 in (
+      here,
+      where_all (access_answer left one_access first loaded) _ (λ loaded'. along_at At Related naming left right keep agree accesses _ _ loaded'
+          (access_related At Related naming left right keep one_access first second loaded at.0 here related) at.1),
+    )
+
+-- memories that agree at each access at these places run such accesses alike
+pub run_agrees_at : {M N A B : Type 0} (At : ℕ → ℕ → Type 0) (Related : M → N → Type 0) (naming : BusStop → BusStop)
+    (left : Interface M A) (right : Interface N B) → StoresKeepAt At Related left right → AccessesAgreeAt At Related naming left right
+    → (accesses : List MemoryAccess) (first : M) (second : N) (account : A) (other : B) (loaded : ℕ)
+    → Related first second → AllByRecursion (IsAt At) accesses
+    → SameRun Related naming (run left accesses first account loaded) (run right accesses second other loaded)
+run_agrees_at At Related naming left right keep agree accesses first second account other loaded related at =
+    run_agrees At Related naming left right keep accesses first second account other loaded related at
+    (along_at At Related naming left right keep agree accesses first second loaded related at)
 
 pub rows_told : {M N A B : Type 0} (Related : M → N → Type 0) (left : Interface M A) (right : Interface N B) → RowsTold Related left right
 rows_told Related left right keep naming all row regs first second account other related =
-    rows_agreeing Related left right keep naming row regs first second account other related (along_all Related naming left right keep all (accesses row) first second 0 related)
+    rows_agreeing Related left right keep naming row regs first second account other related
+    (along_at IsAnywhere Related naming left right keep
+    (record { access = λ first second related one_access _. at_all Related naming left right all one_access first second related })
+    (accesses row) first second 0 related (all_anywhere (accesses row)))
 
 -- ---- where the stops are the same
 
@@ -207,7 +250,7 @@ both Claim first second = Claim first × (second ≡ first)
 pub rows_keep : {M A : Type 0} (Claim : M → Type 0) (bus : Interface M A) → RowsKeep Claim bus
 rows_keep Claim bus keep row regs first account given =
     (rows_alike (both Claim) bus bus
-    (record { stored = λ first second related address size value permitted _. (keep first related.0 address size value permitted, ap (λ meaning. bus.stored meaning address size value) related.1) })
+    (record { stored = λ first second related address size value _ permitted _. (keep first related.0 address size value permitted, ap (λ meaning. bus.stored meaning address size value) related.1) })
     (λ first second related address how _. ap (λ meaning. bus.byte meaning address how) related.1) row regs first first account account (given, refl)).related.0
 
 -- what is said of all that is fetched moves to a memory with the same bytes

@@ -9,8 +9,8 @@ use Rattle.sb_bus.specs.Access.{bytes_from, loaded_from, store_answer, byte_for,
 use Rattle.sb_bus.specs.Interface.{Interface}
 use Rattle.sb_exec.specs.Row.{MemoryAccess, Loads, LoadsToWrite, Stores, accesses}
 use Rattle.sb_exec.specs.Execution.{Run, run, run_on, execution_of, access_answer, effect_after}
-use Rattle.sb_exec.specs.Simulation.{told, WhereOk, StoresKeep, IsIn, BytesAgreeIn, AgreeFrom, AgreeAt, AgreeAlong, RowsIn}
-use Rattle.sb_exec.proofs.Simulation.{where_ok_map, access_related, rows_agreeing}
+use Rattle.sb_exec.specs.Simulation.{told, WhereOk, StoresKeep, IsAnywhere, IsIn, BytesAgreeIn, AgreeFrom, AgreeAt, AgreeAlong, RowsIn}
+use Rattle.sb_exec.proofs.Simulation.{where_ok_map, anywhere, access_related, rows_agreeing}
 
 in_first : {Value Next : Type 0} (out : BusStop → Bool) (answer : Result Value BusStop) (next : Value → Result Next BusStop) → IsIn out (and_then answer next) → IsIn out answer
 in_first out (Ok value) next given = tt
@@ -77,7 +77,7 @@ along_in Related naming out left right keep all (one_access ∷ accesses) first 
     let here : AgreeAt naming left right one_access first second = at_in Related naming out left right all one_access first second loaded related (run_first out (run left accesses) (access_answer left one_access first loaded) _ _ given) in (
       here,
       where_ok_map (access_answer left one_access first loaded) _ _
-          (λ loaded' rest. along_in Related naming out left right keep all accesses _ _ _ loaded' (access_related Related naming left right keep one_access first second loaded here related) rest)
+          (λ loaded' rest. along_in Related naming out left right keep all accesses _ _ _ loaded' (access_related IsAnywhere Related naming left right keep one_access first second loaded (anywhere one_access) here related) rest)
           (run_rest out (run left accesses) (access_answer left one_access first loaded) _ _ given),
     )
 

@@ -6,10 +6,10 @@ use Rattle.sb_insn.specs.declared.insn.Insn.{Insn}
 use Rattle.sb_insn.specs.declared.insn.Disp.{Disp}
 use Rattle.sb_insn.specs.declared.insn.Disp.TheVariants as disp
 use Rattle.sb_insn.specs.declared.registers.Regs.{Regs}
-use Rattle.sb_insn.specs.Fields.{mod_field, rm_field}
+use Rattle.sb_insn.specs.Fields.{mod_field, rm_field, scale, index, base, rex_x, rex_b}
 use Rattle.sb_exec.specs.declared.action.Place.{Place}
 use Rattle.sb_exec.specs.declared.action.Place.TheVariants.{Register, Memory}
-use Rattle.sb_exec.specs.Operand.{modrm_of, rm_number, rex_bit, general, next_rip}
+use Rattle.sb_exec.specs.Operand.{modrm_of, rm_number, general, next_rip}
 
 -- ---- the SIB byte: scale, index and base
 
@@ -17,27 +17,24 @@ use Rattle.sb_exec.specs.Operand.{modrm_of, rm_number, rex_bit, general, next_ri
 abbrev pub sib_of : Insn → ℕ
 sib_of insn = unwrap_or insn.sib 0
 
-abbrev pub scale_field : ℕ → ℕ
-scale_field sib = sib / 64
-
 -- the register that index names; 4 is no index
 abbrev pub index_number : Insn → ℕ
-index_number insn = sib_of insn / 8 % 8 + 8 * rex_bit insn 1
+index_number insn = index (sib_of insn) + 8 * rex_x insn.rex
 
 -- the register that base names
 abbrev pub base_number : Insn → ℕ
-base_number insn = sib_of insn % 8 + 8 * rex_bit insn 0
+base_number insn = base (sib_of insn) + 8 * rex_b insn.rex
 
 -- the index times 1, 2, 4 or 8
 abbrev pub scaled_index : Insn → Regs → ℕ
 scaled_index insn regs =
     if index_number insn == 4 then 0
-    else general regs (index_number insn) * 2 ^ scale_field (sib_of insn) % 2 ^ 64
+    else general regs (index_number insn) * 2 ^ scale (sib_of insn) % 2 ^ 64
 
 -- the base; with mod 0 a base field of 5 is no base, whatever REX.B is
 abbrev pub sib_base : Insn → Regs → ℕ
 sib_base insn regs =
-    if (mod_field (modrm_of insn) == 0) && (sib_of insn % 8 == 5) then 0 else general regs (base_number insn)
+    if (mod_field (modrm_of insn) == 0) && (base (sib_of insn) == 5) then 0 else general regs (base_number insn)
 
 -- ---- the address
 

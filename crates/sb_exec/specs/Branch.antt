@@ -5,23 +5,24 @@ use Rattle.sb_insn.specs.declared.registers.Regs.{Regs}
 use Rattle.sb_insn.specs.declared.registers.Flags.{Flags}
 use Rattle.sb_insn.specs.declared.opcode_map.OperandForm.{OperandForm}
 use Rattle.sb_insn.specs.declared.opcode_map.OperandForm.TheVariants.{Relative}
+use Rattle.sb_insn.specs.declared.registers.TheConstants.{RSP}
 use Rattle.sb_alu.specs.declared.size.Size.TheVariants.{Quad}
 use Rattle.sb_exec.specs.Operand.{general, with_register, next_rip}
 use Rattle.sb_alu.specs.Shift.{differ}
 use Rattle.sb_exec.specs.WriteBack.{last_operand}
 
--- ---- the stack, whose top is at the address in RSP, register 4
+-- ---- the stack, whose top is at the address in RSP
 
 -- the top after 8 bytes are pushed
 abbrev pub top_pushed : Regs → ℕ
-top_pushed regs = (general regs 4 + (2 ^ 64 - 8)) % 2 ^ 64
+top_pushed regs = (general regs RSP + (2 ^ 64 - 8)) % 2 ^ 64
 
 abbrev pub pushed : Regs → Regs
-pushed regs = with_register Quad 4 (top_pushed regs) regs
+pushed regs = with_register Quad RSP (top_pushed regs) regs
 
 -- the registers after 8 bytes are popped
 abbrev pub popped : Regs → Regs
-popped regs = with_register Quad 4 ((general regs 4 + 8) % 2 ^ 64) regs
+popped regs = with_register Quad RSP ((general regs RSP + 8) % 2 ^ 64) regs
 
 -- the popped value is written last, so POP RSP leaves it
 abbrev pub popped_into : ℕ → ℕ → Regs → Regs

@@ -3,6 +3,7 @@
 use Rattle.std.specs.Prelude.{ℕ, ◌==◌, if◌then◌else◌}
 use Rattle.sb_insn.specs.declared.insn.Insn.{Insn}
 use Rattle.sb_insn.specs.declared.registers.Regs.{Regs}
+use Rattle.sb_insn.specs.declared.registers.TheConstants.{RAX}
 use Rattle.sb_alu.specs.declared.size.Size.{Size}
 use Rattle.sb_exec.specs.declared.action.Exchange.{Exchange}
 use Rattle.sb_exec.specs.declared.action.Exchange.TheVariants as exchange
@@ -25,14 +26,14 @@ sum_exchanged size number place old source regs =
 
 -- the accumulator gets what rm held, which is stored again; a register stays whole
 abbrev pub not_exchanged : Size → Place → ℕ → Regs → After
-not_exchanged size (Register number) old regs = keeping (with_register size 0 old regs)
-not_exchanged size (Memory address) old regs = storing (with_register size 0 old regs) old
+not_exchanged size (Register number) old regs = keeping (with_register size RAX old regs)
+not_exchanged size (Memory address) old regs = storing (with_register size RAX old regs) old
 
 -- CMPXCHG: rm gets the new value where it equals the accumulator; the flags are those of accumulator minus rm
 abbrev pub compare_exchanged : Size → Place → ℕ → ℕ → Regs → After
 compare_exchanged size place old source regs =
-    if register size 0 regs == old then written size place source (with_flags (subtracted size (register size 0 regs) old).flags regs)
-    else not_exchanged size place old (with_flags (subtracted size (register size 0 regs) old).flags regs)
+    if register size RAX regs == old then written size place source (with_flags (subtracted size (register size RAX regs) old).flags regs)
+    else not_exchanged size place old (with_flags (subtracted size (register size RAX regs) old).flags regs)
 
 -- what an exchange leaves
 unfoldable pub exchange_of : Exchange → Size → ℕ → Place → ℕ → ℕ → Regs → After

@@ -14,7 +14,6 @@ pub mod Row
 pub mod Execution
 pub mod Actions
 pub mod Rows
-pub mod Steps
+pub mod LoadThenStore
 pub mod Fetching
 pub mod Simulation
-pub mod TestBus

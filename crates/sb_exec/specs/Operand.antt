@@ -1,14 +1,11 @@
 -- The fields of an instruction as numbers, and registers at a size (SDM volume 2, sections 2.1 and 2.2.1).
-use Rattle.std.specs.Prelude.{ℕ, ◌+◌, ◌*◌, ◌/◌, ◌%◌, ◌^◌, ◌==◌, ◌<◌, if◌then◌else◌, length, Option, Some, None, slice_index, slice_set, unwrap_or}
-use Rattle.std.specs.Int.{w64, cast_unsigned}
+use Rattle.std.specs.Prelude.{ℕ, ◌+◌, ◌*◌, ◌/◌, ◌%◌, ◌^◌, ◌==◌, ◌<◌, if◌then◌else◌, length, slice_index, slice_set, unwrap_or}
 use Rattle.sb_insn.specs.declared.insn.Insn.{Insn}
 use Rattle.sb_insn.specs.declared.insn.Op.{Op}
 use Rattle.sb_insn.specs.declared.insn.Op.TheVariants.{One, Two, Endbr, Vmfunc}
-use Rattle.sb_insn.specs.declared.insn.Imm.{Imm}
-use Rattle.sb_insn.specs.declared.insn.Imm.TheVariants as imm
 use Rattle.sb_insn.specs.declared.registers.Regs.{Regs}
 use Rattle.sb_insn.specs.Spelling.{spelling}
-use Rattle.sb_insn.specs.Fields.{reg_field, rm_field}
+use Rattle.sb_insn.specs.Fields.{reg_field, rm_field, rex_w, rex_r, rex_b}
 use Rattle.sb_alu.specs.declared.size.Size.{Size}
 use Rattle.sb_alu.specs.declared.size.Size.TheVariants.{Byte, Double, Quad}
 use Rattle.sb_exec.specs.declared.action.Place.{Place}
@@ -17,26 +14,17 @@ use Rattle.sb_alu.specs.Size.{low}
 
 -- ---- fields
 
--- a bit of a REX byte, 0 where there is none
-abbrev pub bit_of_rex : Option ℕ → ℕ → ℕ
-bit_of_rex None place = 0
-bit_of_rex (Some rex) place = rex / 2 ^ place % 2
-
--- a bit of the REX byte: 3 W, 2 R, 1 X, 0 B
-abbrev pub rex_bit : Insn → ℕ → ℕ
-rex_bit insn place = bit_of_rex insn.rex place
-
 -- the ModRM byte, 0 where there is none
 abbrev pub modrm_of : Insn → ℕ
 modrm_of insn = unwrap_or insn.modrm 0
 
 -- the register that reg names
 abbrev pub reg_number : Insn → ℕ
-reg_number insn = reg_field (modrm_of insn) + 8 * rex_bit insn 2
+reg_number insn = reg_field (modrm_of insn) + 8 * rex_r insn.rex
 
 -- the register that rm names
 abbrev pub rm_number : Insn → ℕ
-rm_number insn = rm_field (modrm_of insn) + 8 * rex_bit insn 0
+rm_number insn = rm_field (modrm_of insn) + 8 * rex_b insn.rex
 
 -- the last byte of the opcode
 abbrev pub opcode_of : Op → ℕ
@@ -47,20 +35,13 @@ opcode_of Vmfunc = 0xD4
 
 -- the register that the opcode names
 abbrev pub opcode_number : Insn → ℕ
-opcode_number insn = opcode_of insn.op % 8 + 8 * rex_bit insn 0
+opcode_number insn = opcode_of insn.op % 8 + 8 * rex_b insn.rex
 
 -- 64 bits with REX.W, else 32
 abbrev pub operand_size : Insn → Size
-operand_size insn = if rex_bit insn 3 == 1 then Quad else Double
+operand_size insn = if rex_w insn.rex == 1 then Quad else Double
 
--- ---- numbers beside the opcode
-
--- the immediate, sign-extended to 64 bits
-abbrev pub imm_value : Imm → ℕ
-imm_value imm.None = 0
-imm_value (imm.I8 value) = cast_unsigned w64 value
-imm_value (imm.I32 value) = cast_unsigned w64 value
-imm_value (imm.I64 value) = cast_unsigned w64 value
+-- ---- the next instruction
 
 -- the address of the next instruction
 abbrev pub next_rip : Insn → Regs → ℕ

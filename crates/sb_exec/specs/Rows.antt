@@ -4,6 +4,7 @@ use Rattle.sb_insn.specs.declared.insn.Insn.{Insn}
 use Rattle.sb_insn.specs.declared.registers.Regs.{Regs}
 use Rattle.sb_insn.specs.declared.opcode_map.OperandForm.{OperandForm}
 use Rattle.sb_insn.specs.declared.opcode_map.OperandForm.TheVariants as form
+use Rattle.sb_insn.specs.declared.registers.TheConstants.{RSP}
 use Rattle.sb_alu.specs.declared.size.Size.{Size}
 use Rattle.sb_alu.specs.declared.size.Size.TheVariants.{Byte, Quad}
 use Rattle.sb_exec.specs.declared.action.Effect.{Effect}
@@ -58,7 +59,20 @@ abbrev pub destination_use : Operation → MemoryUse
 destination_use operation.Compare = memory_use.Read
 destination_use operation.Test = memory_use.Read
 destination_use operation.Move = memory_use.Write
-destination_use _ = memory_use.Update
+destination_use operation.Add = memory_use.Update
+destination_use operation.Or = memory_use.Update
+destination_use operation.And = memory_use.Update
+destination_use operation.Sub = memory_use.Update
+destination_use operation.Xor = memory_use.Update
+destination_use operation.Not = memory_use.Update
+destination_use operation.Negate = memory_use.Update
+destination_use operation.Increment = memory_use.Update
+destination_use operation.Decrement = memory_use.Update
+destination_use operation.Multiply = memory_use.Update
+destination_use operation.ShiftLeft = memory_use.Update
+destination_use operation.ShiftRight = memory_use.Update
+destination_use operation.ShiftSigned = memory_use.Update
+destination_use operation.ScanForward = memory_use.Update
 
 -- what is done to the operand that mod and rm name: it is the destination, a source, or none
 unfoldable pub rm_use : OperandForm → MemoryUse → MemoryUse
@@ -69,21 +83,28 @@ rm_use form.RmCl usage = usage
 rm_use form.Rm usage = usage
 rm_use form.RegRm usage = memory_use.Read
 rm_use form.RegRmImm usage = memory_use.Read
-rm_use _ usage = memory_use.Nothing
+rm_use form.AccImm usage = memory_use.Nothing
+rm_use form.OpcodeImm usage = memory_use.Nothing
+rm_use form.Opcode usage = memory_use.Nothing
+rm_use form.Imm usage = memory_use.Nothing
+rm_use form.Relative usage = memory_use.Nothing
+rm_use form.Nothing usage = memory_use.Nothing
 
 -- what is loaded of an operand that is in memory
 abbrev pub load_by : MemoryUse → Size → Place → Load
 load_by usage size (Register number) = load.Nothing
 load_by memory_use.Read size (Memory address) = load.Read address size
 load_by memory_use.Update size (Memory address) = load.ReadToWrite address size
-load_by _ size (Memory address) = load.Nothing
+load_by memory_use.Write size (Memory address) = load.Nothing
+load_by memory_use.Nothing size (Memory address) = load.Nothing
 
 -- what is stored to it
 abbrev pub store_by : MemoryUse → Size → Place → Store
 store_by usage size (Register number) = store.Nothing
 store_by memory_use.Update size (Memory address) = store.At address size
 store_by memory_use.Write size (Memory address) = store.At address size
-store_by _ size (Memory address) = store.Nothing
+store_by memory_use.Read size (Memory address) = store.Nothing
+store_by memory_use.Nothing size (Memory address) = store.Nothing
 
 -- what is pushed or jumped to is loaded, if it is in memory
 abbrev pub load_source : OperandForm → Insn → Regs → Load
@@ -97,9 +118,12 @@ load_of (Exchange exchange size) insn regs = load_by memory_use.Update size (rm_
 load_of (Push form) insn regs = load_source form insn regs
 load_of (Jump form) insn regs = load_source form insn regs
 load_of (Call form) insn regs = load_source form insn regs
-load_of Pop insn regs = load.Read (linear (general regs 4)) Quad
-load_of Return insn regs = load.Read (linear (general regs 4)) Quad
-load_of _ insn regs = load.Nothing
+load_of Pop insn regs = load.Read (linear (general regs RSP)) Quad
+load_of Return insn regs = load.Read (linear (general regs RSP)) Quad
+load_of (LoadAddress size) insn regs = load.Nothing
+load_of (JumpIf number) insn regs = load.Nothing
+load_of Pass insn regs = load.Nothing
+load_of (Stop effect) insn regs = load.Nothing
 
 -- 8 bytes are stored below the top of the stack
 abbrev pub store_below : Regs → Store
@@ -111,14 +135,31 @@ store_of (Compute operation form size) insn regs = store_by (rm_use form (destin
 store_of (Exchange exchange size) insn regs = store_by memory_use.Update size (rm_place insn regs)
 store_of (Push form) insn regs = store_below regs
 store_of (Call form) insn regs = store_below regs
-store_of _ insn regs = store.Nothing
+store_of (ZeroExtend size) insn regs = store.Nothing
+store_of (LoadAddress size) insn regs = store.Nothing
+store_of Pop insn regs = store.Nothing
+store_of Return insn regs = store.Nothing
+store_of (Jump form) insn regs = store.Nothing
+store_of (JumpIf number) insn regs = store.Nothing
+store_of Pass insn regs = store.Nothing
+store_of (Stop effect) insn regs = store.Nothing
 
 -- ---- rows
 
 -- what follows an action
 unfoldable pub effect_of : Action → Effect
 effect_of (Stop effect) = effect
-effect_of _ = Next
+effect_of (Compute operation form size) = Next
+effect_of (ZeroExtend size) = Next
+effect_of (LoadAddress size) = Next
+effect_of (Exchange exchange size) = Next
+effect_of (Push form) = Next
+effect_of Pop = Next
+effect_of Return = Next
+effect_of (Jump form) = Next
+effect_of (JumpIf number) = Next
+effect_of (Call form) = Next
+effect_of Pass = Next
 
 -- the row of an action
 abbrev pub row_by : Action → Insn → Regs → Row

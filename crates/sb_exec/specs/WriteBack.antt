@@ -5,6 +5,8 @@ use Rattle.sb_insn.specs.declared.registers.Regs.{Regs}
 use Rattle.sb_insn.specs.declared.registers.Flags.{Flags}
 use Rattle.sb_insn.specs.declared.opcode_map.OperandForm.{OperandForm}
 use Rattle.sb_insn.specs.declared.opcode_map.OperandForm.TheVariants.{RmReg, RegRm, RmImm, AccImm, OpcodeImm, RegRmImm, RmCount, RmCl, Rm, Opcode, Imm, Relative, Nothing}
+use Rattle.sb_insn.specs.declared.registers.TheConstants.{RAX, RCX}
+use Rattle.sb_insn.specs.Branch.{imm_value}
 use Rattle.sb_alu.specs.declared.size.Size.{Size}
 use Rattle.sb_alu.specs.declared.size.Size.TheVariants.{Byte}
 use Rattle.sb_alu.specs.declared.operation.Operation.{Operation}
@@ -13,7 +15,7 @@ use Rattle.sb_exec.specs.declared.action.Place.TheVariants.{Register, Memory}
 use Rattle.sb_alu.specs.declared.operation.Outcome.{Outcome}
 use Rattle.sb_exec.specs.declared.action.After.{After}
 use Rattle.sb_alu.specs.Size.{low}
-use Rattle.sb_exec.specs.Operand.{reg_number, opcode_number, operand_value, register, with_register, imm_value, next_rip}
+use Rattle.sb_exec.specs.Operand.{reg_number, opcode_number, operand_value, register, with_register, next_rip}
 use Rattle.sb_exec.specs.Address.{rm_place}
 use Rattle.sb_alu.specs.Operated.{operated}
 
@@ -57,12 +59,26 @@ destination RegRm insn regs = Register (reg_number insn)
 destination RegRmImm insn regs = Register (reg_number insn)
 destination OpcodeImm insn regs = Register (opcode_number insn)
 destination Opcode insn regs = Register (opcode_number insn)
-destination _ insn regs = Register 0
+destination AccImm insn regs = Register RAX
+destination Imm insn regs = Register RAX
+destination Relative insn regs = Register RAX
+destination Nothing insn regs = Register RAX
 
 -- the first number of an operation: what the result replaces, but with three operands rm
 unfoldable pub first_operand : OperandForm → Size → Insn → Regs → ℕ → ℕ
 first_operand RegRmImm size insn regs loaded = rm_value size insn regs loaded
-first_operand form size insn regs loaded = operand_value size (destination form insn regs) regs loaded
+first_operand RmReg size insn regs loaded = operand_value size (destination RmReg insn regs) regs loaded
+first_operand RegRm size insn regs loaded = operand_value size (destination RegRm insn regs) regs loaded
+first_operand RmImm size insn regs loaded = operand_value size (destination RmImm insn regs) regs loaded
+first_operand AccImm size insn regs loaded = operand_value size (destination AccImm insn regs) regs loaded
+first_operand OpcodeImm size insn regs loaded = operand_value size (destination OpcodeImm insn regs) regs loaded
+first_operand RmCount size insn regs loaded = operand_value size (destination RmCount insn regs) regs loaded
+first_operand RmCl size insn regs loaded = operand_value size (destination RmCl insn regs) regs loaded
+first_operand Rm size insn regs loaded = operand_value size (destination Rm insn regs) regs loaded
+first_operand Opcode size insn regs loaded = operand_value size (destination Opcode insn regs) regs loaded
+first_operand Imm size insn regs loaded = operand_value size (destination Imm insn regs) regs loaded
+first_operand Relative size insn regs loaded = operand_value size (destination Relative insn regs) regs loaded
+first_operand Nothing size insn regs loaded = operand_value size (destination Nothing insn regs) regs loaded
 
 -- the last operand of a form; a relative one is the address that lies so far from the next instruction
 unfoldable pub last_operand : OperandForm → Size → Insn → Regs → ℕ → ℕ
@@ -73,7 +89,7 @@ last_operand AccImm size insn regs loaded = low size (imm_value insn.imm)
 last_operand OpcodeImm size insn regs loaded = low size (imm_value insn.imm)
 last_operand RegRmImm size insn regs loaded = low size (imm_value insn.imm)
 last_operand RmCount size insn regs loaded = low Byte (imm_value insn.imm)
-last_operand RmCl size insn regs loaded = register Byte 1 regs
+last_operand RmCl size insn regs loaded = register Byte RCX regs
 last_operand Rm size insn regs loaded = rm_value size insn regs loaded
 last_operand Opcode size insn regs loaded = register size (opcode_number insn) regs
 last_operand Imm size insn regs loaded = low size (imm_value insn.imm)

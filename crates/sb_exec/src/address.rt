@@ -15,12 +15,13 @@ ghost use Rattle.sb_exec.specs.Address.{
 };
 
 use crate::action::Place;
-use crate::operand::{modrm, next_rip, rex_bit, rm_number};
-use sb_insn::{Disp, Insn, Regs};
+use crate::operand::{modrm, next_rip, rm_number};
+use sb_insn::{Disp, Insn, Regs, base, index, mod_field, rex_b, rex_x, rm_field, scale};
 use sb_memory::Linear;
 
 // ---- the SIB byte
 
+/// The SIB byte, 0 where there is none.
 fn sib(insn: &Insn) -> u8
     ensures { result ≡ sib_of insn.now }
 {
@@ -32,7 +33,7 @@ fn index_number(insn: &Insn) -> usize
     ensures value { result ≡ index_number_of insn.now }
     ensures range { result < 16 }
 {
-    usize::from(sib(insn) / 8 % 8 + 8 * rex_bit(insn, 1))
+    usize::from(index(sib(insn)) + 8 * rex_x(insn.rex))
 }
 
 /// The register that base names.
@@ -40,7 +41,7 @@ fn base_number(insn: &Insn) -> usize
     ensures value { result ≡ base_number_of insn.now }
     ensures range { result < 16 }
 {
-    usize::from(sib(insn) % 8 + 8 * rex_bit(insn, 0))
+    usize::from(base(sib(insn)) + 8 * rex_b(insn.rex))
 }
 
 /// The index times 1, 2, 4 or 8.
@@ -51,7 +52,7 @@ fn scaled_index(insn: &Insn, regs: &Regs) -> u64
     if number == 4 {
         0
     } else {
-        regs.general[number] << (sib(insn) / 64)
+        regs.general[number] << scale(sib(insn))
     }
 }
 
@@ -59,7 +60,7 @@ fn scaled_index(insn: &Insn, regs: &Regs) -> u64
 fn sib_base(insn: &Insn, regs: &Regs) -> u64
     ensures { result ≡ sib_base_of insn.now regs.now }
 {
-    if modrm(insn) / 64 == 0 && sib(insn) % 8 == 5 {
+    if mod_field(modrm(insn)) == 0 && base(sib(insn)) == 5 {
         0
     } else {
         regs.general[base_number(insn)]
@@ -83,8 +84,8 @@ fn disp_value(disp: Disp) -> u64
 fn base_value(insn: &Insn, regs: &Regs) -> u64
     ensures { result ≡ base_value_of insn.now regs.now }
 {
-    let rm = modrm(insn) % 8;
-    if modrm(insn) / 64 == 0 && rm == 5 {
+    let rm = rm_field(modrm(insn));
+    if mod_field(modrm(insn)) == 0 && rm == 5 {
         next_rip(insn, regs)
     } else if rm == 4 {
         sib_base(insn, regs).wrapping_add(scaled_index(insn, regs))
@@ -107,7 +108,7 @@ pub fn rm_place(insn: &Insn, regs: &Regs) -> Place
     ensures value { result ≡ rm_place_of insn.now regs.now }
     ensures range { IsPlace result }
 {
-    if modrm(insn) / 64 == 3 {
+    if mod_field(modrm(insn)) == 3 {
         Place::Register(rm_number(insn))
     } else {
         Place::Memory(Linear(operand_address(insn, regs)))

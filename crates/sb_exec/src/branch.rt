@@ -2,6 +2,7 @@
 
 ghost use Rattle.std.specs.Prelude.{◌≡◌, ◌<◌};
 ghost use Rattle.sb_exec.specs.Operand.{general};
+ghost use Rattle.sb_insn.specs.declared.registers.TheConstants.{RSP};
 ghost use Rattle.sb_exec.specs.Branch.{
   top_pushed as top_pushed_of,
   pushed as pushed_of,
@@ -16,18 +17,16 @@ ghost use Rattle.sb_exec.specs.Branch.{
 use crate::operand::{next_rip, set_register};
 use crate::write_back::last_operand;
 use sb_alu::Size;
+use sb_insn::registers::RSP;
 use sb_insn::{Flags, Insn, OperandForm, Regs};
-
-/// The number of RSP.
-const STACK_POINTER: usize = 4;
 
 // ---- the stack
 
 /// The top of the stack.
 pub fn stack_top(regs: &Regs) -> u64
-    ensures { result ≡ general regs.now 4 }
+    ensures { result ≡ general regs.now RSP }
 {
-    regs.general[STACK_POINTER]
+    regs.general[RSP]
 }
 
 /// The top of the stack after 8 bytes are pushed.
@@ -42,7 +41,7 @@ pub fn pushed(mut regs: Regs) -> Regs
     ensures { result ≡ pushed_of regs }
 {
     let top = top_pushed(&regs);
-    set_register(Size::Quad, STACK_POINTER, top, &mut regs);
+    set_register(Size::Quad, RSP, top, &mut regs);
     regs
 }
 
@@ -51,7 +50,7 @@ pub fn popped(mut regs: Regs) -> Regs
     ensures { result ≡ popped_of regs }
 {
     let top = stack_top(&regs).wrapping_add(8);
-    set_register(Size::Quad, STACK_POINTER, top, &mut regs);
+    set_register(Size::Quad, RSP, top, &mut regs);
     regs
 }
 

@@ -17,10 +17,8 @@ use crate::address::rm_place;
 use crate::operand::{reg_number, register, set_register};
 use crate::write_back::{rm_value, stepped, written};
 use sb_alu::{Size, added, subtracted, sum};
+use sb_insn::registers::RAX;
 use sb_insn::{Insn, Regs};
-
-/// The number of RAX.
-const ACCUMULATOR: usize = 0;
 
 /// reg gets what rm held, and then rm the new value.
 fn exchanged(size: Size, number: usize, place: Place, old: u64, value: u64, mut regs: Regs) -> After
@@ -58,7 +56,7 @@ fn sum_exchanged(
 fn not_exchanged(size: Size, place: Place, old: u64, mut regs: Regs) -> After
     ensures { result ≡ not_exchanged_of size place old regs }
 {
-    set_register(size, ACCUMULATOR, old, &mut regs);
+    set_register(size, RAX, old, &mut regs);
     match place {
         Place::Register(_) => After { regs, stored: 0 },
         Place::Memory(_) => After { regs, stored: old },
@@ -71,7 +69,7 @@ fn compare_exchanged(size: Size, place: Place, old: u64, source: u64, regs: Regs
     requires old { old < modulus size }
     ensures { result ≡ compare_exchanged_of size place old source regs }
 {
-    let accumulator = register(size, ACCUMULATOR, &regs);
+    let accumulator = register(size, RAX, &regs);
     let next = Regs {
         flags: subtracted(size, accumulator, old).flags,
         ..regs

@@ -24,22 +24,19 @@ mod action;
 mod address;
 mod branch;
 mod exchanged;
+mod execution;
 mod fetch;
 mod operand;
 mod pair;
 mod rows;
-mod step;
 mod table;
 mod write_back;
 
 pub use action::{Action, After, Effect, Exchange, Load, MemoryUse, Place, Store};
+pub use execution::execute;
 pub use fetch::{fetch_insn, first_insn, one_fetch, one_fetch_on};
 pub use pair::{
     Pair, executes_agreeing, executes_told, rows_agreeing, rows_alike, rows_in, rows_told,
 };
 pub use sb_alu::{Operation, Outcome, Size};
 pub use sb_bus::{Bus, BusStop, FaultKind};
-pub use step::execute;
-
-#[cfg(test)]
-mod tests;

@@ -3,14 +3,12 @@
 ghost use Rattle.std.specs.Prelude.{◌≡◌, ◌<◌};
 ghost use Rattle.sb_alu.specs.Size.{modulus};
 ghost use Rattle.sb_exec.specs.Operand.{
-  rex_bit as rex_bit_of,
   modrm_of,
   reg_number as reg_number_of,
   rm_number as rm_number_of,
   opcode_of,
   opcode_number as opcode_number_of,
   operand_size as operand_size_of,
-  imm_value as imm_value_of,
   next_rip as next_rip_of,
   register as register_of,
   with_register,
@@ -21,22 +19,11 @@ ghost use Rattle.sb_exec.specs.Operand.{
 
 use crate::action::Place;
 use sb_alu::Size;
-use sb_insn::{Imm, Insn, Op, Regs};
+use sb_insn::{Insn, Op, Regs, reg_field, rex_b, rex_r, rex_w, rm_field};
 
 // ---- fields
 
-/// A bit of the REX byte: 3 W, 2 R, 1 X, 0 B.
-pub fn rex_bit(insn: &Insn, place: u32) -> u8
-    requires { place < 8 }
-    ensures value { result ≡ rex_bit_of insn.now place }
-    ensures range { result < 2 }
-{
-    match insn.rex {
-        Some(rex) => (rex >> place) & 1,
-        None => 0,
-    }
-}
-
+/// The ModRM byte, 0 where there is none.
 pub fn modrm(insn: &Insn) -> u8
     ensures { result ≡ modrm_of insn.now }
 {
@@ -48,7 +35,7 @@ pub fn reg_number(insn: &Insn) -> usize
     ensures value { result ≡ reg_number_of insn.now }
     ensures range { result < 16 }
 {
-    usize::from(modrm(insn) / 8 % 8 + 8 * rex_bit(insn, 2))
+    usize::from(reg_field(modrm(insn)) + 8 * rex_r(insn.rex))
 }
 
 /// The register that rm names.
@@ -56,7 +43,7 @@ pub fn rm_number(insn: &Insn) -> usize
     ensures value { result ≡ rm_number_of insn.now }
     ensures range { result < 16 }
 {
-    usize::from(modrm(insn) % 8 + 8 * rex_bit(insn, 0))
+    usize::from(rm_field(modrm(insn)) + 8 * rex_b(insn.rex))
 }
 
 /// The last byte of the opcode.
@@ -75,33 +62,21 @@ pub fn opcode_number(insn: &Insn) -> usize
     ensures value { result ≡ opcode_number_of insn.now }
     ensures range { result < 16 }
 {
-    usize::from(opcode(insn.op) % 8 + 8 * rex_bit(insn, 0))
+    usize::from(opcode(insn.op) % 8 + 8 * rex_b(insn.rex))
 }
 
 /// 64 bits with REX.W, else 32.
 pub fn operand_size(insn: &Insn) -> Size
     ensures { result ≡ operand_size_of insn.now }
 {
-    if rex_bit(insn, 3) == 1 {
+    if rex_w(insn.rex) == 1 {
         Size::Quad
     } else {
         Size::Double
     }
 }
 
-// ---- numbers beside the opcode
-
-/// The immediate, sign-extended to 64 bits.
-pub fn imm_value(imm: Imm) -> u64
-    ensures { result ≡ imm_value_of imm }
-{
-    match imm {
-        Imm::None => 0,
-        Imm::I8(value) => i64::from(value).cast_unsigned(),
-        Imm::I32(value) => i64::from(value).cast_unsigned(),
-        Imm::I64(value) => value.cast_unsigned(),
-    }
-}
+// ---- the next instruction
 
 /// The address of the next instruction.
 pub fn next_rip(insn: &Insn, regs: &Regs) -> u64

@@ -96,7 +96,20 @@ fn destination_use(operation: Operation) -> MemoryUse
     match operation {
         Operation::Compare | Operation::Test => MemoryUse::Read,
         Operation::Move => MemoryUse::Write,
-        _ => MemoryUse::Update,
+        Operation::Add
+        | Operation::Or
+        | Operation::And
+        | Operation::Sub
+        | Operation::Xor
+        | Operation::Not
+        | Operation::Negate
+        | Operation::Increment
+        | Operation::Decrement
+        | Operation::Multiply
+        | Operation::ShiftLeft
+        | Operation::ShiftRight
+        | Operation::ShiftSigned
+        | Operation::ScanForward => MemoryUse::Update,
     }
 }
 
@@ -112,27 +125,39 @@ fn rm_use(form: OperandForm, usage: MemoryUse) -> MemoryUse
         | OperandForm::RmCl
         | OperandForm::Rm => usage,
         OperandForm::RegRm | OperandForm::RegRmImm => MemoryUse::Read,
-        _ => MemoryUse::Nothing,
+        OperandForm::AccImm
+        | OperandForm::OpcodeImm
+        | OperandForm::Opcode
+        | OperandForm::Imm
+        | OperandForm::Relative
+        | OperandForm::Nothing => MemoryUse::Nothing,
     }
 }
 
+/// What is loaded of an operand that is in memory.
 fn load_by(usage: MemoryUse, size: Size, place: Place) -> Load
     ensures { result ≡ load_by_of usage size place }
 {
-    match (place, usage) {
-        (Place::Memory(at), MemoryUse::Read) => Load::Read(at, size),
-        (Place::Memory(at), MemoryUse::Update) => Load::ReadToWrite(at, size),
-        _ => Load::Nothing,
+    match place {
+        Place::Register(_) => Load::Nothing,
+        Place::Memory(at) => match usage {
+            MemoryUse::Read => Load::Read(at, size),
+            MemoryUse::Update => Load::ReadToWrite(at, size),
+            MemoryUse::Write | MemoryUse::Nothing => Load::Nothing,
+        },
     }
 }
 
+/// What is stored to an operand that is in memory.
 fn store_by(usage: MemoryUse, size: Size, place: Place) -> Store
     ensures { result ≡ store_by_of usage size place }
 {
-    match (place, usage) {
-        (Place::Memory(at), MemoryUse::Update) => Store::At(at, size),
-        (Place::Memory(at), MemoryUse::Write) => Store::At(at, size),
-        _ => Store::Nothing,
+    match place {
+        Place::Register(_) => Store::Nothing,
+        Place::Memory(at) => match usage {
+            MemoryUse::Update | MemoryUse::Write => Store::At(at, size),
+            MemoryUse::Read | MemoryUse::Nothing => Store::Nothing,
+        },
     }
 }
 
@@ -189,7 +214,14 @@ pub fn store(action: Action, insn: &Insn, regs: &Regs) -> Store
         ),
         Action::Exchange(_, size) => store_by(MemoryUse::Update, size, rm_place(insn, regs)),
         Action::Push(_) | Action::Call(_) => store_below(regs),
-        _ => Store::Nothing,
+        Action::ZeroExtend(_)
+        | Action::LoadAddress(_)
+        | Action::Pop
+        | Action::Return
+        | Action::Jump(_)
+        | Action::JumpIf(_)
+        | Action::Pass
+        | Action::Stop(_) => Store::Nothing,
     }
 }
 
@@ -200,6 +232,16 @@ pub fn effect(action: Action) -> Effect
 {
     match action {
         Action::Stop(effect) => effect,
-        _ => Effect::Next,
+        Action::Compute(_, _, _)
+        | Action::ZeroExtend(_)
+        | Action::LoadAddress(_)
+        | Action::Exchange(_, _)
+        | Action::Push(_)
+        | Action::Pop
+        | Action::Return
+        | Action::Jump(_)
+        | Action::JumpIf(_)
+        | Action::Call(_)
+        | Action::Pass => Effect::Next,
     }
 }

@@ -16,14 +16,10 @@ ghost use Rattle.sb_exec.specs.WriteBack.{
 
 use crate::action::{After, Place};
 use crate::address::rm_place;
-use crate::operand::{
-    imm_value, next_rip, opcode_number, operand_value, reg_number, register, set_register,
-};
+use crate::operand::{next_rip, opcode_number, operand_value, reg_number, register, set_register};
 use sb_alu::{Operation, Size, operate};
+use sb_insn::registers::{RAX, RCX};
 use sb_insn::{Insn, OperandForm, Regs};
-
-/// The number of RCX, whose lowest byte is CL.
-const COUNTER: usize = 1;
 
 /// The registers at the next instruction.
 pub fn stepped(insn: &Insn, regs: &Regs) -> Regs
@@ -77,7 +73,8 @@ fn destination(form: OperandForm, insn: &Insn, regs: &Regs) -> Place
         | OperandForm::Rm => rm_place(insn, regs),
         OperandForm::RegRm | OperandForm::RegRmImm => Place::Register(reg_number(insn)),
         OperandForm::OpcodeImm | OperandForm::Opcode => Place::Register(opcode_number(insn)),
-        _ => Place::Register(0),
+        OperandForm::AccImm | OperandForm::Imm | OperandForm::Relative | OperandForm::Nothing =>
+            Place::Register(RAX),
     }
 }
 
@@ -89,7 +86,20 @@ fn first_operand(form: OperandForm, size: Size, insn: &Insn, regs: &Regs, loaded
 {
     match form {
         OperandForm::RegRmImm => rm_value(size, insn, regs, loaded),
-        _ => operand_value(size, destination(form, insn, regs), regs, loaded),
+        OperandForm::RmReg
+        | OperandForm::RegRm
+        | OperandForm::RmImm
+        | OperandForm::AccImm
+        | OperandForm::OpcodeImm
+        | OperandForm::RmCount
+        | OperandForm::RmCl
+        | OperandForm::Rm
+        | OperandForm::Opcode
+        | OperandForm::Imm
+        | OperandForm::Relative
+        | OperandForm::Nothing => {
+            operand_value(size, destination(form, insn, regs), regs, loaded)
+        }
     }
 }
 
@@ -106,11 +116,11 @@ pub fn last_operand(form: OperandForm, size: Size, insn: &Insn, regs: &Regs, loa
         | OperandForm::AccImm
         | OperandForm::OpcodeImm
         | OperandForm::RegRmImm
-        | OperandForm::Imm => size.low(imm_value(insn.imm)),
-        OperandForm::RmCount => Size::Byte.low(imm_value(insn.imm)),
-        OperandForm::RmCl => register(Size::Byte, COUNTER, regs),
+        | OperandForm::Imm => size.low(insn.imm.value()),
+        OperandForm::RmCount => Size::Byte.low(insn.imm.value()),
+        OperandForm::RmCl => register(Size::Byte, RCX, regs),
         OperandForm::Opcode => register(size, opcode_number(insn), regs),
-        OperandForm::Relative => size.low(next_rip(insn, regs).wrapping_add(imm_value(insn.imm))),
+        OperandForm::Relative => size.low(next_rip(insn, regs).wrapping_add(insn.imm.value())),
         OperandForm::Nothing => 0,
     }
 }

@@ -6,52 +6,18 @@ use Rattle.sb_memory.specs.declared.address.Access.TheVariants.{Fetch}
 use Rattle.sb_insn.specs.declared.insn.Insn.{Insn}
 use Rattle.sb_insn.specs.Spelling.{spelling}
 use Rattle.sb_insn.specs.Grammar.{IsValid}
-use Rattle.sb_decode.proofs.Exact.{none_begins_another}
 use Rattle.sb_bus.specs.declared.stop.BusStop.{BusStop}
+use Rattle.sb_exec.proofs.OneFetch.{spelled_fetches}
 use Rattle.sb_exec.specs.Fetching.{further, Stands, HasShortFronts, Fetches, FetchesOn, fetch_of, after_fetches}
 use Rattle.sb_tramp.specs.Page.{Row, StandsIn}
 use Rattle.sb_tramp.specs.Server.{server_page}
-use Rattle.sb_trace.specs.declared.page.PageName.TheVariants.{ServerTrampoline}
-use Rattle.sb_trace.specs.declared.page.Mode.TheVariants as mode
+use Rattle.sb_state.specs.declared.page.PageName.TheVariants.{ServerTrampoline}
+use Rattle.sb_state.specs.declared.page.Mode.TheVariants as mode
 use Rattle.sb_trace.specs.PageName.{mode_of}
 use Rattle.sb_trace.specs.State.{State, contents, bytes_of}
 use Rattle.sb_trace.specs.Windows.{name_at, shown, page_seen}
 use Rattle.sb_trace.specs.PlainMemory.{plain, plain_byte, is_canonical}
 use Rattle.sb_trace.specs.Sound.{ArePagesSound}
-
--- ---- the fronts of a spelling are short
-
-front_begins : (insn other : Insn) (count : ℕ) (rest : List ℕ) → IsValid insn → IsValid other → count < length (spelling insn)
-    → take count (spelling insn) ≡ spelling other ++ rest → ⊥
-front_begins insn other count rest valid also below front =
-    let behind = drop count (spelling insn) in
-    let whole : spelling insn ≡ spelling other ++ (rest ++ behind) =
-    sym (take-append-drop count (spelling insn)) ∙ ap (λ (t : List ℕ). t ++ behind) front ∙ append_assoc (spelling other) rest behind in
-    let same : other ≡ insn = none_begins_another other insn (rest ++ behind) also valid whole in
-    let size : length (take count (spelling insn)) ≡ count = length-take-le count (spelling insn) (omega arith) in
-    let parts : length (take count (spelling insn)) ≡ length (spelling other) + length rest = ap (λ (t : List ℕ). length t) front ∙ length-append (spelling other) rest in
-    let longer : length (spelling other) ≡ length (spelling insn) = ap (λ (i : Insn). length (spelling i)) same in
-    omega (arith, size, parts, longer, below)
-
-pub short_fronts : (insn : Insn) → IsValid insn → HasShortFronts (spelling insn)
-unfolding HasShortFronts
-short_fronts insn valid count below = (
-  λ other begins. front_begins insn other count begins.1.0 valid begins.0 below begins.1.1,
-  (
-    drop count (spelling insn),
-    insn,
-    (valid, ([], take-append-drop count (spelling insn) ∙ sym (append-nil (spelling insn)))),
-  ),
-)
-
-pub spelled_fetches : (fetch : ℕ → Result ℕ BusStop) (address : ℕ) (insn : Insn) → IsValid insn → Stands fetch address (spelling insn)
-    → Fetches fetch address (Ok insn) (length (spelling insn))
-spelled_fetches fetch address insn valid stands = record {
-  bytes = spelling insn;
-  stands = stands;
-  fronts = short_fronts insn valid;
-  ends = ((valid, refl), refl);
-}
 
 -- ---- the server page in a server's view
 

@@ -9,37 +9,31 @@ use Rattle.sb_exec.specs.declared.action.Load.TheVariants as load
 use Rattle.sb_exec.specs.Size.{size_bytes}
 use Rattle.sb_exec.specs.Access.{loaded_from, byte_for}
 use Rattle.sb_exec.specs.Execution.{Execution, execution_of}
-use Rattle.sb_trace.specs.declared.state.Flight.{Flight}
+use Rattle.sb_exec.specs.LoadThenStore.{row_load_answer}
+use Rattle.sb_exec.proofs.Accesses.{row_without_store_runs}
+use Rattle.sb_state.specs.declared.state.Flight.{Flight}
 use Rattle.sb_trace.specs.State.{State, flight_at, with_flight}
 use Rattle.sb_trace.specs.PlainMemory.{plain, plain_byte}
 use Rattle.sb_trace.specs.Step.{executed}
 use Rattle.sb_landing.specs.Moved.{landing_regs}
-use Rattle.sb_landing.specs.Rows.{row_at, moving}
+use Rattle.sb_landing.specs.Rows.{row_at}
 use Rattle.sb_landing.specs.Stages.{Stage}
 use Rattle.sb_landing.specs.Leads.{Leads}
 
 -- the word that a load finds
 abbrev pub Finds : State → ℕ → ℕ → Load → ℕ → Type 0
-Finds state number view load.Nothing word = word ≡ 0
-Finds state number view (load.Read address size) word = loaded_from (byte_for (plain_byte number view state) Read) address.0 (size_bytes size) ≡ Ok word
-Finds state number view (load.ReadToWrite address size) word = ⊥
+Finds state number view loads word = row_load_answer (plain number view) loads state ≡ Ok word
 
 -- an execution that only changes registers
 abbrev pub only_regs : State → Regs → Execution State (Unit {0})
 only_regs state regs = record { answer = Ok Next; registers = regs; meaning = state; account = tt }
 
-runs_moving : (state : State) (number view : ℕ) (regs : Regs) (loads : Load) (after : ℕ → Regs) (word : ℕ) → Finds state number view loads word
-    → execution_of (plain number view) (moving loads after) regs state tt ≡ only_regs state (after word)
-unfolding execution_of
-runs_moving state number view regs load.Nothing after word finds = ap (λ n. only_regs state (after n)) (sym finds)
-runs_moving state number view regs (load.Read address size) after word finds = rw finds refl
-runs_moving state number view regs (load.ReadToWrite address size) after word finds = absurd finds
-
 pub leads_on : (state : State) (number view : ℕ) (start : Regs) (from to : Stage) (loads : Load) (word : ℕ) → Leads start from to loads word
     → Finds state number view loads word → executed state number view (row_at from.phase).insn (landing_regs start from.moved) ≡ only_regs state (landing_regs start to.moved)
 leads_on state number view start from to loads word leads finds =
     ap (λ row. execution_of (plain number view) row (landing_regs start from.moved) state tt) leads.meaning
-    ∙ (runs_moving state number view (landing_regs start from.moved) loads leads.after word finds ∙ ap (only_regs state) leads.regs)
+    ∙ (row_without_store_runs (plain number view) loads leads.after (landing_regs start from.moved) state tt word finds
+    ∙ ap (only_regs state) leads.regs)
 
 -- ---- the flight of a thread is set
 

@@ -17,7 +17,8 @@ use Rattle.sb_exec.specs.Execution.{Execution, execution_by, execution_of}
 use Rattle.sb_exec.specs.Simulation.{told}
 use Rattle.sb_original.specs.Words.{Words}
 use Rattle.sb_original.specs.Slot.{Slotted, worked, worked_through}
-use Rattle.sb_original.specs.Beside.{AllOutside, AreBeside, IsStopped, EndAlike}
+use Rattle.sb_exec.specs.Simulation.{IsRowAt}
+use Rattle.sb_original.specs.Beside.{AreBeside, IsStopped, EndAlike}
 use Rattle.sb_original.specs.Original.{IsRegs, SameAccesses}
 use Rattle.sb_original.specs.Going.{original_before, Works, Ahead, Left, MainWorks}
 use Rattle.sb_original.proofs.Beside.{accesses_same, main_step}
@@ -157,11 +158,11 @@ next_ends row other regs other_regs new other_new answer (inr ends) =
 
 pair_made : {M A N B : Type 0} (bus : Interface M A) (original : Interface N B) (Holds : Words → M → N → Type 0) (IsOutside : ℕ → ℕ → Type 0) (naming : BusStop → BusStop) (target source : Code) (row other : Regs → Row) (words : Words) (left : Thread M A) (right : Thread N B)
     → AreBeside bus original Holds IsOutside naming → target left.regs.rip ≡ Some other → source right.regs.rip ≡ Some row → SameAccesses (row right.regs) (other left.regs) → Holds words left.meaning right.meaning
-    → UnlessStopped (step bus target left).event (AllOutside IsOutside (row right.regs)) → PairMade Holds naming words (row right.regs) (other left.regs) (step bus target left) (step original source right)
+    → UnlessStopped (step bus target left).event (IsRowAt IsOutside (row right.regs)) → PairMade Holds naming words (row right.regs) (other left.regs) (step bus target left) (step original source right)
 pair_made bus original Holds IsOutside naming target source row other words left right beside there is same holds outside =
     let answer = (execution_of bus (other left.regs) left.regs left.meaning left.account).answer in
-    let out : UnlessStopped (event_of answer) (AllOutside IsOutside (row right.regs)) = subst (λ (code : Option (Regs → Row)). UnlessStopped (executed bus code left).event (AllOutside IsOutside (row right.regs))) there outside in
-    let main = main_step bus original Holds IsOutside naming beside (row right.regs) (other left.regs) right.regs left.regs words left.meaning right.meaning left.account right.account same holds (outside_or (AllOutside IsOutside (row right.regs)) answer out) in
+    let out : UnlessStopped (event_of answer) (IsRowAt IsOutside (row right.regs)) = subst (λ (code : Option (Regs → Row)). UnlessStopped (executed bus code left).event (IsRowAt IsOutside (row right.regs))) there outside in
+    let main = main_step bus original Holds IsOutside naming beside (row right.regs) (other left.regs) right.regs left.regs words left.meaning right.meaning left.account right.account same holds (outside_or (IsRowAt IsOutside (row right.regs)) answer out) in
     let pair : PairMade Holds naming words (row right.regs) (other left.regs) (executed bus (Some other) left) (executed original (Some row) right) = record {
       event = ap (λ a. event_of a) main.answer ∙ told_of naming answer;
       holds = main.holds;
@@ -195,7 +196,7 @@ main_stands bus Holds place slot (insn ∷ post) words regs after left right add
 -- main's step is the original's
 main_goes : {M A N B : Type 0} (bus : Interface M A) (original : Interface N B) (Holds : Words → M → N → Type 0) (IsOutside : ℕ → ℕ → Type 0) (naming : BusStop → BusStop) (target source : Code) (place : ℕ → Position) (slot : Slot) (words : Words) (left : Thread M A) (right : Thread N B)
     → AreBeside bus original Holds IsOutside naming → target left.regs.rip ≡ Some (λ regs. row_of slot.main regs) → source right.regs.rip ≡ Some slot.row → HasNext place slot slot.post (behind left.regs.rip slot.main)
-    → Holds words left.meaning right.meaning → UnlessStopped (step bus target left).event (AllOutside IsOutside (slot.row right.regs)) → MainWorks bus Holds (slot.row right.regs) slot.main slot.post (record { regs = left.regs; words = words })
+    → Holds words left.meaning right.meaning → UnlessStopped (step bus target left).event (IsRowAt IsOutside (slot.row right.regs)) → MainWorks bus Holds (slot.row right.regs) slot.main slot.post (record { regs = left.regs; words = words })
     → ((step original source right).event ≡ told_event naming (step bus target left).event) × WhereNext (step bus target left).event (Related bus Holds place (step bus target left).thread (step original source right).thread)
 main_goes bus original Holds IsOutside naming target source place slot words left right beside there is next holds outside (inl makes) =
     let made = step bus target left in
@@ -235,7 +236,7 @@ pair_open bus original Holds naming target source place row other words left rig
 
 same_code : {M A N B : Type 0} (bus : Interface M A) (original : Interface N B) (Holds : Words → M → N → Type 0) (IsOutside : ℕ → ℕ → Type 0) (naming : BusStop → BusStop) (target source : Code) (place : ℕ → Position) (words : Words) (left : Thread M A) (right : Thread N B) (found : Option (Regs → Row))
     → AreBeside bus original Holds IsOutside naming → target left.regs.rip ≡ found → source left.regs.rip ≡ found → right.regs ≡ left.regs → Holds words left.meaning right.meaning
-    → WhereNext (step bus target left).event (leads_astray Same (place (step bus target left).thread.regs.rip) ≡ false) → UnlessStopped (step bus target left).event (AtRow Same found left.regs (λ row. AllOutside IsOutside row))
+    → WhereNext (step bus target left).event (leads_astray Same (place (step bus target left).thread.regs.rip) ≡ false) → UnlessStopped (step bus target left).event (AtRow Same found left.regs (λ row. IsRowAt IsOutside row))
     → ((step original source right).event ≡ told_event naming (step bus target left).event) × WhereNext (step bus target left).event (Related bus Holds place (step bus target left).thread (step original source right).thread)
 same_code bus original Holds IsOutside naming target source place words left right None beside there is equal holds leads outside =
     let from : source right.regs.rip ≡ None = ap (λ (r : Regs). source r.rip) equal ∙ is in (
@@ -246,26 +247,26 @@ same_code bus original Holds IsOutside naming target source place words left rig
     let from : source right.regs.rip ≡ Some row = ap (λ (r : Regs). source r.rip) equal ∙ is in
     let rows : row right.regs ≡ row left.regs = ap row equal in
     let same : SameAccesses (row right.regs) (row left.regs) = subst (λ (r : Row). SameAccesses (row right.regs) r) rows (record { load = refl; store = refl; effect = refl; stored = λ loaded. refl }) in
-    let pair = pair_made bus original Holds IsOutside naming target source row row words left right beside there from same holds (subst (λ (r : Regs). UnlessStopped (step bus target left).event (AllOutside IsOutside (row r))) (sym equal) outside) in
+    let pair = pair_made bus original Holds IsOutside naming target source row row words left right beside there from same holds (subst (λ (r : Regs). UnlessStopped (step bus target left).event (IsRowAt IsOutside (row r))) (sym equal) outside) in
     (pair.event, pair_open bus original Holds naming target source place (row right.regs) (row left.regs) words left right Same (open_from _) pair (λ loaded. ap (λ (r : Row). (r.after loaded).regs) (sym rows)) leads)
 
 by_position : {M A N B : Type 0} (bus : Interface M A) (original : Interface N B) (Holds : Words → M → N → Type 0) (IsOutside : ℕ → ℕ → Type 0) (naming : BusStop → BusStop) (target source : Code) (place : ℕ → Position) (words : Words) (left : Thread M A) (right : Thread N B) (at : Position)
     → AreBeside bus original Holds IsOutside naming → Stands bus Holds target source place left.regs.rip at → IsAt bus Holds at (record { regs = left.regs; words = words }) right.regs → Holds words left.meaning right.meaning → IsRegs left.regs
     → WhereNext (step bus target left).event (leads_astray at (place (step bus target left).thread.regs.rip) ≡ false)
-    → UnlessStopped (step bus target left).event (AtRow at (source left.regs.rip) (original_at at (record { regs = left.regs; words = words })) (λ row. AllOutside IsOutside row))
+    → UnlessStopped (step bus target left).event (AtRow at (source left.regs.rip) (original_at at (record { regs = left.regs; words = words })) (λ row. IsRowAt IsOutside row))
     → StepAlike bus Holds naming place at left right (step bus target left) (step original source right) (is_extra at)
 by_position bus original Holds IsOutside naming target source place words left right Nowhere beside stands is holds regs leads outside = absurd is
 by_position bus original Holds IsOutside naming target source place words left right Same beside stands is holds regs leads outside =
     let both = same_code bus original Holds IsOutside naming target source place words left right (target left.regs.rip) beside refl stands is holds leads
-    (subst (λ (code : Option (Regs → Row)). UnlessStopped (step bus target left).event (AtRow Same code left.regs (λ row. AllOutside IsOutside row))) stands outside) in
+    (subst (λ (code : Option (Regs → Row)). UnlessStopped (step bus target left).event (AtRow Same code left.regs (λ row. IsRowAt IsOutside row))) stands outside) in
     (both.0, ap (λ (r : Regs). r.rip) is, both.1)
 by_position bus original Holds IsOutside naming target source place words left right Changed beside (row, main, from, there, law) is holds regs leads outside =
     let found : source right.regs.rip ≡ Some row = ap (λ (r : Regs). source r.rip) is ∙ from in
     let rows : row right.regs ≡ row left.regs = ap row is in
     let in_place = law left.regs refl regs in
     let same : SameAccesses (row right.regs) (row_of main left.regs) = subst (λ (r : Row). SameAccesses r (row_of main left.regs)) (sym rows) in_place.accesses in
-    let out : UnlessStopped (step bus target left).event (AllOutside IsOutside (row right.regs)) =
-    subst (λ (r : Row). UnlessStopped (step bus target left).event (AllOutside IsOutside r)) (sym rows) (subst (λ (code : Option (Regs → Row)). UnlessStopped (step bus target left).event (AtRow Changed code left.regs (λ row. AllOutside IsOutside row))) from outside) in
+    let out : UnlessStopped (step bus target left).event (IsRowAt IsOutside (row right.regs)) =
+    subst (λ (r : Row). UnlessStopped (step bus target left).event (IsRowAt IsOutside r)) (sym rows) (subst (λ (code : Option (Regs → Row)). UnlessStopped (step bus target left).event (AtRow Changed code left.regs (λ row. IsRowAt IsOutside row))) from outside) in
     let pair = pair_made bus original Holds IsOutside naming target source row (λ regs. row_of main regs) words left right beside there found same holds out in (
       pair.event,
       ap (λ (r : Regs). r.rip) is,
@@ -288,7 +289,7 @@ by_position bus original Holds IsOutside naming target source place words left r
     let found : source right.regs.rip ≡ Some slot.row = ap (λ (r : Regs). source r.rip) is ∙ from in
     let work : MainWorks bus Holds (slot.row right.regs) slot.main slot.post (record { regs = left.regs; words = words }) =
     subst (λ (r : Regs). MainWorks bus Holds (slot.row r) slot.main slot.post (record { regs = left.regs; words = words })) (sym is) (law (record { regs = left.regs; words = words }) refl regs) in
-    let both = main_goes bus original Holds IsOutside naming target source place slot words left right beside there found next holds (subst (λ (r : Regs). UnlessStopped (step bus target left).event (AllOutside IsOutside (slot.row r))) (sym is) outside) work in
+    let both = main_goes bus original Holds IsOutside naming target source place slot words left right beside there found next holds (subst (λ (r : Regs). UnlessStopped (step bus target left).event (IsRowAt IsOutside (slot.row r))) (sym is) outside) work in
     (both.0, ap (λ (r : Regs). r.rip) is, both.1)
 by_position bus original Holds IsOutside naming target source place words left right (InPre slot done insn rest) beside (there, whole, next) ((same, works, rip, ahead), work) holds regs leads outside =
     let state : Slotted = record { regs = left.regs; words = words } in
@@ -300,7 +301,7 @@ by_position bus original Holds IsOutside naming target source place words left r
 by_position bus original Holds IsOutside naming target source place words left right (AtMain slot) beside (from, there, next) (same, work) holds regs leads outside =
     let rip : right.regs.rip ≡ slot.start = sym (ap (λ (r : Regs). r.rip) same) in
     let found : source right.regs.rip ≡ Some slot.row = ap source rip ∙ from in
-    let both = main_goes bus original Holds IsOutside naming target source place slot words left right beside there found next holds (subst (λ (r : Regs). UnlessStopped (step bus target left).event (AllOutside IsOutside (slot.row r))) same outside) work in
+    let both = main_goes bus original Holds IsOutside naming target source place slot words left right beside there found next holds (subst (λ (r : Regs). UnlessStopped (step bus target left).event (IsRowAt IsOutside (slot.row r))) same outside) work in
     (both.0, rip, both.1)
 by_position bus original Holds IsOutside naming target source place words left right (InPost slot insn []) beside (there, next) (works, goes, last) holds regs leads outside =
     let state : Slotted = record { regs = left.regs; words = words } in

@@ -8,7 +8,7 @@ use Rattle.sb_exec.specs.Interface.{Interface}
 use Rattle.sb_exec.specs.Row.{Row, accesses}
 use Rattle.sb_exec.specs.Rows.{row_of}
 use Rattle.sb_original.specs.Words.{Words}
-use Rattle.sb_original.specs.Beside.{AllOutside}
+use Rattle.sb_exec.specs.Simulation.{IsRowAt}
 use Rattle.sb_original.specs.Slot.{Slotted, IsScratch, worked_through}
 use Rattle.sb_original.specs.Original.{IsRegs}
 use Rattle.sb_original.specs.Going.{original_before, Ahead, Left, MainWorks}
@@ -59,7 +59,7 @@ pub record IsStraight {M A N : Type 0} (bus : Interface M A) (Holds : Words → 
   pub regs : IsRegs left.regs
   pub leads : WhereNext (step bus target left).event (leads_astray (place left.regs.rip) (place (step bus target left).thread.regs.rip) ≡ false)
   pub outside : (words : Words) (other : N) → Holds words left.meaning other
-      → UnlessStopped (step bus target left).event (AtRow (place left.regs.rip) (source left.regs.rip) (original_at (place left.regs.rip) (record { regs = left.regs; words = words })) (λ row. AllOutside IsOutside row))
+      → UnlessStopped (step bus target left).event (AtRow (place left.regs.rip) (source left.regs.rip) (original_at (place left.regs.rip) (record { regs = left.regs; words = words })) (λ row. IsRowAt IsOutside row))
 
 -- each step of a run is such a one
 abbrev pub AreStraight : {M A N : Type 0} → Interface M A → (Words → M → N → Type 0) → (ℕ → ℕ → Type 0) → Code → Code → (ℕ → Position) → ℕ → Thread M A → Type 0

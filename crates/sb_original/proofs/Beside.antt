@@ -18,11 +18,11 @@ use Rattle.sb_exec.specs.Interface.{Interface}
 use Rattle.sb_exec.specs.Size.{size_bytes}
 use Rattle.sb_exec.specs.Row.{Row, MemoryAccess, Loads, LoadsToWrite, Stores, load_accesses, store_accesses, accesses}
 use Rattle.sb_exec.specs.Execution.{Run, run, run_on, execution_of, access_answer, meaning_after, execution_by, effect_after, registers_after}
-use Rattle.sb_exec.specs.Simulation.{told}
-use Rattle.sb_exec.proofs.Simulation.{loads_agree, stores_agree, SameRun}
+use Rattle.sb_exec.specs.Simulation.{told, IsAt, IsRowAt, AgreeAt, StoresKeepAt}
+use Rattle.sb_exec.proofs.Simulation.{SameRun, run_agrees_at}
 use Rattle.sb_original.specs.Words.{Words}
 use Rattle.sb_original.specs.Original.{SameAccesses}
-use Rattle.sb_original.specs.Beside.{AccessAt, AllOutside, AreBeside, IsStopped, EndAlike, MainStep}
+use Rattle.sb_original.specs.Beside.{AreBeside, IsStopped, EndAlike, MainStep}
 
 -- ---- the same accesses
 
@@ -36,47 +36,32 @@ accesses_same row other same =
     ∙ ap (λ last. load_accesses row.load ++ store_accesses last other.after) same.store
     ∙ ap (λ (last : List MemoryAccess). load_accesses row.load ++ last) (store_same row.store row.after other.after same.stored)
 
--- ---- one access
+-- ---- what is said of memories beside each other, of one tuple of words
 
-stored_told : (naming : BusStop → BusStop) (answer : Result (Unit {0}) BusStop) (loaded : ℕ) → and_then (told naming answer) (λ _. Ok loaded) ≡ told naming (and_then answer (λ _. Ok loaded))
-stored_told naming (Ok stored) loaded = refl
-stored_told naming (Err stop) loaded = refl
+keeps_at : {M A N B : Type 0} (left : Interface M A) (right : Interface N B) (Holds : Words → M → N → Type 0) (IsOutside : ℕ → ℕ → Type 0)
+    (naming : BusStop → BusStop) → AreBeside left right Holds IsOutside naming → (words : Words) → StoresKeepAt IsOutside (Holds words) left right
+keeps_at left right Holds IsOutside naming beside words =
+    record { stored = λ first second holds address size value outside. beside.stored words first second address size value holds outside }
 
-access_alike : {M A N B : Type 0} (left : Interface M A) (right : Interface N B) (Holds : Words → M → N → Type 0) (IsOutside : ℕ → ℕ → Type 0) (naming : BusStop → BusStop) → AreBeside left right Holds IsOutside naming
-    → (access : MemoryAccess) (words : Words) (first : M) (second : N) (loaded : ℕ) → AccessAt IsOutside access → Holds words first second → access_answer right access second loaded ≡ told naming (access_answer left access first loaded)
-access_alike left right Holds IsOutside naming beside (Loads address size) words first second loaded outside holds = loads_agree naming _ _ address size (beside.reads words first second address size holds outside)
-access_alike left right Holds IsOutside naming beside (LoadsToWrite address size) words first second loaded outside holds = loads_agree naming _ _ address size (beside.updates words first second address size holds outside)
-access_alike left right Holds IsOutside naming beside (Stores address size value) words first second loaded outside holds =
-    rw (stores_agree naming _ _ address size (beside.writes words first second address size holds outside)) (stored_told naming _ loaded)
+agree_at : {M A N B : Type 0} (left : Interface M A) (right : Interface N B) (Holds : Words → M → N → Type 0) (IsOutside : ℕ → ℕ → Type 0)
+    (naming : BusStop → BusStop) → AreBeside left right Holds IsOutside naming → (words : Words) (first : M) (second : N) → Holds words first second
+    → (access : MemoryAccess) → IsAt IsOutside access → AgreeAt naming left right access first second
+agree_at left right Holds IsOutside naming beside words first second holds (Loads address size) outside =
+    beside.reads words first second address size holds outside
+agree_at left right Holds IsOutside naming beside words first second holds (LoadsToWrite address size) outside =
+    beside.updates words first second address size holds outside
+agree_at left right Holds IsOutside naming beside words first second holds (Stores address size value) outside =
+    beside.writes words first second address size holds outside
 
-kept_by : {M N : Type 0} (Holds : Words → M → N → Type 0) (naming : BusStop → BusStop) (words : Words) (one two : Result (Unit {0}) BusStop) (first first' : M) (second second' : N) → two ≡ told naming one → Holds words first second
-    → (one ≡ Ok tt → two ≡ Ok tt → Holds words first' second') → Holds words (where_stored one first' first) (where_stored two second' second)
-kept_by Holds naming words (Ok stored) two first first' second second' equal given next = rw equal (next refl equal)
-kept_by Holds naming words (Err stop) two first first' second second' equal given next = rw equal given
-
-access_keeps : {M A N B : Type 0} (left : Interface M A) (right : Interface N B) (Holds : Words → M → N → Type 0) (IsOutside : ℕ → ℕ → Type 0) (naming : BusStop → BusStop) → AreBeside left right Holds IsOutside naming
-    → (access : MemoryAccess) (words : Words) (first : M) (second : N) (loaded : ℕ) → AccessAt IsOutside access → Holds words first second → Holds words (meaning_after left access first loaded) (meaning_after right access second loaded)
-access_keeps left right Holds IsOutside naming beside (Loads address size) words first second loaded outside holds = holds
-access_keeps left right Holds IsOutside naming beside (LoadsToWrite address size) words first second loaded outside holds = holds
-access_keeps left right Holds IsOutside naming beside (Stores address size value) words first second loaded outside holds =
-    kept_by Holds naming words _ _ first _ second _ (stores_agree naming _ _ address size (beside.writes words first second address size holds outside)) holds (beside.stored words first second address size (value loaded) holds outside)
-
--- ---- all of them
-
-run_on_alike : {M A N B : Type 0} (Holds : Words → M → N → Type 0) (naming : BusStop → BusStop) (words : Words) (next : M → A → ℕ → Run M A) (next' : N → B → ℕ → Run N B) (one two : Result ℕ BusStop) (first : M) (second : N) (account : A) (other : B)
-    → two ≡ told naming one → Holds words first second → ((loaded : ℕ) → SameRun (Holds words) naming (next first account loaded) (next' second other loaded))
-    → SameRun (Holds words) naming (run_on next one first account) (run_on next' two second other)
-run_on_alike Holds naming words next next' (Ok loaded) two first second account other equal holds given = rw equal (given loaded)
-run_on_alike Holds naming words next next' (Err stop) two first second account other equal holds given = rw equal (record { answer = refl; related = holds })
-
-pub run_alike : {M A N B : Type 0} (left : Interface M A) (right : Interface N B) (Holds : Words → M → N → Type 0) (IsOutside : ℕ → ℕ → Type 0) (naming : BusStop → BusStop) → AreBeside left right Holds IsOutside naming
-    → (accesses : List MemoryAccess) (words : Words) (first : M) (second : N) (account : A) (other : B) (loaded : ℕ) → AllByRecursion (AccessAt IsOutside) accesses → Holds words first second
+-- accesses outside the scratch page run alike
+pub run_alike : {M A N B : Type 0} (left : Interface M A) (right : Interface N B) (Holds : Words → M → N → Type 0) (IsOutside : ℕ → ℕ → Type 0)
+    (naming : BusStop → BusStop) → AreBeside left right Holds IsOutside naming
+    → (accesses : List MemoryAccess) (words : Words) (first : M) (second : N) (account : A) (other : B) (loaded : ℕ)
+    → AllByRecursion (IsAt IsOutside) accesses → Holds words first second
     → SameRun (Holds words) naming (run left accesses first account loaded) (run right accesses second other loaded)
-run_alike left right Holds IsOutside naming beside [] words first second account other loaded outside holds = record { answer = refl; related = holds }
-run_alike left right Holds IsOutside naming beside (access ∷ accesses) words first second account other loaded outside holds =
-    run_on_alike Holds naming words (run left accesses) (run right accesses) (access_answer left access first loaded) (access_answer right access second loaded) _ _ _ _
-    (access_alike left right Holds IsOutside naming beside access words first second loaded outside.0 holds) (access_keeps left right Holds IsOutside naming beside access words first second loaded outside.0 holds)
-    (λ again. run_alike left right Holds IsOutside naming beside accesses words _ _ _ _ again outside.1 (access_keeps left right Holds IsOutside naming beside access words first second loaded outside.0 holds))
+run_alike left right Holds IsOutside naming beside accesses words first second account other loaded outside holds =
+    run_agrees_at IsOutside (Holds words) naming left right (keeps_at left right Holds IsOutside naming beside words)
+    (record { access = agree_at left right Holds IsOutside naming beside words }) accesses first second account other loaded holds outside
 
 -- ---- the rows
 
@@ -211,7 +196,7 @@ both_left Holds naming words first second one two stopped holds = record {
 
 runs_alike : {M A N B : Type 0} (left : Interface M A) (right : Interface N B) (Holds : Words → M → N → Type 0) (IsOutside : ℕ → ℕ → Type 0) (naming : BusStop → BusStop) → AreBeside left right Holds IsOutside naming
     → (row : Row) (effect : Effect) (words : Words) (first : M) (second : N) (account : A) (account' : B) → Holds words first second
-    → AllOutside IsOutside row ⊎ IsStopped (effect_after effect (run left (accesses row) first account 0).answer)
+    → IsRowAt IsOutside row ⊎ IsStopped (effect_after effect (run left (accesses row) first account 0).answer)
     → SameRun (Holds words) naming (run left (accesses row) first account 0) (run right (accesses row) second account' 0)
 runs_alike left right Holds IsOutside naming beside row effect words first second account account' holds (inl outside) =
     run_alike left right Holds IsOutside naming beside (accesses row) words first second account account' 0 outside holds
@@ -221,11 +206,11 @@ runs_alike left right Holds IsOutside naming beside row effect words first secon
 
 pub main_step : {M A N B : Type 0} (left : Interface M A) (right : Interface N B) (Holds : Words → M → N → Type 0) (IsOutside : ℕ → ℕ → Type 0) (naming : BusStop → BusStop) → AreBeside left right Holds IsOutside naming
     → (row other : Row) (regs other_regs : Regs) (words : Words) (first : M) (second : N) (account : A) (account' : B) → SameAccesses row other → Holds words first second
-    → AllOutside IsOutside row ⊎ IsStopped (execution_of left other other_regs first account).answer
+    → IsRowAt IsOutside row ⊎ IsStopped (execution_of left other other_regs first account).answer
     → MainStep Holds naming words row other regs other_regs (execution_of right row regs second account') (execution_of left other other_regs first account)
 unfolding execution_of
 main_step left right Holds IsOutside naming beside row other regs other_regs words first second account account' same holds outside =
     by_runs Holds naming words row other regs other_regs (run left (accesses other) first account 0) (run right (accesses row) second account' 0) same.effect
     (subst (λ list. SameRun (Holds words) naming (run left list first account 0) (run right (accesses row) second account' 0)) (sym (accesses_same row other same))
     (runs_alike left right Holds IsOutside naming beside row other.effect words first second account account' holds
-    (subst (λ list. AllOutside IsOutside row ⊎ IsStopped (effect_after other.effect (run left list first account 0).answer)) (accesses_same row other same) outside)))
+    (subst (λ list. IsRowAt IsOutside row ⊎ IsStopped (effect_after other.effect (run left list first account 0).answer)) (accesses_same row other same) outside)))

@@ -15,7 +15,7 @@ use Rattle.sb_insn.specs.declared.opcode_map.Cell.{Cell}
 use Rattle.sb_insn.specs.declared.opcode_map.Cell.TheVariants.{Absent, Plain, ModRm, Extended}
 use Rattle.sb_insn.specs.OpcodeMap.{one_byte, one_byte_rows, two_byte, two_byte_rows, cell_of}
 use Rattle.sb_insn.specs.Groups.{group_operand, operand_of}
-use Rattle.sb_insn.specs.Fields.{reg_field, some_permits, is_modrm_field}
+use Rattle.sb_insn.specs.Fields.{reg_field, some_permits, is_modrm_field, rex_w}
 use Rattle.sb_insn.specs.Listing.{named, instruction_in, instruction_of, operand_in, operand_for}
 use Rattle.sb_insn.specs.Grammar.{IsValid}
 use Rattle.sb_insn.proofs.Rows.{looked_up, some_holds}
@@ -23,7 +23,7 @@ use Rattle.sb_alu.specs.declared.operation.Operation.TheVariants as operation
 use Rattle.sb_exec.specs.declared.action.Exchange.TheVariants as exchange
 use Rattle.sb_exec.specs.declared.action.Action.TheVariants.{Compute, ZeroExtend, LoadAddress, Exchange, JumpIf}
 use Rattle.sb_alu.specs.declared.size.Size.TheVariants.{Double, Quad}
-use Rattle.sb_exec.specs.Operand.{bit_of_rex, reg_number, operand_size, opcode_of}
+use Rattle.sb_exec.specs.Operand.{reg_number, operand_size, opcode_of}
 use Rattle.sb_exec.specs.Actions.{byte_or, moved_size, condition_number, action_by, action_for, action_of}
 use Rattle.sb_forms.specs.Registers as forms
 use Rattle.sb_forms.specs.Registers.{byte_of, is_number, rm_number, base_number, index_number, form_number, is_named}
@@ -291,7 +291,7 @@ action_same insn main same size moved number = ap (λ found. action_for found ma
     for_same (Some instruction) insn main size moved number = action_by_same instruction.mnemonic instruction.form insn main size moved number
 
 -- an instruction with another ModRM byte whose reg field is the same, and the same REX.W
-pub same_work : (insn main : Insn) (byte : ℕ) → has_memory insn.modrm ≡ true → main.op ≡ insn.op → main.modrm ≡ Some byte → reg_field byte ≡ reg_field (byte_of insn.modrm) → bit_of_rex main.rex 3 ≡ bit_of_rex insn.rex 3 → action_of main ≡ action_of insn
+pub same_work : (insn main : Insn) (byte : ℕ) → has_memory insn.modrm ≡ true → main.op ≡ insn.op → main.modrm ≡ Some byte → reg_field byte ≡ reg_field (byte_of insn.modrm) → rex_w main.rex ≡ rex_w insn.rex → action_of main ≡ action_of insn
 unfolding instruction_of operand_for
 same_work insn main byte memory op modrm reg wide =
     let size : operand_size main ≡ operand_size insn = ap (λ (bit : ℕ). if bit == 1 then Quad else Double) wide in

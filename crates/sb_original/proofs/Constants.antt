@@ -35,7 +35,8 @@ use Rattle.sb_exec.specs.declared.action.Action.TheVariants.{Compute}
 use Rattle.sb_exec.specs.declared.action.Place.{Place}
 use Rattle.sb_exec.specs.declared.action.Place.TheVariants.{Register, Memory}
 use Rattle.sb_exec.specs.Size.{low}
-use Rattle.sb_exec.specs.Operand.{reg_number, opcode_number, operand_size, general, operand_value, imm_value}
+use Rattle.sb_insn.specs.Branch.{imm_value}
+use Rattle.sb_exec.specs.Operand.{reg_number, opcode_number, operand_size, general, operand_value}
 use Rattle.sb_exec.specs.Address.{rm_place}
 use Rattle.sb_exec.specs.WriteBack.{destination, first_operand, last_operand}
 use Rattle.sb_exec.specs.Actions.{byte_or, moved_size, action_by, action_for, action_of}
@@ -146,11 +147,11 @@ own_by _ kind kinds insn is moved = absurd cc
 
 -- ---- forms with an immediate beside one operand
 
-no_load : (size : Size) (place : Place) → load_by memory_use.Nothing size place ≡ load.Nothing
+pub no_load : (size : Size) (place : Place) → load_by memory_use.Nothing size place ≡ load.Nothing
 no_load size (Register number) = refl
 no_load size (Memory address) = refl
 
-no_store : (size : Size) (place : Place) → store_by memory_use.Nothing size place ≡ store.Nothing
+pub no_store : (size : Size) (place : Place) → store_by memory_use.Nothing size place ≡ store.Nothing
 no_store size (Register number) = refl
 no_store size (Memory address) = refl
 

@@ -19,7 +19,7 @@ use Rattle.sb_exec.specs.declared.action.Place.{Place}
 use Rattle.sb_exec.specs.declared.action.Place.TheVariants.{Memory}
 use Rattle.sb_alu.specs.declared.size.Size.{Size}
 use Rattle.sb_exec.specs.Interface.{Interface}
-use Rattle.sb_exec.specs.Operand.{bit_of_rex, modrm_of, reg_number, rm_number, opcode_number, operand_size, general, next_rip}
+use Rattle.sb_exec.specs.Operand.{modrm_of, reg_number, rm_number, opcode_number, operand_size, general, next_rip}
 use Rattle.sb_exec.specs.Address.{linear, operand_address}
 use Rattle.sb_exec.specs.WriteBack.{destination, computed}
 use Rattle.sb_exec.specs.Actions.{action_of}
@@ -41,8 +41,7 @@ use Rattle.sb_original.specs.Alike.{hides, NamesNone}
 use Rattle.sb_original.specs.Slot.{Slotted, saved}
 use Rattle.sb_original.proofs.Saves.{save_done_first, save_done_second, staged_done, staged_then, address_saves, constant_saves}
 use Rattle.sb_original.specs.Original.{Save, Stage, insns_of, Before, staged, FormLaw}
-use Rattle.sb_original.proofs.Alike.{bit_1}
-use Rattle.sb_original.proofs.Fields.{modrm_same, b_same, with_b_0, with_b, helper_not_0}
+use Rattle.sb_original.proofs.Fields.{modrm_same, with_b_0, with_b, helper_not_0}
 use Rattle.sb_original.proofs.Memory.{memory_place, memory_mod, address_below}
 use Rattle.sb_original.proofs.Classes.{number_shown}
 use Rattle.sb_original.proofs.Helpers.{first_unnamed, helpers_differ}
@@ -54,6 +53,7 @@ use Rattle.sb_original.proofs.FormAddress.{insns_staged, alike_accesses, one_sav
 use Rattle.sb_original.proofs.FormConstant.{two_saves, two_kept, two_behind, hides_second}
 use Rattle.sb_original.proofs.Constants.{PlaceIs, constant_main, own_action, whole_main_action}
 use Rattle.sb_original.proofs.Operands.{register_place, memory_reg, memory_at, IsRegister, own_reg, own_place, opcode_is_one}
+use Rattle.sb_original.proofs.FormAddress.{one_length}
 
 -- ---- the table at these instructions
 
@@ -86,7 +86,7 @@ none_behind _ kind insn helper is = absurd cc
 rm_is : (insn : Insn) (modrm : ℕ) → insn.modrm ≡ Some modrm → forms.register (rm_field modrm) (rex_b insn.rex) ≡ rm_number insn
 rm_is insn modrm is =
     let byte : modrm_of insn ≡ modrm = ap (λ (m : Option ℕ). unwrap_or m 0) is in
-    omega (arith, byte, b_same insn.rex)
+    omega (arith, byte)
 
 rm_unnamed : (kinds : OperandForm) (insn : Insn) (number : ℕ) → is_named kinds insn number ≡ false → is_number (forms.rm_number insn.modrm insn.rex) number ≡ false
 unfolding is_named
@@ -102,9 +102,6 @@ own_bit _ insn = b_1 insn.rex
 pub at_bit : (helper : Helper) → (at_helper helper).rex_b ≤ 1
 unfolding at_helper
 at_bit helper = omega arith
-
-pub one_length : (insn : Insn) → length (spelled (insn ∷ [])) ≡ length (spelling insn)
-one_length insn = omega (arith, length-append (spelling insn) [])
 
 -- it stays where it was, and is no helper
 pub record StaysAt (numbers : List ℕ) (insn : Insn) (kinds : OperandForm) (old : Regs) (main : Insn) (helper : Helper) (other : Regs) : Type 0 where
@@ -138,10 +135,10 @@ own_stays numbers name insn instruction form.OpcodeImm old other helper found is
     let low = forms.opcode_of insn.op % 8 in
     let known : IsRegister operand low 0 = record { mod_rm = refl; within = omega arith; rex = b_1 insn.rex } in
     let one = opcode_is_one insn instruction found is in
-    let number : low + 8 * bit_of_rex (with_r_b insn.rex 0 (rex_b insn.rex)) 0 ≡ opcode_number insn = omega (arith, one, with_b insn.rex 0 (omega arith)) in
-    let same : forms.opcode_number insn ≡ opcode_number insn = omega (arith, one, b_same insn.rex) in record {
+    let number : low + 8 * rex_b (with_r_b insn.rex 0 (rex_b insn.rex)) ≡ opcode_number insn = omega (arith, one, with_b insn.rex 0 (omega arith)) in
+    let same : forms.opcode_number insn ≡ opcode_number insn = omega (arith, one) in record {
       place = own_place name insn operand helper low 0 (opcode_number insn) other known number;
-      shown = (omega (arith, bit_1 insn.rex 0), ap (λ (n : ℕ). hides numbers n) (sym same) ∙ number_shown (forms.opcode_number insn) form.OpcodeImm insn numbers refl none);
+      shown = (omega (arith, b_1 insn.rex), ap (λ (n : ℕ). hides numbers n) (sym same) ∙ number_shown (forms.opcode_number insn) form.OpcodeImm insn numbers refl none);
       reg = own_reg name insn operand helper low 0 known;
     }
 own_stays numbers name insn instruction form.RmImm old other helper found is e none accumulator stands =
@@ -150,10 +147,10 @@ own_stays numbers name insn instruction form.RmImm old other helper found is e n
     let low = byte_of insn.modrm % 8 in
     let known : IsRegister operand low 0 = record { mod_rm = refl; within = omega arith; rex = b_1 insn.rex } in
     let three : mod_field (modrm_of insn) ≡ 3 = ap (λ (m : Option ℕ). mod_field (unwrap_or m 0)) modrm.1 ∙ modrm.2 in
-    let number : low + 8 * bit_of_rex (with_r_b insn.rex 0 (rex_b insn.rex)) 0 ≡ rm_number insn = omega (arith, modrm_same insn.modrm, with_b insn.rex 0 (omega arith)) in
+    let number : low + 8 * rex_b (with_r_b insn.rex 0 (rex_b insn.rex)) ≡ rm_number insn = omega (arith, modrm_same insn.modrm, with_b insn.rex 0 (omega arith)) in
     let there = register_place insn old three in record {
       place = own_place name insn operand helper low 0 (rm_number insn) other known number ∙ sym there;
-      shown = subst (λ (place : Place). IsShown (hides numbers) place) (sym there) (omega (arith, bit_1 insn.rex 0), rm_shown numbers form.RmImm insn modrm.0 modrm.1 none);
+      shown = subst (λ (place : Place). IsShown (hides numbers) place) (sym there) (omega (arith, b_1 insn.rex), rm_shown numbers form.RmImm insn modrm.0 modrm.1 none);
       reg = own_reg name insn operand helper low 0 known;
     }
 own_stays numbers name insn instruction _ old other helper found is e none accumulator stands = absurd cc

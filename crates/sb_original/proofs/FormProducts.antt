@@ -1,6 +1,7 @@
 -- The laws of the forms of IMUL with an immediate of four bytes.
 use Rattle.sb_insn.specs.Grammar.{IsValid}
-use Rattle.sb_original.proofs.FormConstants.{rm_shown, same_at, insns_both, one_length, at_bit}
+use Rattle.sb_original.proofs.FormConstants.{rm_shown, same_at, insns_both, at_bit}
+use Rattle.sb_original.proofs.FormAddress.{one_length}
 use Rattle.sb_original.proofs.Operands.{register_place, memory_reg, memory_at, IsRegister, own_reg, own_place}
 use Rattle.sb_original.proofs.Constants.{main_size}
 use Rattle.sb_original.proofs.Addresses.{address_loads, constant_loads}
@@ -36,7 +37,8 @@ use Rattle.sb_exec.specs.declared.action.Action.TheVariants.{Compute}
 use Rattle.sb_exec.specs.declared.action.Place.{Place}
 use Rattle.sb_exec.specs.declared.action.Place.TheVariants.{Register, Memory}
 use Rattle.sb_exec.specs.Interface.{Interface}
-use Rattle.sb_exec.specs.Operand.{reg_number, operand_size, general, next_rip, with_register, imm_value, bit_of_rex, modrm_of, rm_number}
+use Rattle.sb_insn.specs.Branch.{imm_value}
+use Rattle.sb_exec.specs.Operand.{reg_number, operand_size, general, next_rip, with_register, modrm_of, rm_number}
 use Rattle.sb_exec.specs.Address.{rm_place, linear, operand_address}
 use Rattle.sb_exec.specs.WriteBack.{stepped, with_flags, keeping, written, written_back, rm_value}
 use Rattle.sb_exec.specs.Actions.{action_for, action_of, action_by}
@@ -50,7 +52,7 @@ use Rattle.sb_original.specs.Kept.{AgreeBut, IsShown}
 use Rattle.sb_original.specs.Alike.{hides, NamesNone}
 use Rattle.sb_original.specs.Slot.{Slotted, saved}
 use Rattle.sb_original.specs.Original.{Behind, SameAccesses, IsRegs, Stage, insns_of, Before, staged, FormLaw}
-use Rattle.sb_original.proofs.Alike.{reg_below, bit_1}
+use Rattle.sb_original.proofs.Alike.{reg_below}
 use Rattle.sb_original.proofs.FormAddress.{one_behind, insns_staged, one_save, one_kept}
 use Rattle.sb_original.proofs.FormConstant.{two_behind, two_saves, two_kept, hides_second}
 use Rattle.sb_insn.specs.OpcodeMap.{two_byte}
@@ -212,14 +214,14 @@ product_slot bus Holds insn instruction value helper site start state has work f
     let low_field = byte_of insn.modrm % 8 in
     let known : IsRegister operand low_field 0 = record { mod_rm = refl; within = omega arith; rex = b_1 insn.rex } in
     let three : mod_field (modrm_of insn) ≡ 3 = ap (λ (m : Option ℕ). mod_field (unwrap_or m 0)) modrm.1 ∙ modrm.2 in
-    let number : low_field + 8 * bit_of_rex (with_r_b insn.rex 0 (rex_b insn.rex)) 0 ≡ rm_number insn = omega (arith, modrm_same insn.modrm, with_b insn.rex 0 (omega arith)) in
+    let number : low_field + 8 * rex_b (with_r_b insn.rex 0 (rex_b insn.rex)) ≡ rm_number insn = omega (arith, modrm_same insn.modrm, with_b insn.rex 0 (omega arith)) in
     let there = register_place insn old three in
     let bit : operand.rex_b ≤ 1 = b_1 insn.rex in
     let mains : IsProductMain numbers insn main helper value old ready.regs = record {
       own = work_action insn instruction value work;
       main_is = main_action insn operand helper ∙ ap (λ s. Compute operation.Multiply form.RegRm s) (main_size mnemonic.Imul insn operand helper bit);
       agree = loads.agree;
-      shown = subst (λ (place : Place). IsShown (hides numbers) place) (sym there) (omega (arith, bit_1 insn.rex 0), rm_shown numbers instruction.form insn modrm.0 modrm.1 (named, tt));
+      shown = subst (λ (place : Place). IsShown (hides numbers) place) (sym there) (omega (arith, b_1 insn.rex), rm_shown numbers instruction.form insn modrm.0 modrm.1 (named, tt));
       place = own_place mnemonic.Imul insn operand helper low_field 0 (rm_number insn) ready.regs known number ∙ sym there;
       reg = own_reg mnemonic.Imul insn operand helper low_field 0 known;
       holds = loads.loaded;

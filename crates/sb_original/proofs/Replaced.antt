@@ -23,7 +23,7 @@ use Rattle.sb_insn.specs.declared.opcode_map.Cell.{Cell}
 use Rattle.sb_insn.specs.declared.opcode_map.Cell.TheVariants.{Absent, Plain, ModRm, Extended}
 use Rattle.sb_insn.specs.OpcodeMap.{one_byte, one_byte_rows, two_byte, two_byte_rows, cell_of}
 use Rattle.sb_insn.specs.Spelling.{number, spelling}
-use Rattle.sb_insn.specs.Fields.{is_register, is_wide, mod_field, is_modrm_field, is_sib_field, disp_kind_of, kind_of_disp, rule_of, imm_kind_of, kind_of_imm}
+use Rattle.sb_insn.specs.Fields.{is_register, is_wide, mod_field, is_modrm_field, is_sib_field, disp_kind_of, kind_of_disp, rule_of, imm_kind_of, kind_of_imm, rex_w}
 use Rattle.sb_insn.specs.Listing.{instruction_in, instruction_of}
 use Rattle.sb_insn.specs.Grammar.{IsValid, FitsImm}
 use Rattle.sb_insn.proofs.Rows.{looked_up}
@@ -33,7 +33,7 @@ use Rattle.sb_alu.specs.declared.operation.Operation.{Operation}
 use Rattle.sb_alu.specs.declared.operation.Operation.TheVariants as operation
 use Rattle.sb_exec.specs.declared.action.Action.TheVariants.{Compute}
 use Rattle.sb_exec.specs.Interface.{Interface}
-use Rattle.sb_exec.specs.Operand.{bit_of_rex, next_rip}
+use Rattle.sb_exec.specs.Operand.{next_rip}
 use Rattle.sb_exec.specs.Actions.{action_by, action_for, action_of, moved_size}
 use Rattle.sb_exec.specs.Row.{Row}
 use Rattle.sb_exec.specs.Rows.{row_of}
@@ -45,7 +45,7 @@ use Rattle.sb_forms.specs.Places.{is_distance, is_direct, HasForm}
 use Rattle.sb_forms.specs.Table.{Replacement, Keep, InPlace, Moved, Unmovable, moved, is_vmfunc, is_modrm, is_add_esp_edx, completes_pattern, begins_with_01_d4, begins_at_modrm, has_memory, is_call, is_jump, jump_form, wide_constant_form, address_and_constant_form, address_form, constant_form, form_by, slot_form, slot_form_of, is_exchangeable, held_form, nop, add_from_rm, replacement}
 use Rattle.sb_forms.proofs.Held.{none_held}
 use Rattle.sb_forms.proofs.Operands.{modrm_is}
-use Rattle.sb_forms.proofs.CleanForms.{IsHeld}
+use Rattle.sb_forms.proofs.ByTable.{IsHeld}
 use Rattle.sb_original.specs.Words.{Words, HasWords}
 use Rattle.sb_original.specs.Alike.{is_rm_form}
 use Rattle.sb_original.specs.Slot.{Slotted}
@@ -70,6 +70,7 @@ use Rattle.sb_original.proofs.FormThrough.{jump_exchanged, call_exchanged}
 use Rattle.sb_original.proofs.FormSmall.{add_law}
 use Rattle.sb_original.proofs.FormNops.{passed, nop_does}
 use Rattle.sb_original.proofs.Going.{work_is, slot_goes}
+use Rattle.sb_forms.proofs.Room.{vmfunc_3}
 
 -- ---- names and operands
 
@@ -204,9 +205,9 @@ wide_rule rules.Wide rex value k = wide_kind (is_wide rex) k
     wide_kind true k = refl
     wide_kind false k = absurd cc
 
-wide_size : (rex : Option ℕ) → is_wide rex ≡ true → (if bit_of_rex rex 3 == 1 then Quad else Double) ≡ Quad
+wide_size : (rex : Option ℕ) → is_wide rex ≡ true → (if rex_w rex == 1 then Quad else Double) ≡ Quad
 wide_size None e = absurd cc
-wide_size (Some rex) e = cond-true (rex / 2 ^ 3 % 2 == 1) Quad Double e
+wide_size (Some rex) e = cond-true (rex / 8 % 2 == 1) Quad Double e
 
 wide_action : (insn : Insn) (instruction : Instruction) (value : ℤ) → IsValid insn → instruction_of insn ≡ Some instruction → insn.imm ≡ imm.I64 value → instruction.mnemonic ≡ mnemonic.Mov → instruction.form ≡ form.OpcodeImm
     → action_of insn ≡ Compute operation.Move form.OpcodeImm Quad
@@ -265,12 +266,6 @@ vmfunc_fields false None None None disp.None imm.None e s d i = refl
 vmfunc_op : (op : Op) → is_vmfunc op ≡ true → op ≡ Vmfunc
 vmfunc_op Vmfunc e = refl
 vmfunc_op _ e = absurd cc
-
-vmfunc_3 : (insn : Insn) → IsValid insn → is_vmfunc insn.op ≡ true → length (spelling insn) ≡ 3
-vmfunc_3 insn valid e =
-    let fields : VmfuncFields insn.lock insn.rex insn.modrm insn.sib insn.disp insn.imm insn.op =
-    subst (λ op. VmfuncFields insn.lock insn.rex insn.modrm insn.sib insn.disp insn.imm op) (sym (vmfunc_op insn.op e)) (vmfunc_fields insn.lock insn.rex insn.modrm insn.sib insn.disp insn.imm) in
-    fields valid.modrm valid.sib valid.disp valid.imm
 
 passes : {M A N : Type 0} (bus : Interface M A) (Holds : Words → M → N → Type 0) (insn : Insn) (start : ℕ) (state : Slotted) → IsValid insn → is_vmfunc insn.op ≡ true → Goes bus Holds insn start state (InPlace (nop ∷ nop ∷ nop ∷ []))
 passes bus Holds insn start state valid e =

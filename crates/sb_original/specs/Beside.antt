@@ -1,6 +1,5 @@
 -- The rewritten memory beside the original one: they agree outside the scratch page.
 use Rattle.std.specs.Prelude.{◌≡◌, ℕ, ◌⊎◌, Result, Ok, Err}
-use Rattle.std.specs.List.{AllByRecursion}
 use Rattle.sb_memory.specs.declared.address.Access.{Access}
 use Rattle.sb_memory.specs.declared.address.Access.TheVariants.{Read, Write}
 use Rattle.sb_memory.specs.Outcome.{done}
@@ -9,19 +8,10 @@ use Rattle.sb_bus.specs.declared.stop.BusStop.{BusStop}
 use Rattle.sb_exec.specs.declared.action.Effect.{Effect}
 use Rattle.sb_exec.specs.Interface.{Interface}
 use Rattle.sb_exec.specs.Access.{store_answer, byte_for, byte_for_write}
-use Rattle.sb_exec.specs.Row.{Row, MemoryAccess, Loads, LoadsToWrite, Stores, accesses}
+use Rattle.sb_exec.specs.Row.{Row}
 use Rattle.sb_exec.specs.Execution.{Execution}
 use Rattle.sb_exec.specs.Simulation.{told, IsData, AgreeFrom}
 use Rattle.sb_original.specs.Words.{Words}
-
--- the access is one of those at which the memories agree
-abbrev pub AccessAt : (ℕ → ℕ → Type 0) → MemoryAccess → Type 0
-AccessAt IsOutside (Loads address size) = IsOutside address size
-AccessAt IsOutside (LoadsToWrite address size) = IsOutside address size
-AccessAt IsOutside (Stores address size value) = IsOutside address size
-
-abbrev pub AllOutside : (ℕ → ℕ → Type 0) → Row → Type 0
-AllOutside IsOutside row = AllByRecursion (AccessAt IsOutside) (accesses row)
 
 -- Where the rewritten memory holds some words beside the original memory, both give the same bytes outside the scratch
 -- page, and a store there keeps the words and what is beside them. At every address both permit an access to data, or both

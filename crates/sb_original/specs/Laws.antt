@@ -27,18 +27,8 @@ use Rattle.sb_original.specs.Slot.{Slotted, Does, address_of, saved, restored, n
 use Rattle.sb_original.specs.Original.{Behind, IsRegs, SameAccesses, InPlaceLaw, FormLaw}
 use Rattle.sb_original.specs.Going.{Left, original_behind, Goes, IsMovable}
 use Rattle.sb_original.specs.Work.{IsMemoryWork, IsEntered, IsConstantWork, IsJumpWork, IsWideWork, IsPushWork, IsCallWork}
-use Rattle.sb_original.specs.Beside.{AllOutside, AreBeside, IsStopped, MainStep}
-
--- ---- helpers
-
--- both helpers of a valid instruction are registers that it does not name, and they differ
-pub record HelpersFree (form : OperandForm) (insn : Insn) : Type 0 where
-  pub first : is_named form insn (number_of (first_helper form insn)) ≡ false
-  pub second : is_named form insn (number_of (second_helper form insn)) ≡ false
-  pub differ : (number_of (first_helper form insn) == number_of (second_helper form insn)) ≡ false
-
-abbrev pub Helpers : Type 0
-Helpers = (form : OperandForm) (insn : Insn) → IsValid insn → HelpersFree form insn
+use Rattle.sb_exec.specs.Simulation.{IsRowAt}
+use Rattle.sb_original.specs.Beside.{AreBeside, IsStopped, MainStep}
 
 -- ---- pieces
 
@@ -106,7 +96,7 @@ abbrev pub MainSteps : {M A N B : Type 0} → Interface M A → Interface N B �
 MainSteps {M} {A} {N} {B} left right Holds IsOutside naming =
     AreBeside left right Holds IsOutside naming → (row other : Row) (regs other_regs : Regs) (words : Words) (first : M) (second : N) (account : A) (account' : B)
     → SameAccesses row other → Holds words first second
-    → AllOutside IsOutside row ⊎ IsStopped (execution_of left other other_regs first account).answer
+    → IsRowAt IsOutside row ⊎ IsStopped (execution_of left other other_regs first account).answer
     → MainStep Holds naming words row other regs other_regs (execution_of right row regs second account') (execution_of left other other_regs first account)
 
 -- ---- jumps, and 01 D4
@@ -120,12 +110,6 @@ Jumping bus Holds =
 -- 03 E2 in place of 01 D4
 abbrev pub Adding : Type 0
 Adding = (insn : Insn) (regs : Regs) → IsValid insn → is_add_esp_edx insn ≡ true → InPlaceLaw (row_of insn regs) add_from_rm regs
-
--- ---- sizes
-
--- each form of a valid instruction has a slot of 74 bytes at most
-abbrev pub FormsSmall : Type 0
-FormsSmall = (insn : Insn) (at slot : ℕ) (after_0f : Bool) → IsValid insn → IsSmall (form_of insn at slot after_0f)
 
 -- MOV of eight bytes
 abbrev pub WideMoving : {M A N : Type 0} → Interface M A → (Words → M → N → Type 0) → Type 0

@@ -11,7 +11,7 @@ use Rattle.sb_exec.specs.Fetching.{FetchesOn}
 use Rattle.sb_bus.proofs.Stops.{ByteStops}
 use Rattle.sb_exec.proofs.Stops.{execution_stops, fetch_stops}
 use Rattle.sb_bus.specs.declared.stop.BusStop.{BusStop}
-use Rattle.sb_trace.specs.declared.page.Seen.{Seen}
+use Rattle.sb_state.specs.declared.page.Seen.{Seen}
 use Rattle.sb_trace.specs.PageName.{permits}
 use Rattle.sb_trace.specs.State.{State}
 use Rattle.sb_trace.specs.Windows.{page_seen}

@@ -10,9 +10,9 @@ use Rattle.sb_insn.specs.Grammar.{BeginsWith}
 use Rattle.sb_bus.specs.declared.stop.BusStop.{BusStop}
 use Rattle.sb_exec.specs.Fetching.{further, Stands, FetchesOn, fetch_of}
 use Rattle.sb_exec.proofs.AtOnce.{fetched_at_once}
-use Rattle.sb_trace.specs.declared.page.PageName.{PageName}
-use Rattle.sb_trace.specs.declared.page.Page.{Page}
-use Rattle.sb_trace.specs.declared.page.Seen.{Seen}
+use Rattle.sb_state.specs.declared.page.PageName.{PageName}
+use Rattle.sb_state.specs.declared.page.Page.{Page}
+use Rattle.sb_state.specs.declared.page.Seen.{Seen}
 use Rattle.sb_trace.specs.PageName.{permits}
 use Rattle.sb_trace.specs.State.{State, find_page}
 use Rattle.sb_trace.specs.Windows.{page_seen}

@@ -9,8 +9,9 @@ ghost use Rattle.sb_trace.specs.Flight.{is_key as is_key_of, bound_pool as bound
 
 use crate::call::{binding_in, kernel_call};
 use crate::pool::pool_word;
-use crate::registers::{RSI, eax, ecx};
+use crate::registers::{eax, ecx};
 use crate::state::Plain;
+use sb_insn::registers::RSI;
 use sb_trace::{Binding, Decision, Event, Flight, Thread, VMFUNC_PHASE};
 
 #[cfg(test)]

@@ -1,30 +1,10 @@
-//! Registers by name, and the values that the kernel puts into them.
+//! Values of registers, as the kernel reads and puts them.
 
 ghost use Rattle.std.specs.Prelude.{◌≡◌};
 ghost use Rattle.sb_trace.specs.Registers.{eax as eax_of, ecx as ecx_of, zero_flags};
 
+use sb_insn::registers::{RAX, RCX};
 use sb_insn::{Flags, Regs};
-
-// Numbers of registers (SDM volume 2, section 2.2.1).
-pub const RAX: usize = 0;
-
-pub const RCX: usize = 1;
-
-pub const RDX: usize = 2;
-
-pub const RSP: usize = 4;
-
-pub const RSI: usize = 6;
-
-pub const RDI: usize = 7;
-
-pub const R8: usize = 8;
-
-pub const R9: usize = 9;
-
-pub const R10: usize = 10;
-
-pub const R11: usize = 11;
 
 /// The leaf of VMFUNC (SDM volume 3, section 25.5.6): the lower 32 bits of RAX.
 pub fn eax(regs: &Regs) -> u32

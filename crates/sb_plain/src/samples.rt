@@ -1,10 +1,10 @@
 //! A small machine for tests: a server, two clients, and a system call by its numbers.
 
 use crate::Plain;
-use crate::registers::{RAX, RDI, RDX, RSI};
 use crate::system_call::system_call;
 use sb_bundle::read_bundle;
 use sb_insn::{Disp, Imm, Insn, Op};
+use sb_insn::registers::{RAX, RDI, RDX, RSI};
 use sb_load::load;
 use std::alloc::Global;
 use std::test::Fail;

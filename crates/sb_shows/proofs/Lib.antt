@@ -17,7 +17,6 @@ pub mod Threads
 pub mod Viewing
 pub mod Translating
 pub mod AddingPages
-pub mod Words
 pub mod Registering
 pub mod Binding
 pub mod Placing

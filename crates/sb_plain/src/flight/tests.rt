@@ -2,8 +2,8 @@
 
 use crate::Plain;
 use crate::pool::set_pool_word;
-use crate::registers::{R9, RAX, RCX, RSI, RSP};
 use crate::samples::{HANDLER, LOADED, call, machine};
+use sb_insn::registers::{R9, RAX, RCX, RSI, RSP};
 use sb_trace::Event;
 use std::alloc::Global;
 use std::test::Fail;
