@@ -82,7 +82,7 @@ pub fn bytes<P: Phys>(
         phys,
         eptp,
         cr3,
-        Linear(at.0.wrapping_add(1)),
+        at.further(1),
         size - 1,
         access,
     )?;

@@ -1,6 +1,7 @@
 //! The nested walk.
 
 ghost use Rattle.std.specs.Prelude.{◌≡◌, ◌*◌, ◌<◌, IfOk, IsTrue};
+ghost use Rattle.sb_abi.specs.declared.space.TheConstants.{PAGE_SIZE};
 ghost use Rattle.sb_memory.specs.Accounts.{after_words};
 ghost use Rattle.sb_memory.specs.Physical.{frame_count};
 ghost use Rattle.sb_walks.specs.Entry.{frame_in};
@@ -49,7 +50,7 @@ pub fn translate<P: Phys>(
     requires eptp { IsTrue (is_eptp eptp) }
     requires root { frame_in eptp < frame_count (P.meaning phys.old) }
     ensures answer { result ≡ translated (mapped (P.meaning phys.old) eptp) cr3 at.0 access }
-    ensures inside { IfOk result (λ place. place.0 < 4096 * frame_count (P.meaning phys.old)) }
+    ensures inside { IfOk result (λ place. place.0 < PAGE_SIZE * frame_count (P.meaning phys.old)) }
     ensures same { P.meaning phys.new ≡ P.meaning phys.old }
     ensures account { P.account phys.new ≡ after_words P.rule (P.meaning phys.old) (translation_reads (mapped (P.meaning phys.old) eptp) cr3 at.0 access) (P.account phys.old) }
     ensures kept { P.kept phys.new ≡ P.kept phys.old }

@@ -72,7 +72,7 @@ pub fn store_places<P: Phys>(
 {
     if let Some((first, rest)) = into.split_first_mut() {
         *first = store_place(phys, eptp, cr3, at)?;
-        store_places(phys, eptp, cr3, Linear(at.0.wrapping_add(1)), rest)?;
+        store_places(phys, eptp, cr3, at.further(1), rest)?;
     }
     Ok(())
 }

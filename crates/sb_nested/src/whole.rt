@@ -1,6 +1,7 @@
 //! A whole word written through the nested walk.
 
 ghost use Rattle.std.specs.Prelude.{◌≡◌, ◌*◌, ◌%◌, ◌≤◌, ◌<◌, IfOk, IfErr, IsTrue};
+ghost use Rattle.sb_abi.specs.declared.space.TheConstants.{PAGE_SIZE};
 ghost use Rattle.sb_memory.specs.Accounts.{after_reads};
 ghost use Rattle.sb_memory.specs.Outcome.{done};
 ghost use Rattle.sb_memory.specs.Physical.{frame_count};
@@ -22,8 +23,8 @@ fn look<P: Phys>(phys: &mut P, eptp: u64, cr3: u64, at: Linear) -> Result<PhysAd
     requires eptp { IsTrue (is_eptp eptp) }
     requires root { frame_in eptp < frame_count (P.meaning phys.old) }
     ensures answer { result ≡ walk_place (view (P.meaning phys.old) eptp cr3) at.0 }
-    ensures inside { IfOk result (λ place. place.0 < 4096 * frame_count (P.meaning phys.old)) }
-    ensures offset { IfOk result (λ place. place.0 % 4096 ≡ at.0 % 4096) }
+    ensures inside { IfOk result (λ place. place.0 < PAGE_SIZE * frame_count (P.meaning phys.old)) }
+    ensures offset { IfOk result (λ place. place.0 % PAGE_SIZE ≡ at.0 % PAGE_SIZE) }
     ensures same { P.meaning phys.new ≡ P.meaning phys.old }
     ensures account { P.account phys.new ≡ after_reads P.rule (P.meaning phys.old) (walk_calls (view (P.meaning phys.old) eptp cr3) Write at.0) (P.account phys.old) }
     ensures kept { P.kept phys.new ≡ P.kept phys.old }
@@ -48,7 +49,7 @@ fn look_on<P: Phys>(phys: &mut P, eptp: u64, cr3: u64, at: Linear, count: u8) ->
         return Ok(());
     }
     look(phys, eptp, cr3, at)?;
-    look_on(phys, eptp, cr3, Linear(at.0.wrapping_add(1)), count - 1)
+    look_on(phys, eptp, cr3, at.further(1), count - 1)
 }
 
 /// Puts a word at an address that is a multiple of 8. Each of its bytes is looked up, and none is read.
@@ -71,7 +72,7 @@ pub fn store_word<P: Phys>(
     ensures kept { P.kept phys.new ≡ P.kept phys.old }
 {
     let place = look(phys, eptp, cr3, at)?;
-    look_on(phys, eptp, cr3, Linear(at.0.wrapping_add(1)), 7)?;
+    look_on(phys, eptp, cr3, at.further(1), 7)?;
     match phys.write_word(place, word) {
         Ok(()) => Ok(()),
         Err(gap) => Err(BusStop::Missing(gap.frame)),

@@ -1,6 +1,6 @@
 //! Pages that are added: a frame is taken, filled, mapped and exposed.
 
-ghost use Rattle.std.specs.Prelude.{ℕ, ◌≡◌, ◌+◌, ◌*◌, ◌<◌, ◌≤◌, [], ◌∷◌, Some, get_or};
+ghost use Rattle.std.specs.Prelude.{ℕ, ◌≡◌, ◌+◌, ◌*◌, ◌<◌, ◌≤◌, [], ◌∷◌, get_or};
 ghost use Rattle.sb_memory.specs.Physical.{HasSize, frame_count};
 ghost use Rattle.sb_memory.specs.Changes.{SameOutside};
 ghost use Rattle.sb_frames.specs.Book.{free_count};
