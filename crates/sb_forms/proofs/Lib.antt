@@ -11,3 +11,7 @@ pub mod QuietMains
 pub mod CleanForms
 pub mod Room
 pub mod Where
+pub mod Helpers
+pub mod Small
+pub mod Immediates
+pub mod Across

@@ -6,3 +6,6 @@ pub mod Mains
 pub mod Table
 pub mod Answers
 pub mod Places
+pub mod Borders
+pub mod Immediates
+pub mod Laws

@@ -25,10 +25,13 @@ use Rattle.sb_forms.specs.Registers.{modrm_of}
 use Rattle.sb_forms.specs.Mains.{at_helper, with_displacement, with_helper, with_constant, on_register, behind_main, move_product, load_target, load_word}
 use Rattle.sb_forms.specs.Table.{spelled, Keep, InPlace, Unmovable, moved, bytes_of, has_memory, is_call, is_jump, is_vmfunc, completes_pattern, begins_at_modrm, is_exchangeable, nop, add_from_rm, form_by, slot_form, slot_form_of, held_form, replacement, site_of, form_of, jump_form, wide_constant_form, address_and_constant_form, address_form, constant_form}
 use Rattle.sb_forms.specs.Answers.{IsSmall}
-use Rattle.sb_forms.proofs.Lengths.{spelling_length, field_1, with_helper_9, constant_main_8, alone_5, displaced_9}
-use Rattle.sb_forms.proofs.CleanForms.{IsHeld, imm_holds, byte_holds}
+use Rattle.sb_insn.proofs.Longest.{one_field}
+use Rattle.sb_forms.proofs.Lengths.{spelling_length, with_helper_9, constant_main_8, alone_5, displaced_9}
+use Rattle.sb_scan.proofs.Held.{byte_holds}
+use Rattle.sb_forms.proofs.CleanForms.{IsHeld, imm_holds}
 use Rattle.sb_forms.proofs.QuietMains.{nothing_holds}
 use Rattle.sb_forms.proofs.Maps.{short_5, imul_unlocked}
+use Rattle.sb_forms.proofs.Lengths.{product_3}
 
 -- ---- one piece
 
@@ -64,7 +67,7 @@ target_4 : (helper : Helper) → length (spelling (load_target helper)) ≡ 4
 unfolding load_target
 target_4 helper = refl
 
-word_8 : (insn : Insn) → length (spelling (load_word insn)) ≡ 8
+pub word_8 : (insn : Insn) → length (spelling (load_word insn)) ≡ 8
 unfolding load_word
 word_8 insn = refl
 
@@ -75,7 +78,7 @@ disp_4 (disp.D32 value) = omega arith
 
 lea_8 : (helper : Helper) (insn : Insn) (d : Disp) → length (spelling (load_address helper insn d)) ≤ 8
 unfolding load_address
-lea_8 helper insn d = omega (arith, spelling_length (load_address helper insn d), field_1 insn.sib, disp_4 d)
+lea_8 helper insn d = omega (arith, spelling_length (load_address helper insn d), one_field insn.sib, disp_4 d)
 
 -- ---- pieces one after another
 
@@ -128,10 +131,6 @@ moved_small site pre main post a b c d =
     let one = one_more (jump from site.next) [] in
     let five = jump_5 from site.next in
     record { before = a; work = b; behind = omega (arith, c, last, one, five); whole = omega (arith, d, last, one, five) }
-
-product_3 : (insn : Insn) (helper : Helper) → length (spelling (move_product insn helper)) ≤ 3
-unfolding move_product
-product_3 insn helper = omega (arith, spelling_length (move_product insn helper), field_1 (move_product insn helper).rex)
 
 behind_3 : (name : Mnemonic) (insn : Insn) (helper : Helper) → length (spelled (behind_main name insn helper)) ≤ 3
 unfolding behind_main

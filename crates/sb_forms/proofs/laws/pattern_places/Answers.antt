@@ -1,5 +1,5 @@
 use Rattle.sb_forms.proofs.Where.{at_modrm_only, not_in_jumps}
-use Rattle.sb_forms.proofs.places.pattern_places.Goals as goal
+use Rattle.sb_forms.proofs.laws.pattern_places.Goals as goal
 
 pub returns-clause-at_modrm : goal.returns-clause-at_modrm
 returns-clause-at_modrm c = at_modrm_only
