@@ -21,7 +21,7 @@ use Rattle.sb_state.proofs.Pages.{either, found_added}
 use Rattle.sb_trace.proofs.Threads.{thread_other, only_thread}
 use Rattle.sb_landing.specs.Bound.{HasPoolBytes, RecordsAreBound, IsBindingSound, IsDecidedView, IsBound}
 use Rattle.sb_landing.specs.Laws.{IsFreeIndex, CanBind, BindingsKeepBound}
-use Rattle.sb_landing.proofs.Ground.{thread_set}
+use Rattle.sb_state.proofs.Threads.{thread_set_there as thread_set}
 use Rattle.sb_landing.proofs.Indices.{indices_are_free}
 
 -- ---- bindings by index

@@ -33,7 +33,7 @@ use Rattle.sb_state.proofs.Pages.{with_bytes, found_same, found_other}
 use Rattle.sb_state.proofs.Threads.{thread_set}
 use Rattle.sb_trace.proofs.Threads.{thread_other, only_thread, flight_other, only_flight, bound_there}
 use Rattle.sb_landing.specs.Bound.{HasPoolBytes, phases_of, IsMask, IsDecidedView, IsFlightBound, IsBound}
-use Rattle.sb_landing.proofs.Walk.{flight_set}
+use Rattle.sb_state.proofs.Threads.{flight_set_there as flight_set}
 use Rattle.sb_landing.proofs.Ground.{thread_there}
 use Rattle.sb_landing.proofs.Passing.{Passes}
 use Rattle.sb_landing.proofs.Passed as pass

@@ -35,19 +35,6 @@ leads_on state number view start from to loads word leads finds =
     ∙ (row_without_store_runs (plain number view) loads leads.after (landing_regs start from.moved) state tt word finds
     ∙ ap (only_regs state) leads.regs)
 
--- ---- the flight of a thread is set
-
-set_by : {A : Type 0} (list : List (Option A)) (index : ℕ) (old : A) (value : Option A) → unwrap_or (slice_get list index) None ≡ Some old
-    → unwrap_or (slice_get (slice_set list index value) index) None ≡ value
-set_by [] index old value there = absurd cc
-set_by (first ∷ list) zero old value there = refl
-set_by (first ∷ list) (suc index) old value there = set_by list index old value there
-
-pub flight_set : (state : State) (number : ℕ) (flight : Flight) (next : Option Flight) → flight_at state number ≡ Some flight
-    → flight_at (with_flight state number next) number ≡ next
-unfolding flight_at with_flight
-flight_set state number flight next there = set_by state.flights number flight next there
-
 set_within : {A : Type 0} (list : List (Option A)) (index : ℕ) (value : Option A) → index < length list → unwrap_or (slice_get (slice_set list index value) index) None ≡ value
 set_within [] index value below = absurd (omega (arith, below))
 set_within (first ∷ list) zero value below = refl

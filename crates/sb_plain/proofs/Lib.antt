@@ -13,6 +13,5 @@ pub mod Writing
 pub mod Threads
 pub mod Listed
 pub mod Declined
-pub mod Borders
 pub mod Bits
 pub mod Lawful

@@ -14,7 +14,10 @@ use Rattle.sb_trace.specs.PageWords.{zeros}
 use Rattle.sb_trace.specs.SyscallProtect.{with_mode}
 use Rattle.sb_plain.specs.declared.pages.Known.{Known}
 use Rattle.sb_plain.specs.Places.{IsKnown, AreKnown, place_of, equal_names, IsIndex, either, IsNoted, IsWhole, AreWhole, IsBlank, AreBlank, IsSound}
-use Rattle.sb_plain.proofs.Names.{equal_same, name_same}
+use Rattle.sb_state.proofs.Names.{name_same}
+use Rattle.sb_state.proofs.Pages.{changed, with_bytes, with_executable, replaced_changes}
+use Rattle.sb_trace.proofs.Modes.{mode_changes}
+use Rattle.sb_plain.proofs.Names.{equal_same}
 
 -- ---- the place of a name
 
@@ -140,28 +143,6 @@ noted_put index now name place none put = λ other.
 
 -- ---- a page is changed
 
--- the pages with the first of this name changed so
-abbrev changed : (Page → Page) → List Page → PageName → List Page
-changed change [] name = []
-changed change (page ∷ pages) name = if same_name page.name name then change page ∷ pages else page ∷ changed change pages name
-
-abbrev with_bytes : List ℕ → Page → Page
-with_bytes bytes page = record page { bytes = bytes }
-
-abbrev made_executable : Bool → Page → Page
-made_executable executable page = record page { executable = executable }
-
-replaced-changed : (pages : List Page) (name : PageName) (bytes : List ℕ) → replaced pages name bytes ≡ changed (with_bytes bytes) pages name
-replaced-changed [] name bytes = refl
-replaced-changed (page ∷ pages) name bytes =
-    ap (λ (rest : List Page). if same_name page.name name then with_bytes bytes page ∷ pages else page ∷ rest) (replaced-changed pages name bytes)
-
-with_mode-changed : (pages : List Page) (name : PageName) (executable : Bool)
-    → with_mode pages name executable ≡ changed (made_executable executable) pages name
-with_mode-changed [] name executable = refl
-with_mode-changed (page ∷ pages) name executable =
-    ap (λ (rest : List Page). if same_name page.name name then made_executable executable page ∷ pages else page ∷ rest) (with_mode-changed pages name executable)
-
 -- where there is no page of this name, nothing changes
 unchanged_by : (test : Bool) (pages rest : List Page) (page new : Page) (behind : Option Page) → (behind ≡ None → rest ≡ pages)
     → (if test then Some page else behind) ≡ None → (if test then new ∷ pages else page ∷ rest) ≡ page ∷ pages
@@ -174,10 +155,10 @@ changed_none change (page ∷ pages) name none =
     unchanged_by (same_name page.name name) pages (changed change pages name) page (change page) (find_page pages name) (changed_none change pages name) none
 
 pub replaced_none : (pages : List Page) (name : PageName) (bytes : List ℕ) → find_page pages name ≡ None → replaced pages name bytes ≡ pages
-replaced_none pages name bytes none = replaced-changed pages name bytes ∙ changed_none (with_bytes bytes) pages name none
+replaced_none pages name bytes none = replaced_changes pages name bytes ∙ changed_none (with_bytes bytes) pages name none
 
 pub with_mode_none : (pages : List Page) (name : PageName) (executable : Bool) → find_page pages name ≡ None → with_mode pages name executable ≡ pages
-with_mode_none pages name executable none = with_mode-changed pages name executable ∙ changed_none (made_executable executable) pages name none
+with_mode_none pages name executable none = mode_changes pages name executable ∙ changed_none (with_executable executable) pages name none
 
 -- the page at the place of its name is changed
 set_by : (test : Bool) (change : Page → Page) (pages rest : List Page) (first default : Page) (found : Option ℕ) (place : ℕ)
@@ -205,7 +186,7 @@ bytes_changed change pages name place page is at =
     let bytes : bytes_of (find_page pages name) ≡ page.bytes = ap bytes_of found in
     ap (λ (one : Page). slice_set pages place (with_bytes (change page.bytes) one)) at
     ∙ changed_at (with_bytes (change page.bytes)) pages name place page is
-    ∙ sym (replaced-changed pages name (change page.bytes))
+    ∙ sym (replaced_changes pages name (change page.bytes))
     ∙ ap (λ (list : List ℕ). replaced pages name (change list)) (sym bytes)
 
 -- past the end of the page no byte is put
@@ -221,9 +202,9 @@ pub mode_changed : (pages : List Page) (name : PageName) (place : ℕ) (executab
     → place_of pages name ≡ Some place → page ≡ slice_index_or pages place page
     → slice_set pages place (record page { executable = executable }) ≡ with_mode pages name executable
 mode_changed pages name place executable page is at =
-    ap (λ (one : Page). slice_set pages place (made_executable executable one)) at
-    ∙ changed_at (made_executable executable) pages name place page is
-    ∙ sym (with_mode-changed pages name executable)
+    ap (λ (one : Page). slice_set pages place (with_executable executable one)) at
+    ∙ changed_at (with_executable executable) pages name place page is
+    ∙ sym (mode_changes pages name executable)
 
 -- a page of the same name in the place of another: each name keeps its place
 pub place_set : (pages : List Page) (place : ℕ) (page new : Page) (name : PageName) → page ≡ slice_index_or pages place page → new.name ≡ page.name

@@ -3,11 +3,11 @@
 ghost use Rattle.std.specs.Prelude.{◌≡◌, ◌<◌, ◌≤◌, ◌+◌, ◌*◌, ◌^◌, ◌++◌, IfSome, length, drop};
 ghost use Rattle.sb_state.specs.declared.page.PageName.TheVariants.{Heap};
 ghost use Rattle.sb_trace.specs.State.{find_page};
-ghost use Rattle.sb_trace.specs.Pattern.{first_pattern, executable_bytes as bytes_executed, bytes_before as bytes_in_front, bytes_behind as bytes_after, heap_pattern as pattern_by};
+ghost use Rattle.sb_trace.specs.Pattern.{executable_bytes as bytes_executed, bytes_before as bytes_in_front, bytes_behind as bytes_after, heap_pattern as pattern_by};
 
 use crate::pages::PAGE_SIZE;
 use crate::state::Plain;
-use sb_scan::{find_pattern, spans};
+use sb_scan::first_place;
 use sb_trace::PageName;
 
 /// Where the heap begins.
@@ -55,26 +55,8 @@ fn bytes_behind(state: &Plain, process: u32, page: u32) -> &[u8]
     &bytes[..2.min(bytes.len())]
 }
 
-// The first place of the pattern in bytes with others before and behind them, counted from the first of all.
-fn first_place(before: &[u8], bytes: &[u8], behind: &[u8]) -> Option<usize>
-    requires before { length before.now ≤ 2 }
-    requires bytes { 2 ≤ length bytes.now }
-    requires behind { length behind.now ≤ 2 }
-    ensures place { result ≡ first_pattern (before.now ++ (bytes.now ++ behind.now)) }
-    ensures within { IfSome result (λ place. place < length before.now + length bytes.now) }
-{
-    if let Some(count) = spans(before, bytes) {
-        return Some(before.len() - count);
-    }
-    if let Some(place) = find_pattern(bytes) {
-        return Some(before.len() + place);
-    }
-    let count = spans(bytes, behind)?;
-    Some(before.len() + bytes.len() - count)
-}
-
 /// The lowest address at which the pattern stands in a heap page or across its border with an executable one.
-#[tactic(auto, unfolding(sb_state::specs::Pattern::heap_pattern))]
+#[tactic(auto, using(sb_state::proofs::Pattern::first_place), unfolding(sb_state::specs::Pattern::heap_pattern))]
 pub fn heap_pattern(state: &Plain, process: u32, page: u32) -> Option<u64>
     requires { page + 1 < 2 ^ 32 }
     ensures { result ≡ pattern_by state.now process page }

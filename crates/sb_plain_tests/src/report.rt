@@ -1,11 +1,11 @@
 //! The text of each kind of line, and of a thread in flight.
 
+use sb_bus::FaultKind;
+use sb_insn::{Flags, Regs};
 use sb_trace::{
     EndKind, EndState, Event, Line, Lines, ThreadEnd, ThreadEnds, VMFUNC_PHASE, is_landing,
     report_text,
 };
-use sb_bus::FaultKind;
-use sb_insn::{Flags, Regs};
 use std::test::Fail;
 
 /// The report of these lines, with no threads.
