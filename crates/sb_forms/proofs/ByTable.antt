@@ -1,8 +1,8 @@
 -- The table of forms walked once: what holds of each of its cases holds of what it gives.
-use Rattle.std.proofs.Common.{◌≡◌, Bool, true, false, List, [], ◌∷◌, Option, Some, None, refl, ap, ◌∙◌, ℤ}
+use Rattle.std.proofs.Common.{◌≡◌, Bool, true, false, [], ◌∷◌, Option, Some, None, refl, ap, ◌∙◌, ℤ}
 use Rattle.std.specs.Prelude.{◌%◌, ◌&&◌, not, if◌then◌else◌}
 use Rattle.std.specs.Int.{w8, w32, cast_unsigned}
-use Rattle.std.proofs.lemmas.Bool.{and_left, not-true, not-false, cond_both, and_parts}
+use Rattle.std.proofs.lemmas.Bool.{not-true, not-false, cond_both, and_parts}
 use Rattle.sb_insn.specs.declared.insn.Insn.{Insn}
 use Rattle.sb_insn.specs.declared.insn.Imm.{Imm}
 use Rattle.sb_insn.specs.declared.insn.Imm.TheVariants as imm

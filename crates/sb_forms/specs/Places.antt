@@ -1,5 +1,5 @@
 -- Where the bytes of VMFUNC can stand in an instruction.
-use Rattle.std.specs.Prelude.{◌≡◌, ℕ, ◌+◌, ◌*◌, ◌%◌, ◌^◌, ◌<◌, ◌≤◌, ◌⊎◌, Bool, true, false, IsTrue, Option, Some, None}
+use Rattle.std.specs.Prelude.{◌≡◌, ℕ, ◌+◌, ◌*◌, ◌%◌, ◌^◌, ◌<◌, ◌≤◌, ◌⊎◌, IsTrue, Some}
 use Rattle.std.specs.Prelude.{length, ◌∷◌, List}
 use Rattle.sb_abi.specs.declared.space.TheConstants.{PAGE_SIZE, WINDOW_PAGES, TEXT_ADDRESS}
 use Rattle.sb_abi.specs.declared.trampoline.TheConstants.{TRAMPOLINE_ADDRESS}
