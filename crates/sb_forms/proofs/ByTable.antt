@@ -1,8 +1,8 @@
 -- The table of forms walked once: what holds of each of its cases holds of what it gives.
-use Rattle.std.proofs.Common.{◌≡◌, Bool, true, false, List, [], ◌∷◌, Option, Some, None, refl, ap, ◌∙◌, ℤ}
+use Rattle.std.proofs.Common.{◌≡◌, Bool, true, false, [], ◌∷◌, Option, Some, None, refl, ap, ◌∙◌, ℤ}
 use Rattle.std.specs.Prelude.{◌%◌, ◌&&◌, not, if◌then◌else◌}
 use Rattle.std.specs.Int.{w8, w32, cast_unsigned}
-use Rattle.std.proofs.lemmas.Bool.{and_left, not-true, not-false, cond_both, and_parts}
+use Rattle.std.proofs.lemmas.Bool.{not-true, not-false, cond_both, and_parts}
 use Rattle.sb_insn.specs.declared.insn.Insn.{Insn}
 use Rattle.sb_insn.specs.declared.insn.Imm.{Imm}
 use Rattle.sb_insn.specs.declared.insn.Imm.TheVariants as imm
@@ -15,9 +15,10 @@ use Rattle.sb_scan.proofs.Held.{nothing_holds, byte_holds}
 use Rattle.sb_forms.specs.declared.slots.Site.{Site}
 use Rattle.sb_forms.specs.Pieces.{exchanged}
 use Rattle.sb_forms.specs.Mains.{with_displacement}
-use Rattle.sb_forms.specs.Table.{Replacement, Keep, InPlace, Unmovable, moved, is_vmfunc, is_add_esp_edx, begins_at_modrm, completes_pattern, nop}
-use Rattle.sb_forms.specs.Table.{add_from_rm, has_memory, is_call, is_jump, jump_form, wide_constant_form, address_and_constant_form}
-use Rattle.sb_forms.specs.Table.{address_form, constant_form, form_by, slot_form, slot_form_of, is_exchangeable, held_form, replacement}
+use Rattle.sb_forms.specs.Table.{Replacement, Keep, InPlace, Unmovable, moved, is_vmfunc, is_add_esp_edx, begins_at_modrm}
+use Rattle.sb_forms.specs.Table.{completes_pattern, nop, add_from_rm, has_memory, is_call, is_jump, jump_form, wide_constant_form}
+use Rattle.sb_forms.specs.Table.{address_and_constant_form, address_form, constant_form, form_by, slot_form, slot_form_of}
+use Rattle.sb_forms.specs.Table.{is_exchangeable, held_form, replacement}
 
 -- a valid instruction that is not VMFUNC, and holds the pattern
 pub record IsHeld (insn : Insn) : Type 0 where
@@ -38,24 +39,25 @@ pub record TableCases (P : Replacement → Type 0) (insn : Insn) (site : Site) :
   pub exchange : IsHeld insn → is_exchangeable insn ≡ true → P (InPlace (exchanged insn ∷ []))
   pub displace : IsHeld insn → begins_at_modrm insn ≡ true → P (moved site [] (with_displacement insn) [])
   pub unmovable : P Unmovable
-  pub through : (instruction : Instruction) → IsListedHeld insn instruction → has_memory insn.modrm ≡ true → is_jump instruction.mnemonic ≡ true
-      → P (jump_form instruction insn site)
+  pub through : (instruction : Instruction) → IsListedHeld insn instruction → has_memory insn.modrm ≡ true
+      → is_jump instruction.mnemonic ≡ true → P (jump_form instruction insn site)
   pub wide : (instruction : Instruction) (value : ℤ) → IsListedHeld insn instruction → insn.imm ≡ imm.I64 value
       → P (wide_constant_form instruction insn site value)
-  pub both : (instruction : Instruction) (value : ℤ) → IsListedHeld insn instruction → insn.imm ≡ imm.I32 value → has_memory insn.modrm ≡ true
-      → P (address_and_constant_form instruction insn site value)
-  pub alone : (instruction : Instruction) (value : ℤ) → IsListedHeld insn instruction → insn.imm ≡ imm.I32 value → has_memory insn.modrm ≡ false
-      → P (constant_form instruction insn site value)
+  pub both : (instruction : Instruction) (value : ℤ) → IsListedHeld insn instruction → insn.imm ≡ imm.I32 value
+      → has_memory insn.modrm ≡ true → P (address_and_constant_form instruction insn site value)
+  pub alone : (instruction : Instruction) (value : ℤ) → IsListedHeld insn instruction → insn.imm ≡ imm.I32 value
+      → has_memory insn.modrm ≡ false → P (constant_form instruction insn site value)
   pub memory : (instruction : Instruction) → IsListedHeld insn instruction → holds_pattern (imm_bytes insn.imm) ≡ false
       → P (address_form instruction insn site)
 
-by_imm : (P : Replacement → Type 0) (insn : Insn) (site : Site) (cases : TableCases P insn site) (instruction : Instruction) (held : IsListedHeld insn instruction)
-    (immediate : Imm) → insn.imm ≡ immediate → P (form_by instruction insn site immediate)
+by_imm : (P : Replacement → Type 0) (insn : Insn) (site : Site) (cases : TableCases P insn site) (instruction : Instruction)
+    (held : IsListedHeld insn instruction) (immediate : Imm) → insn.imm ≡ immediate → P (form_by instruction insn site immediate)
 by_imm P insn site cases instruction held (imm.I64 value) is = cases.wide instruction value held is
 by_imm P insn site cases instruction held (imm.I32 value) is =
     cond_both
     (has_memory insn.modrm)
-    (if holds_pattern (number w32 value) then address_and_constant_form instruction insn site value else address_form instruction insn site)
+    (if holds_pattern (number w32 value) then address_and_constant_form instruction insn site value
+    else address_form instruction insn site)
     (constant_form instruction insn site value)
     P
     (λ memory.
@@ -67,7 +69,8 @@ by_imm P insn site cases instruction held (imm.I32 value) is =
     (λ _. cases.both instruction value held is memory)
     (λ none. cases.memory instruction held (ap (λ i. holds_pattern (imm_bytes i)) is ∙ none)))
     (λ alone. cases.alone instruction value held is alone)
-by_imm P insn site cases instruction held imm.None is = cases.memory instruction held (ap (λ i. holds_pattern (imm_bytes i)) is ∙ nothing_holds)
+by_imm P insn site cases instruction held imm.None is =
+    cases.memory instruction held (ap (λ i. holds_pattern (imm_bytes i)) is ∙ nothing_holds)
 by_imm P insn site cases instruction held (imm.I8 value) is =
     cases.memory instruction held (ap (λ i. holds_pattern (imm_bytes i)) is ∙ byte_holds (cast_unsigned w8 value % 256))
 
@@ -91,7 +94,9 @@ by_slot P insn site cases held (Some instruction) is =
     through
     behind
     P
-    (λ jumps. let parts = and_parts (has_memory insn.modrm) (is_jump instruction.mnemonic) jumps in cases.through instruction known parts.0 parts.1)
+    (λ jumps.
+    let parts = and_parts (has_memory insn.modrm) (is_jump instruction.mnemonic) jumps in
+    cases.through instruction known parts.0 parts.1)
     (λ _. by_imm P insn site cases instruction known insn.imm refl))
 
 by_held : (P : Replacement → Type 0) (insn : Insn) (site : Site) → TableCases P insn site → IsHeld insn → P (held_form insn site)
@@ -142,4 +147,6 @@ by_table P insn site after_0f valid cases =
     held
     P
     (λ none. cases.keep (not-true (holds_pattern (spelling insn)) none))
-    (λ some. by_held P insn site cases (record { valid = valid; other = other; held = not-false (holds_pattern (spelling insn)) some }))))
+    (λ some.
+    let all : IsHeld insn = record { valid = valid; other = other; held = not-false (holds_pattern (spelling insn)) some } in
+    by_held P insn site cases all)))

@@ -1,19 +1,17 @@
 -- The bytes of VMFUNC stand in no form.
 use Rattle.std.proofs.Common.{◌≡◌, ℕ, ◌+◌, ◌*◌, ◌/◌, ◌%◌, ◌^◌, Bool, true, false, List, [], ◌∷◌, ◌++◌, length, Option, Some, None, refl, sym, ap, ◌∙◌, arith, subst, inl, inr, length-append, FitsSigned, ℤ, pos}
-use Rattle.std.specs.Prelude.{◌&&◌, ◌==◌, not, if◌then◌else◌}
-use Rattle.std.specs.Int.{w8, w32, w64, cast_unsigned}
+use Rattle.std.specs.Prelude.{◌==◌, not}
+use Rattle.std.specs.Int.{w32, w64, cast_unsigned}
 use Rattle.std.specs.Option.{option_to_list}
 use Rattle.std.proofs.Math.Facts.{sfits_to_z, Fits-of_z}
-use Rattle.std.proofs.lemmas.Bool.{or_from, and_parts, and_left, and_right, not-true, not-false, both_ways, cond_both, cond-true, ne_eqb}
+use Rattle.std.proofs.lemmas.Bool.{and_parts, and_left, not-true, both_ways, cond-true, ne_eqb}
 use Rattle.std.proofs.lemmas.Grind.{flat_map-append}
 use Rattle.sb_insn.specs.declared.insn.Insn.{Insn}
-use Rattle.sb_insn.specs.declared.insn.Imm.{Imm}
 use Rattle.sb_insn.specs.declared.insn.Imm.TheVariants as imm
 use Rattle.sb_insn.specs.declared.opcode_map.Instruction.{Instruction}
-use Rattle.sb_insn.specs.Spelling.{number, disp_bytes, imm_bytes, spelling}
+use Rattle.sb_insn.specs.Spelling.{disp_bytes, imm_bytes, spelling}
 use Rattle.sb_insn.specs.Fields.{has_sib, is_sib_field}
 use Rattle.sb_insn.specs.Grammar.{FitsImm, IsValid}
-use Rattle.sb_insn.specs.Listing.{instruction_of}
 use Rattle.sb_forms.specs.declared.helper.Helper.{Helper}
 use Rattle.sb_forms.specs.declared.slots.Site.{Site}
 use Rattle.sb_forms.specs.declared.answer.Form.{Form}
@@ -22,7 +20,7 @@ use Rattle.sb_forms.specs.Rex.{with_x_b_exchanged}
 use Rattle.sb_forms.specs.Registers.{number_of, first_helper, second_helper}
 use Rattle.sb_forms.specs.Pieces.{first_saved, second_saved, scratch_word, upper_half, save, restore, save_half, load_number, add_number, is_lowered, lowered, raise, constant, low_half, high_half, is_sib_0f, exchanged, address, jump, jump_through}
 use Rattle.sb_forms.specs.Mains.{at_helper, with_displacement, with_helper, with_constant, on_register, behind_main, load_target, load_word}
-use Rattle.sb_forms.specs.Table.{spelled, Replacement, Keep, InPlace, Unmovable, moved, is_vmfunc, is_modrm, begins_with_01_d4, begins_at_modrm, completes_pattern, nop, add_from_rm, has_memory, is_call, is_jump, jump_form, wide_constant_form, address_and_constant_form, address_form, constant_form, form_by, slot_form, slot_form_of, is_exchangeable, held_form, replacement, bytes_of, site_of, form_of}
+use Rattle.sb_forms.specs.Table.{spelled, Replacement, InPlace, moved, is_vmfunc, is_modrm, begins_with_01_d4, begins_at_modrm, nop, add_from_rm, has_memory, jump_form, wide_constant_form, address_and_constant_form, address_form, constant_form, is_exchangeable, replacement, bytes_of, site_of, form_of}
 use Rattle.sb_forms.specs.Answers.{IsSite, IsSmall, IsCleanForm}
 use Rattle.sb_forms.proofs.Held.{not_held}
 use Rattle.sb_forms.proofs.ByTable.{IsHeld, TableCases, by_table}

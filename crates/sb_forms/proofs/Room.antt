@@ -1,10 +1,8 @@
 -- How many bytes stand in place of an instruction, and that a jump has room in one that is moved.
-use Rattle.std.proofs.Common.{◌≡◌, ℕ, zero, suc, ◌+◌, ◌≤◌, ◌<◌, Bool, true, false, List, [], ◌∷◌, ◌++◌, length, get_or, Option, Some, None, refl, sym, ap, ◌∙◌, arith, subst, ⊎_elim, length-append}
-use Rattle.std.specs.Prelude.{◌&&◌, not, if◌then◌else◌}
-use Rattle.std.specs.Int.{w32}
+use Rattle.std.proofs.Common.{◌≡◌, ℕ, zero, suc, ◌+◌, ◌≤◌, Bool, true, false, List, [], ◌++◌, length, get_or, Option, Some, None, refl, sym, ap, ◌∙◌, arith, subst, ⊎_elim, length-append}
+use Rattle.std.specs.Prelude.{◌&&◌, not}
 use Rattle.std.specs.Option.{option_to_list}
-use Rattle.std.proofs.lemmas.Bool.{and_parts, cases_lt, cond_both, not-false, eqb-true}
-use Rattle.std.proofs.lemmas.List.{get_or_past}
+use Rattle.std.proofs.lemmas.Bool.{and_parts, cases_lt, eqb-true}
 use Rattle.sb_insn.specs.declared.insn.Insn.{Insn}
 use Rattle.sb_insn.specs.declared.insn.Op.{Op}
 use Rattle.sb_insn.specs.declared.insn.Op.TheVariants.{One, Two, Endbr, Vmfunc}
@@ -13,18 +11,15 @@ use Rattle.sb_insn.specs.declared.insn.Imm.TheVariants as imm
 use Rattle.sb_insn.specs.declared.insn.Disp.{Disp}
 use Rattle.sb_insn.specs.declared.insn.Disp.TheVariants as disp
 use Rattle.sb_insn.specs.OpcodeMap.{one_byte, cell_of}
-use Rattle.sb_insn.specs.Spelling.{number, lock_bytes, op_bytes, disp_bytes, imm_bytes, spelling}
+use Rattle.sb_insn.specs.Spelling.{lock_bytes, op_bytes, disp_bytes, imm_bytes, spelling}
 use Rattle.sb_insn.specs.Fields.{is_none, is_modrm_field, is_sib_field, has_sib, modrm_disp, permits, disp_kind_of, kind_of_disp, rule_of, imm_kind_of, kind_of_imm}
 use Rattle.sb_insn.specs.Grammar.{IsValid}
-use Rattle.sb_insn.specs.declared.opcode_map.Instruction.{Instruction}
-use Rattle.sb_insn.specs.Listing.{instruction_of}
 use Rattle.sb_scan.specs.Pattern.{HasPatternAt}
 use Rattle.sb_forms.specs.declared.slots.Site.{Site}
 use Rattle.sb_forms.specs.declared.answer.Form.{Form}
 use Rattle.sb_forms.specs.Holding.{holds_pattern}
 use Rattle.sb_forms.specs.Pieces.{is_sib_0f, exchanged}
-use Rattle.sb_forms.specs.Mains.{with_displacement}
-use Rattle.sb_forms.specs.Table.{Replacement, Keep, InPlace, Unmovable, moved, is_vmfunc, is_one_byte, is_modrm, is_add_esp_edx, begins_at_modrm, completes_pattern, nop, add_from_rm, has_memory, is_call, is_jump, jump_form, wide_constant_form, address_and_constant_form, address_form, constant_form, form_by, slot_form, slot_form_of, is_exchangeable, held_form, replacement, bytes_of, site_of, form_of}
+use Rattle.sb_forms.specs.Table.{Replacement, is_vmfunc, is_one_byte, is_modrm, is_add_esp_edx, jump_form, wide_constant_form, address_and_constant_form, address_form, constant_form, replacement, bytes_of, site_of, form_of}
 use Rattle.sb_forms.specs.Answers.{IsSmall, HasRoom}
 use Rattle.sb_scan.proofs.Places.{read_within}
 use Rattle.sb_forms.proofs.Held.{holds_at}

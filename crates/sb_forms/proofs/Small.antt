@@ -1,8 +1,7 @@
 -- Every form is small, over the definitions alone.
-use Rattle.std.proofs.Common.{◌≡◌, ℕ, ◌+◌, ◌%◌, ◌≤◌, Bool, true, false, List, [], ◌∷◌, ◌++◌, length, Option, Some, None, refl, sym, ap, ◌∙◌, arith, length-append, ℤ, pos}
-use Rattle.std.specs.Prelude.{◌&&◌, not, if◌then◌else◌}
-use Rattle.std.specs.Int.{w8, w32, cast_unsigned}
-use Rattle.std.proofs.lemmas.Bool.{cond_both, not-false, both_ways, true_from_ne_false}
+use Rattle.std.proofs.Common.{◌≡◌, ℕ, ◌+◌, ◌%◌, ◌≤◌, Bool, true, false, List, [], ◌∷◌, ◌++◌, length, Some, refl, sym, ap, ◌∙◌, arith, length-append, ℤ, pos}
+use Rattle.std.specs.Int.{w8, cast_unsigned}
+use Rattle.std.proofs.lemmas.Bool.{cond_both, both_ways, true_from_ne_false}
 use Rattle.std.proofs.lemmas.Grind.{flat_map-append}
 use Rattle.sb_insn.specs.declared.insn.Insn.{Insn}
 use Rattle.sb_insn.specs.declared.insn.Disp.{Disp}
@@ -13,17 +12,17 @@ use Rattle.sb_insn.specs.declared.opcode_map.Mnemonic.{Mnemonic}
 use Rattle.sb_insn.specs.declared.opcode_map.Mnemonic.TheVariants as mnemonic
 use Rattle.sb_insn.specs.declared.opcode_map.OperandForm.{OperandForm}
 use Rattle.sb_insn.specs.declared.opcode_map.Instruction.{Instruction}
-use Rattle.sb_insn.specs.Spelling.{number, disp_bytes, imm_bytes, spelling}
+use Rattle.sb_insn.specs.Spelling.{disp_bytes, imm_bytes, spelling}
 use Rattle.sb_insn.specs.Listing.{instruction_of}
 use Rattle.sb_insn.specs.Grammar.{IsValid}
 use Rattle.sb_forms.specs.declared.helper.Helper.{Helper}
 use Rattle.sb_forms.specs.declared.slots.Site.{Site}
 use Rattle.sb_forms.specs.Holding.{holds_pattern}
 use Rattle.sb_forms.specs.Registers.{first_helper, second_helper}
-use Rattle.sb_forms.specs.Pieces.{first_saved, second_saved, scratch_word, upper_half, save, restore, save_half, load_number, add_number, is_lowered, lowered, lacking, raise, constant, low_half, high_half, without_sib_0f, is_from_next, exchanged, load_address, address_from, address_at, address_by, address, jump, jump_through}
+use Rattle.sb_forms.specs.Pieces.{first_saved, second_saved, scratch_word, upper_half, save, restore, save_half, load_number, add_number, is_lowered, lowered, lacking, raise, constant, low_half, high_half, without_sib_0f, is_from_next, load_address, address_from, address_at, address_by, address, jump, jump_through}
 use Rattle.sb_forms.specs.Registers.{modrm_of}
 use Rattle.sb_forms.specs.Mains.{at_helper, with_displacement, with_helper, with_constant, on_register, behind_main, move_product, load_target, load_word}
-use Rattle.sb_forms.specs.Table.{spelled, Keep, InPlace, Unmovable, moved, bytes_of, has_memory, is_call, is_jump, is_vmfunc, completes_pattern, begins_at_modrm, is_exchangeable, nop, add_from_rm, form_by, slot_form, slot_form_of, held_form, replacement, site_of, form_of, jump_form, wide_constant_form, address_and_constant_form, address_form, constant_form}
+use Rattle.sb_forms.specs.Table.{spelled, moved, bytes_of, has_memory, begins_at_modrm, site_of, form_of, jump_form, wide_constant_form, address_and_constant_form, address_form, constant_form}
 use Rattle.sb_forms.specs.Answers.{IsSmall}
 use Rattle.sb_insn.proofs.Longest.{one_field}
 use Rattle.sb_forms.proofs.Lengths.{spelling_length, with_helper_9, constant_main_8, alone_5, displaced_9}

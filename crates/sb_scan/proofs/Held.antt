@@ -1,7 +1,9 @@
 -- The test on bytes is whether the pattern stands at some place.
-use Rattle.std.proofs.Common.{◌≡◌, ℕ, zero, suc, ◌+◌, true, false, List, [], ◌∷◌, Option, Some, None, get_or, refl, sym, ap, ◌∙◌, arith, inl, inr}
+use Rattle.std.proofs.Common.{◌≡◌, ℕ, zero, suc, ◌+◌, true, false, List, [], ◌∷◌, Option, Some, None, get_or, refl, sym, ap}
+use Rattle.std.proofs.Common.{◌∙◌, arith, inl, inr}
 use Rattle.std.specs.Prelude.{is_some, ◌&&◌, ◌==◌}
-use Rattle.std.proofs.lemmas.Bool.{and_parts, and_right, or_cases, or_from, or_left, or_right, eqb-true, eq-eqb, false_from_ne_true, false≢true, both_ways}
+use Rattle.std.proofs.lemmas.Bool.{and_parts, and_right, or_cases, or_from, or_left, or_right, eqb-true, eq-eqb}
+use Rattle.std.proofs.lemmas.Bool.{false_from_ne_true, false≢true, both_ways}
 use Rattle.sb_scan.specs.Pattern.{pattern, HasPatternAt, HasNoPattern, IsFirstPattern}
 use Rattle.sb_scan.specs.Holding.{begins_with, holds_pattern}
 
