@@ -151,7 +151,12 @@ fn take_stack(state: &mut Plain, core: u8, binding: Binding) -> Event
 {
     let index = u32::from(binding.index);
     match pool_word(state, binding.server) {
-        0 => refuse(state, core, Event::PoolEmpty { index }, CallStatus::PoolEmpty),
+        0 => refuse(
+            state,
+            core,
+            Event::PoolEmpty { index },
+            CallStatus::PoolEmpty,
+        ),
         word => enter(state, core, binding, word),
     }
 }

@@ -36,7 +36,13 @@ fn is_start(state: &Plain, process: u32, address: u64) -> bool
 }
 
 // Why the process that a view shows does not become a server.
-fn refusal_of(state: &Plain, view: u16, process: u32, handler: u64, stacks: u64) -> Option<CallRefusal>
+fn refusal_of(
+    state: &Plain,
+    view: u16,
+    process: u32,
+    handler: u64,
+    stacks: u64,
+) -> Option<CallRefusal>
     ensures refusal { result ≡ refuses_register state.now view process handler stacks }
     ensures stacks { result ≡ None → stacks ≤ 16 }
     ensures frames { result ≡ None → 4 * stacks ≤ state.now.free }
