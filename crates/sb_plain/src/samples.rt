@@ -3,8 +3,8 @@
 use crate::Plain;
 use crate::system_call::system_call;
 use sb_bundle::read_bundle;
-use sb_insn::{Disp, Imm, Insn, Op};
 use sb_insn::registers::{RAX, RDI, RDX, RSI};
+use sb_insn::{Disp, Imm, Insn, Op};
 use sb_load::load;
 use std::alloc::Global;
 use std::test::Fail;

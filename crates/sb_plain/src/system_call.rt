@@ -27,8 +27,8 @@ use protect::protect;
 use register::register;
 use sb_abi::CallRefusal;
 use sb_calls::{after_syscall, answered};
-use sb_insn::{Insn, Regs};
 use sb_insn::registers::{RAX, RDI};
+use sb_insn::{Insn, Regs};
 use sb_trace::{EndKind, Event};
 
 // ---- the ways in which a call ends

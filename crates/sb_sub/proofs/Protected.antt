@@ -132,9 +132,9 @@ module _ (kernel : Kernel) (root : RootKernel) (book : Book) (memory : Physical)
 
   refusal_by : (page mode : ℕ) (beyond : Bool) → nat_le entry.process.heap_pages page ≡ beyond
       → with_pattern (if beyond then Some BadPage else if (mode == 0) || (mode == 1) then None else Some BadMode) (mode == 1)
-          (pattern_at memory entry.set page entry.process.heap_pages)
+      (pattern_at memory entry.set page entry.process.heap_pages)
       ≡ with_pattern (if beyond then Some BadPage else if (mode == 0) || (mode == 1) then None else Some BadMode) (mode == 1)
-          (heap_pattern state process page)
+      (heap_pattern state process page)
   refusal_by page mode true is = refl
   refusal_by page mode false is =
       let below : page < entry.process.heap_pages = grind (arith, common_steps) in
@@ -174,7 +174,7 @@ absent_protects kernel root book memory state stands process page mode none =
     let beyond : nat_le 0 page ≡ true = grind (arith, common_steps) in
     let is : page_refusal 0 page mode (heap_pattern state process page) ≡ Some (BadPage, 0) =
     ap (λ (test : Bool). with_pattern (if test then Some BadPage else if (mode == 0) || (mode == 1) then None else Some BadMode) (mode == 1)
-        (heap_pattern state process page)) beyond in
+    (heap_pattern state process page)) beyond in
     record {
       is = sym (ap (λ (found : Option Process). page_refusal (heap_count found) page mode (heap_pattern state process page)) absent ∙ is);
       stands = stands;

@@ -29,7 +29,12 @@ const READ_WRITE: u8 = 3;
 const EXECUTE_ALONE: u8 = 4;
 
 /// The first refusal of a change of mode, and a second value with it.
-fn refusal(process: &Process, memory: &mut Memory, page: u64, mode: u64) -> Option<(CallRefusal, u64)>
+fn refusal(
+    process: &Process,
+    memory: &mut Memory,
+    page: u64,
+    mode: u64,
+) -> Option<(CallRefusal, u64)>
     requires finds { FindsHeap memory.old process.now.set process.now.process.heap_pages }
     ensures same { memory.new ≡ memory.old }
     ensures refusal { result ≡ page_refusal process.now.process.heap_pages page mode (pattern_at memory.old process.now.set page process.now.process.heap_pages) }

@@ -26,7 +26,8 @@ called_by state number thread next call =
     if call == 0 then exited state number next
     else if call == 1 then (Printed (rdi next), returned state number next 0 0)
     else if call == 2
-    then registered state number next (present_of thread) (refuses_register state thread.view (present_of thread) (rdi next) (rsi next))
+    then registered state number next (present_of thread)
+    (refuses_register state thread.view (present_of thread) (rdi next) (rsi next))
     else if call == 3 then bound state number thread next (refuses_bind state thread (rdi next))
     else if call == 4 then protects state number next (present_of thread) (rdi next) (rsi next)
     else declined state number next NoCall 0

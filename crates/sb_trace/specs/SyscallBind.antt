@@ -25,7 +25,8 @@ use Rattle.sb_trace.specs.SyscallRegister.{is_registered}
 -- why a thread does not get a view of a process
 abbrev pub refuses_bind : State → Thread → ℕ → Option CallRefusal
 refuses_bind state thread server =
-    bind_refusal thread.view thread.home server (is_registered (registration_at state server)) (length thread.bindings) (length state.keys) state.free
+    bind_refusal thread.view thread.home server (is_registered (registration_at state server)) (length thread.bindings)
+    (length state.keys) state.free
 
 -- ---- the binding
 
@@ -37,7 +38,8 @@ has_index (binding ∷ bindings) index = (binding.index == index) || has_index b
 -- the lowest of so many indices, from a first one on, that no binding has
 abbrev pub free_index_from : List Binding → ℕ → ℕ → ℕ
 free_index_from bindings index zero = index
-free_index_from bindings index (suc count) = if has_index bindings index then free_index_from bindings (index + 1) count else index
+free_index_from bindings index (suc count) =
+    if has_index bindings index then free_index_from bindings (index + 1) count else index
 
 -- the lowest index from 1 to 15 that no binding has
 unfoldable pub free_index : List Binding → ℕ
@@ -64,22 +66,28 @@ buffer_page thread index page = named (Buffer thread index page) zeros
 -- the pages of a binding's view, and its buffer
 unfoldable pub binding_pages : ℕ → ℕ → RecordWords → List Page
 binding_pages thread index words =
-    named (Record thread index) (record_bytes words) ∷ named (Scratch thread index) zeros ∷ pages_from (buffer_page thread index) 0 BUFFER_PAGES
+    named (Record thread index) (record_bytes words) ∷ named (Scratch thread index) zeros
+    ∷ pages_from (buffer_page thread index) 0 BUFFER_PAGES
 
 -- the view is there, its key is drawn, and its frames are taken
 unfoldable pub with_binding : State → ℕ → Thread → Binding → State
-with_binding state number thread binding = record (with_thread state number (record thread { bindings = thread.bindings ++ binding ∷ [] })) {
-  pages = state.pages ++ binding_pages number binding.index (server_words number thread binding (handler_in (registration_at state binding.server)));
-  free = state.free - BIND_FRAMES;
-  keys = drop 1 state.keys;
-}
+with_binding state number thread binding =
+    record (with_thread state number (record thread { bindings = thread.bindings ++ binding ∷ [] })) {
+      pages = state.pages
+          ++ binding_pages number binding.index
+          (server_words number thread binding (handler_in (registration_at state binding.server)));
+      free = state.free - BIND_FRAMES;
+      keys = drop 1 state.keys;
+    }
 
 -- ---- the call
 
 -- the thread has this binding, and its registers tell it
 abbrev pub bound_to : State → ℕ → Thread → Regs → Binding → Outcome
-bound_to state number thread next binding =
-    (Sys (rax next) 0, with_regs (with_binding state number thread binding) number (bound_regs next number binding.index binding.key))
+bound_to state number thread next binding = (
+  Sys (rax next) 0,
+  with_regs (with_binding state number thread binding) number (bound_regs next number binding.index binding.key),
+)
 
 -- bind of a thread by its refusal: the server is in RDI
 abbrev pub bound : State → ℕ → Thread → Regs → Option CallRefusal → Outcome

@@ -36,7 +36,8 @@ is_registered (Some registration) = true
 -- why the process that a view shows does not become a server with this handler and so many stacks
 abbrev pub refuses_register : State → ℕ → ℕ → ℕ → ℕ → Option CallRefusal
 refuses_register state view process handler stacks =
-    register_refusal view (is_registered (registration_at state process)) (is_start (process_at state process) handler) stacks state.free
+    register_refusal view (is_registered (registration_at state process)) (is_start (process_at state process) handler) stacks
+    state.free
 
 -- ---- the server
 
@@ -57,8 +58,10 @@ with_registration (Some process) processes number registration =
 -- the pages of the stacks are there, all of them are free, and their frames are taken
 unfoldable pub with_server : State → ℕ → ℕ → ℕ → State
 with_server state process handler stacks = record (with_word state (Pool process) 0 (2 ^ stacks - 1)) {
-  pages = (with_word state (Pool process) 0 (2 ^ stacks - 1)).pages ++ pages_from (server_stack_page process) 0 (STACK_PAGES * stacks);
-  processes = with_registration (process_at state process) state.processes process (record { handler = handler; stacks = stacks });
+  pages = (with_word state (Pool process) 0 (2 ^ stacks - 1)).pages
+      ++ pages_from (server_stack_page process) 0 (STACK_PAGES * stacks);
+  processes = with_registration (process_at state process) state.processes process
+      (record { handler = handler; stacks = stacks });
   free = state.free - STACK_PAGES * stacks;
 }
 

@@ -17,7 +17,7 @@ pub returns-in-4-clause-served : goal.returns-in-4-clause-served
 returns-in-4-clause-served c = λ state stands view.
     let by = c.protect_page-refusal.ensures.served c.args.book.now state stands in
     let shows = c.shown-process.ensures
-        ∙ shown_same c.args.self.now c.args.root.now c.args.book.now c.args.memory.now state c.args.thread c.args.view stands view in
+    ∙ shown_same c.args.self.now c.args.root.now c.args.book.now c.args.memory.now state c.args.thread c.args.view stands view in
     let now = rw c.answer_of-answer.ensures at c.go_on-in-4.ensures in
     rw (c.protect_page-refusal.ensures.root, c.answer_of-answer.ensures)
     (protect_served c.protect_page-refusal.result c.args.self.now c.args.root.now c.args.book.now c.protect_page-refusal.new.memory state c.args.thread
