@@ -1,7 +1,6 @@
 -- What stops an instruction is what stops a byte: if each byte's stop has a property, then so has the instruction's.
 use Rattle.std.proofs.Common.{ℕ, List, [], ◌∷◌, Result, Ok, Err, inl, inr, subst, sym}
 use Rattle.std.specs.Prelude.{IfErr}
-use Rattle.sb_memory.specs.declared.address.Access.{Access}
 use Rattle.sb_memory.specs.declared.address.Access.TheVariants as access
 use Rattle.sb_insn.specs.declared.registers.Regs.{Regs}
 use Rattle.sb_bus.specs.declared.stop.BusStop.{BusStop}

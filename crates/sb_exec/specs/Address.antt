@@ -1,5 +1,5 @@
 -- Where the operand is that ModRM names: a register, or memory at an address (SDM volume 2, tables 2-2 and 2-3).
-use Rattle.std.specs.Prelude.{ℕ, ◌+◌, ◌*◌, ◌/◌, ◌%◌, ◌^◌, ◌==◌, ◌&&◌, if◌then◌else◌, unwrap_or}
+use Rattle.std.specs.Prelude.{ℕ, ◌+◌, ◌*◌, ◌%◌, ◌^◌, ◌==◌, ◌&&◌, if◌then◌else◌, unwrap_or}
 use Rattle.std.specs.Int.{w64, cast_unsigned}
 use Rattle.sb_memory.specs.declared.address.Linear.{Linear}
 use Rattle.sb_insn.specs.declared.insn.Insn.{Insn}

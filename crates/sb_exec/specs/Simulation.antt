@@ -138,7 +138,7 @@ abbrev pub RowsAlike : {M N A B : Type 0} → (M → N → Type 0) → Interface
 RowsAlike {M} {N} {A} {B} Related left right =
     StoresKeep Related left right
     → ((first : M) (second : N) → Related first second → (address : ℕ) (how : Access) → IsData how
-        → right.byte second address how ≡ left.byte first address how)
+    → right.byte second address how ≡ left.byte first address how)
     → (row : Row) (regs : Regs) (first : M) (second : N) (account : A) (other : B)
     → Related first second → Alike Related (execution_of left row regs first account) (execution_of right row regs second other)
 
@@ -198,5 +198,5 @@ RowsIn {M} {N} {A} {B} Related left right =
 abbrev pub RowsKeep : {M A : Type 0} → (M → Type 0) → Interface M A → Type 0
 RowsKeep {M} {A} Claim bus =
     ((first : M) → Claim first → (address size value : ℕ) → store_answer (byte_for (bus.byte first) access.Write) address size ≡ Ok tt
-        → Claim (bus.stored first address size value))
+    → Claim (bus.stored first address size value))
     → (row : Row) (regs : Regs) (first : M) (account : A) → Claim first → Claim (execution_of bus row regs first account).meaning
