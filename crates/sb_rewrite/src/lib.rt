@@ -22,8 +22,6 @@ mod refusal;
 mod rewriting;
 mod rewritten;
 mod target;
-#[cfg(test)]
-mod tests;
 
 pub use draft::{AREA_ADDRESS, AREA_SIZE};
 pub use edit::{Edit, Edits, Move};

@@ -1,7 +1,10 @@
-use super::*;
-use crate::refusal::BundleRefusal::{Count, Magic, Range, Short, Trailing, Version};
+//! Bytes against what reading answers, and the bytes that are written.
+
+use crate::bundles::{PRINTS, bundle_of};
+use sb_bundle::BundleRefusal::{self, Count, Magic, Range, Short, Trailing, Version};
+use sb_bundle::{CoreStart, read_bundle, write_bundle};
 use std::alloc::{AllocError, Global};
-use std::test::*;
+use std::test::Fail;
 
 /// One core, in one process of five instructions, and five steps.
 const FIRST: [u8; 65] = [
@@ -56,6 +59,7 @@ fn a_bundle_that_ends_early_is_short_at_its_last_field(rt: HostRuntime) -> Resul
 /// What is edited, from where on, into which bytes, and what is then refused.
 type Edit = (&'static str, usize, &'static [u8], Option<BundleRefusal>);
 
+#[rattlefmt::skip]
 const EDITS: [Edit; 33] = [
     ("as it is", 0, &[], None),
     ("the magic's last byte", 3, &[0x43], Some(Magic { at: 0 })),
@@ -78,12 +82,7 @@ const EDITS: [Edit; 33] = [
     ("2^20 entries", 16, &[0, 0, 16], Some(Short { at: 65 })),
     ("2^20 + 1 entries", 16, &[1, 0, 16], Some(Count { at: 16 })),
     ("no text", 20, &[0], Some(Range { at: 20 })),
-    (
-        "1 byte of text, process 7",
-        20,
-        &[1],
-        Some(Range { at: 33 }),
-    ),
+    ("1 byte of text, process 7", 20, &[1], Some(Range { at: 33 })),
     ("2 MiB of text", 20, &[0, 0, 32], Some(Short { at: 32 })),
     ("2 MiB + 1 of text", 20, &[1, 0, 32], Some(Range { at: 20 })),
     ("2 MiB of data", 24, &[0, 0, 32], Some(Short { at: 48 })),
@@ -109,6 +108,7 @@ fn each_limit_at_its_edge_and_past_it(rt: HostRuntime) -> Result<(), Fail> {
 /// What is edited, from where on, where the input is cut, and what is then refused.
 type Cut = (&'static str, usize, usize, BundleRefusal);
 
+#[rattlefmt::skip]
 const CUTS: [Cut; 5] = [
     ("three wrong bytes of the magic", 0, 3, Short { at: 0 }),
     ("four wrong bytes of the magic", 0, 4, Magic { at: 0 }),
@@ -162,5 +162,21 @@ fn what_is_read_is_written(rt: HostRuntime) -> Result<(), Fail> {
     assert_eq!(rt; copy.images.items().len(), 1);
     assert_eq!(rt; copy.cores.items(), bundle.cores.items());
     assert_eq!(rt; copy.schedule.items(), [0; 5].as_slice());
+    Ok(())
+}
+
+#[test]
+fn what_is_built_is_written(rt: HostRuntime) -> Result<(), Fail> {
+    let core = CoreStart {
+        process: 0,
+        entry: 0x40_0000,
+    };
+    let bundle = bundle_of(rt.alloc(), 576, &[PRINTS], &[core])?;
+    // The first bundle without its schedule.
+    let expected = edited(rt.alloc(), 16, &[0], 60)?;
+    assert_eq!(rt;
+        write_bundle(rt.alloc(), &bundle)?.as_slice(),
+        expected.as_slice()
+    );
     Ok(())
 }
