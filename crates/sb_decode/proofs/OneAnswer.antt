@@ -12,7 +12,8 @@ use Rattle.sb_decode.proofs.Exact.{one_begins}
 begins_undecoded : (bytes : List ℕ) (insn : Insn) → BeginsWith bytes insn → IsUndecoded bytes → ⊥
 begins_undecoded bytes insn begins undecoded = undecoded [] insn (subst (λ (t : List ℕ). BeginsWith t insn) (sym (append-nil bytes)) begins)
 
-short_undecoded : (bytes : List ℕ) → IsShort bytes → IsUndecoded bytes → ⊥
+-- bytes that some longer input completes are not undecoded
+pub short_undecoded : (bytes : List ℕ) → IsShort bytes → IsUndecoded bytes → ⊥
 short_undecoded bytes short undecoded = undecoded short.1.0 short.1.1 short.1.2
 
 abbrev answered : Insn → ℕ → Result (Insn × ℕ) DecodeFault

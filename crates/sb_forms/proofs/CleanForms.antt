@@ -24,7 +24,7 @@ use Rattle.sb_forms.specs.Pieces.{first_saved, second_saved, scratch_word, upper
 use Rattle.sb_forms.specs.Mains.{at_helper, with_displacement, with_helper, with_constant, on_register, behind_main, load_target, load_word}
 use Rattle.sb_forms.specs.Table.{spelled, Replacement, Keep, InPlace, Unmovable, moved, is_vmfunc, is_modrm, begins_with_01_d4, begins_at_modrm, completes_pattern, nop, add_from_rm, has_memory, is_call, is_jump, jump_form, wide_constant_form, address_and_constant_form, address_form, constant_form, form_by, slot_form, slot_form_of, is_exchangeable, held_form, replacement, bytes_of, site_of, form_of}
 use Rattle.sb_forms.specs.Answers.{IsSite, IsSmall, IsCleanForm}
-use Rattle.sb_forms.proofs.Held.{not_held}
+use Rattle.sb_forms.proofs.Held.{not_held, byte_holds}
 use Rattle.sb_forms.proofs.Operands.{no_sib_0f, no_memory}
 use Rattle.sb_forms.proofs.Quiet.{last_one, IsQuiet, AreQuiet, MayFollow, skip, in_place_clean, slot_clean}
 use Rattle.sb_forms.proofs.Fronts.{valid_rex, valid_op, exchanged_rex, front_holds, front_quiet}
@@ -123,11 +123,11 @@ jump_good instruction insn site valid place small =
     (inl (load_target_quiet helper))
     (save_word helper, (restore_first helper, (jump_through_word, tt)))
 
-low_fits : (value : ℤ) → FitsSigned w32 (low_half value)
+pub low_fits : (value : ℤ) → FitsSigned w32 (low_half value)
 unfolding low_half
 low_fits value = sfits_to_z {w = w32} {n = cast_unsigned w64 value % 2 ^ 32} (omega arith)
 
-high_fits : (value : ℤ) → FitsSigned w64 value → FitsSigned w32 (high_half value)
+pub high_fits : (value : ℤ) → FitsSigned w64 value → FitsSigned w32 (high_half value)
 unfolding high_half
 high_fits value fits =
     let below = Fits-of_z {w = w64} {z = value} fits in
@@ -213,11 +213,6 @@ constant_good instruction insn site value place fits lowers small =
     insn
 
 -- ---- which form applies
-
--- no pattern stands in one byte
-pub byte_holds : (byte : ℕ) → holds_pattern (byte ∷ []) ≡ false
-unfolding holds_pattern
-byte_holds byte = or_from ((byte == 0x0F) && false) false (and_right (byte == 0x0F) false refl) refl
 
 -- a valid instruction that is not VMFUNC, and holds the pattern
 pub record IsHeld (insn : Insn) : Type 0 where

@@ -13,7 +13,7 @@ use Rattle.sb_insn.specs.declared.opcode_map.OperandForm.{OperandForm}
 use Rattle.sb_insn.specs.declared.opcode_map.OperandForm.TheVariants.{AccImm, OpcodeImm}
 use Rattle.sb_insn.specs.Spelling.{lock_bytes, op_bytes, disp_bytes, imm_bytes, front_bytes, spelling}
 use Rattle.sb_insn.specs.Grammar.{IsValid}
-use Rattle.sb_insn.proofs.Longest.{spelling_13}
+use Rattle.sb_insn.proofs.Longest.{one_field, spelling_13}
 use Rattle.sb_forms.specs.declared.helper.Helper.{Helper}
 use Rattle.sb_forms.specs.Rex.{with_x_b_exchanged}
 use Rattle.sb_forms.specs.Pieces.{is_sib_0f, exchanged}
@@ -40,10 +40,6 @@ pub lock_1 : (lock : Bool) → length (lock_bytes lock) ≤ 1
 lock_1 true = omega arith
 lock_1 false = omega arith
 
-pub field_1 : (field : Option ℕ) → length (option_to_list field) ≤ 1
-field_1 None = omega arith
-field_1 (Some byte) = omega arith
-
 pub op_4 : (op : Op) → length (op_bytes op) ≤ 4
 op_4 (One opcode) = omega arith
 op_4 (Two opcode) = omega arith
@@ -55,11 +51,12 @@ op_4 Vmfunc = omega arith
 pub with_helper_9 : (helper : Helper) (insn : Insn) → length (op_bytes insn.op) + length (imm_bytes insn.imm) ≤ 5 → length (spelling (with_helper helper insn)) ≤ 9
 unfolding with_helper at_helper
 with_helper_9 helper insn short =
-    omega (arith, spelling_length (with_helper helper insn), lock_1 insn.lock, field_1 (with_helper helper insn).rex)
+    omega (arith, spelling_length (with_helper helper insn), lock_1 insn.lock, one_field (with_helper helper insn).rex)
 
-product_3 : (insn : Insn) (helper : Helper) → length (spelling (move_product insn helper)) ≤ 3
+-- MOV of the product has three bytes at most
+pub product_3 : (insn : Insn) (helper : Helper) → length (spelling (move_product insn helper)) ≤ 3
 unfolding move_product
-product_3 insn helper = omega (arith, spelling_length (move_product insn helper), field_1 (move_product insn helper).rex)
+product_3 insn helper = omega (arith, spelling_length (move_product insn helper), one_field (move_product insn helper).rex)
 
 behind_3 : (insn : Insn) (helper : Helper) → length (spelled (behind_main mnemonic.Imul insn helper)) ≤ 3
 unfolding behind_main
@@ -92,7 +89,7 @@ pub constant_main_8 : (name : Mnemonic) (insn : Insn) (helper second : Helper) �
     → length (spelling (with_constant name insn (at_helper helper) second)) + length (spelled (behind_main name insn second)) ≤ 8
 unfolding with_constant at_helper
 constant_main_8 name insn helper second unlocked =
-    omega (arith, spelling_length (with_constant name insn (at_helper helper) second), main_and_behind name insn second unlocked, field_1 (with_constant name insn (at_helper helper) second).rex)
+    omega (arith, spelling_length (with_constant name insn (at_helper helper) second), main_and_behind name insn second unlocked, one_field (with_constant name insn (at_helper helper) second).rex)
 
 op_2 : (name : Mnemonic) → length (op_bytes (register_op name)) ≤ 2
 op_2 mnemonic.Imul = omega arith
@@ -107,7 +104,7 @@ bare _ insn = refl
 pub alone_5 : (name : Mnemonic) (form : OperandForm) (insn : Insn) (helper : Helper) → length (spelling (with_constant name insn (own_register form insn) helper)) ≤ 5
 unfolding with_constant
 alone_5 name form insn helper =
-    omega (arith, spelling_length (with_constant name insn (own_register form insn) helper), op_2 name, lock_1 insn.lock, bare form insn, field_1 (with_constant name insn (own_register form insn) helper).rex)
+    omega (arith, spelling_length (with_constant name insn (own_register form insn) helper), op_2 name, lock_1 insn.lock, bare form insn, one_field (with_constant name insn (own_register form insn) helper).rex)
 
 -- ---- in place, and at ModRM 0F
 
@@ -143,4 +140,4 @@ pub displaced_9 : (insn : Insn) → IsValid insn → begins_at_modrm insn ≡ tr
 unfolding with_displacement
 displaced_9 insn valid e =
     let parts = and_parts (is_modrm 0x0F insn.modrm) (begins_with_01_d4 insn.imm) e in
-    omega (arith, spelling_length (with_displacement insn), lock_1 insn.lock, field_1 (with_displacement insn).rex, ap (λ sib. length (option_to_list sib)) (no_sib_0f insn.modrm insn.sib parts.0 valid.sib), short_5 insn valid (memory_0f insn.modrm parts.0))
+    omega (arith, spelling_length (with_displacement insn), lock_1 insn.lock, one_field (with_displacement insn).rex, ap (λ sib. length (option_to_list sib)) (no_sib_0f insn.modrm insn.sib parts.0 valid.sib), short_5 insn valid (memory_0f insn.modrm parts.0))

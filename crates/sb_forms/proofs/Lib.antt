@@ -1,4 +1,4 @@
-pub mod Held
+pub use Rattle.sb_scan.proofs.Held
 pub mod Lowered
 pub mod Spelled
 pub mod Lengths
@@ -11,3 +11,7 @@ pub mod QuietMains
 pub mod CleanForms
 pub mod Room
 pub mod Where
+pub mod Helpers
+pub mod Small
+pub mod Immediates
+pub mod Across

@@ -34,7 +34,7 @@ second_byte a b c d (inr last) = omega (arith, last.0)
 pub second_some : (value : ℤ) → holds_pattern (number w32 value) ≡ true → 0 < second value
 second_some value e = second_byte _ _ _ _ (in_four (cast_unsigned w32 value % 256) (second value) (cast_unsigned w32 value / 65536 % 256) (cast_unsigned w32 value / 16777216 % 256) e)
 
-less_256 : (n : ℕ) → 256 ≤ n → pos n -ℤ pos 0x100 ≡ pos (n - 256)
+pub less_256 : (n : ℕ) → 256 ≤ n → pos n -ℤ pos 0x100 ≡ pos (n - 256)
 less_256 n enough = cond-false (ltb n 256) (negsuc (256 - suc n)) (pos (n - 256)) (le-ltb n 256 enough)
 
 fits_lowered : (value : ℤ) → FitsSigned w32 value → 0 < second value → FitsSigned w32 (value -ℤ pos 0x100)

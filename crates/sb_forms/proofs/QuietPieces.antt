@@ -13,6 +13,7 @@ use Rattle.sb_insn.specs.Fields.{mod_field, rm_field, is_sib_field, modrm_disp, 
 use Rattle.sb_insn.specs.Grammar.{FitsDisp, IsValid}
 use Rattle.sb_forms.specs.declared.helper.Helper.{Helper}
 use Rattle.sb_forms.specs.declared.helper.Helper.TheVariants.{Rcx, Rdx, Rbx, Rsi, Rdi}
+use Rattle.sb_scan.proofs.Held.{byte_holds}
 use Rattle.sb_forms.specs.Holding.{holds_pattern}
 use Rattle.sb_forms.specs.Rex.{rex_x, rex_b}
 use Rattle.sb_forms.specs.Registers.{number_of, byte_of, modrm_of}
@@ -149,10 +150,6 @@ disp_holds (disp.D32 value) e = e
 nothing_holds : holds_pattern [] ≡ false
 unfolding holds_pattern
 nothing_holds = refl
-
-byte_holds : (byte : ℕ) → holds_pattern (byte ∷ []) ≡ false
-unfolding holds_pattern
-byte_holds byte = or_from ((byte == 0x0F) && false) false (and_right (byte == 0x0F) false refl) refl
 
 sib_holds : (sib : Option ℕ) (rest : List ℕ) → is_sib_0f sib ≡ false → holds_pattern rest ≡ false → holds_pattern (option_to_list sib ++ rest) ≡ false
 sib_holds None rest other e = e

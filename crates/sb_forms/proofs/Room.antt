@@ -26,6 +26,7 @@ use Rattle.sb_forms.specs.Pieces.{is_sib_0f, exchanged}
 use Rattle.sb_forms.specs.Mains.{with_displacement}
 use Rattle.sb_forms.specs.Table.{Replacement, Keep, InPlace, Unmovable, moved, is_vmfunc, is_one_byte, is_modrm, is_add_esp_edx, begins_at_modrm, completes_pattern, nop, add_from_rm, has_memory, is_call, is_jump, jump_form, wide_constant_form, address_and_constant_form, address_form, constant_form, form_by, slot_form, slot_form_of, is_exchangeable, held_form, replacement, bytes_of, site_of, form_of}
 use Rattle.sb_forms.specs.Answers.{IsSmall, HasRoom}
+use Rattle.sb_scan.proofs.Places.{read_within}
 use Rattle.sb_forms.proofs.Held.{holds_at}
 use Rattle.sb_forms.proofs.Lengths.{spelling_length, exchanged_length}
 use Rattle.sb_forms.proofs.Operands.{bare_0f, modrm_is}
@@ -33,12 +34,9 @@ use Rattle.sb_forms.proofs.CleanForms.{IsHeld, behind_opcode, behind_holds}
 
 -- ---- an instruction that holds the pattern has five bytes
 
-within : (bytes : List ℕ) (place : ℕ) → 0 < get_or bytes place 0 → place < length bytes
-within bytes place some = let past : length bytes ≤ place → get_or bytes place 0 ≡ 0 = get_or_past bytes place 0 in grind arith
-
 few_at : (bytes : List ℕ) (place : ℕ) → length bytes ≤ 3 → HasPatternAt bytes place → (length bytes ≡ 3) × (get_or bytes 0 0 ≡ 0x0F)
-few_at bytes zero few stands = (omega (arith, few, within bytes 2 (omega (arith, stands.2))), stands.0)
-few_at bytes (suc place) few stands = absurd (omega (arith, few, within bytes (suc place + 2) (omega (arith, stands.2))))
+few_at bytes zero few stands = (omega (arith, few, read_within bytes 2 (omega (arith, stands.2))), stands.0)
+few_at bytes (suc place) few stands = absurd (omega (arith, few, read_within bytes (suc place + 2) (omega (arith, stands.2))))
 
 few : (bytes : List ℕ) → length bytes ≤ 3 → holds_pattern bytes ≡ true → (length bytes ≡ 3) × (get_or bytes 0 0 ≡ 0x0F)
 few bytes short e = let found = holds_at bytes e in few_at bytes found.0 short found.1
@@ -118,7 +116,7 @@ vmfunc_fields (Two opcode) lock rex modrm sib displacement immediate is e s d i 
 vmfunc_fields Endbr lock rex modrm sib displacement immediate is e s d i = absurd cc
 vmfunc_fields Vmfunc lock rex modrm sib displacement immediate is e s d i = omega (arith, vmfunc_alone lock rex modrm sib displacement immediate e s d i)
 
-vmfunc_3 : (insn : Insn) → IsValid insn → is_vmfunc insn.op ≡ true → length (spelling insn) ≡ 3
+pub vmfunc_3 : (insn : Insn) → IsValid insn → is_vmfunc insn.op ≡ true → length (spelling insn) ≡ 3
 vmfunc_3 insn valid is = omega (arith, spelling_length insn, vmfunc_fields insn.op insn.lock insn.rex insn.modrm insn.sib insn.disp insn.imm is valid.modrm valid.sib valid.disp valid.imm)
 
 -- what the fields of such an instruction come to
@@ -139,7 +137,7 @@ add_fields false None None disp.None (imm.I8 value) none e s d i = absurd cc
 add_fields false None None disp.None (imm.I32 value) none e s d i = absurd cc
 add_fields false None None disp.None (imm.I64 value) none e s d i = absurd cc
 
-one_byte_is : (opcode : ℕ) (op : Op) → is_one_byte opcode op ≡ true → op ≡ One opcode
+pub one_byte_is : (opcode : ℕ) (op : Op) → is_one_byte opcode op ≡ true → op ≡ One opcode
 one_byte_is opcode (One other) e = ap (λ (byte : ℕ). One byte) (sym (eqb-true opcode other e))
 one_byte_is opcode (Two other) e = absurd cc
 one_byte_is opcode Endbr e = absurd cc

@@ -28,14 +28,15 @@ use Rattle.sb_insn.proofs.Rows.{looked_up, every_extension, some_holds, extended
 use Rattle.sb_scan.specs.Pattern.{HasPatternAt}
 use Rattle.sb_forms.specs.Holding.{holds_pattern}
 use Rattle.sb_forms.specs.Table.{is_vmfunc, has_memory}
-use Rattle.sb_forms.specs.Places.{front, is_distance, is_relative, is_direct, HasForm, distance, IsPermitted, BehindOpcode, AtModrm, IsOrImul, NotInJumps}
-use Rattle.sb_forms.proofs.Held.{before, not_held, none_held}
+use Rattle.sb_insn.specs.Branch.{imm_value, is_distance, is_relative, is_direct}
+use Rattle.sb_forms.specs.Places.{front, HasForm, IsPermitted, BehindOpcode, AtModrm, IsOrImul, NotInJumps}
+use Rattle.sb_forms.proofs.Held.{before, not_held, none_held, byte_holds}
 use Rattle.sb_forms.proofs.Lowered.{IsInFour, in_four}
 use Rattle.sb_forms.proofs.Maps.{of_operand, narrow, is_narrow, is_bare, one_narrow, two_bare, bare_imm}
 use Rattle.sb_forms.proofs.Operands.{bare_0f}
 use Rattle.sb_forms.proofs.Fronts.{IsRex, IsOpcode, valid_rex, valid_op}
 use Rattle.sb_forms.proofs.QuietMains.{nothing_holds}
-use Rattle.sb_forms.proofs.CleanForms.{behind_opcode, byte_holds, imm_holds}
+use Rattle.sb_forms.proofs.CleanForms.{behind_opcode, imm_holds}
 
 -- ---- behind the opcode
 
@@ -279,7 +280,7 @@ near_holds next (negsuc n) low high fits (inr page) (inl four) = omega (arith, f
 near_holds next (negsuc n) low high fits (inr page) (inr four) = omega (arith, fits.sfits, page.0, page.1, four.2, low, high)
 
 distance_holds : (next : ℕ) (immediate : Imm) (rule : ImmRule) (rex : Option ℕ) → 0x400000 ≤ next → next ≤ 0x600010 → is_short rule ≡ true → kind_of_imm immediate ≡ imm_kind_of rule rex → FitsImm immediate
-    → IsPermitted ((next + distance immediate) % 2 ^ 64) → holds_pattern (imm_bytes immediate) ≡ false
+    → IsPermitted ((next + imm_value immediate) % 2 ^ 64) → holds_pattern (imm_bytes immediate) ≡ false
 distance_holds next imm.None rule rex low high is k fits permitted = nothing_holds
 distance_holds next (imm.I8 value) rule rex low high is k fits permitted = byte_holds (cast_unsigned w8 value % 256)
 distance_holds next (imm.I32 value) rule rex low high is k fits permitted =

@@ -1,4 +1,4 @@
-pub mod Holding
+pub use Rattle.sb_scan.specs.Holding
 pub mod Rex
 pub mod Registers
 pub mod Pieces
@@ -6,3 +6,6 @@ pub mod Mains
 pub mod Table
 pub mod Answers
 pub mod Places
+pub mod Borders
+pub mod Immediates
+pub mod Laws

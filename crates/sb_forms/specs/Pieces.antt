@@ -1,6 +1,7 @@
 -- The instructions that stand around a moved one. A helper register is saved in the scratch page, and loaded again.
 use Rattle.std.specs.Prelude.{ℕ, ◌+◌, ◌*◌, ◌/◌, ◌%◌, ◌^◌, Bool, false, ◌&&◌, ◌==◌, if◌then◌else◌, List, [], ◌∷◌, Option, Some, None, ℤ, pos, ◌-ℤ◌}
 use Rattle.std.specs.Int.{w32, w64, cast_signed, cast_unsigned}
+use Rattle.sb_abi.specs.declared.trampoline.TheConstants.{SCRATCH_ADDRESS}
 use Rattle.sb_insn.specs.declared.insn.Insn.{Insn}
 use Rattle.sb_insn.specs.declared.insn.Op.TheVariants.{One}
 use Rattle.sb_insn.specs.declared.insn.Disp.{Disp}
@@ -17,18 +18,18 @@ use Rattle.sb_forms.specs.Registers.{modrm_of, number_of}
 
 -- where the first helper is saved
 abbrev pub first_saved : ℤ
-first_saved = pos 0x70004000
+first_saved = pos SCRATCH_ADDRESS
 
 -- where the second helper is saved
 abbrev pub second_saved : ℤ
-second_saved = pos 0x70004008
+second_saved = pos (SCRATCH_ADDRESS + 8)
 
 -- a constant of eight bytes by halves, or where a jump leads
 abbrev pub scratch_word : ℤ
-scratch_word = pos 0x70004010
+scratch_word = pos (SCRATCH_ADDRESS + 16)
 
 abbrev pub upper_half : ℤ
-upper_half = pos 0x70004014
+upper_half = pos (SCRATCH_ADDRESS + 20)
 
 -- ---- shapes
 

@@ -1,16 +1,10 @@
 -- Where the bytes of VMFUNC can stand in an instruction.
 use Rattle.std.specs.Prelude.{◌≡◌, ℕ, ◌+◌, ◌%◌, ◌^◌, ◌<◌, ◌≤◌, ◌⊎◌, Bool, true, false, IsTrue, Option, Some, None, length, ◌∷◌, List}
-use Rattle.std.specs.Int.{w64, cast_unsigned}
 use Rattle.sb_insn.specs.declared.insn.Insn.{Insn}
 use Rattle.sb_insn.specs.declared.insn.Op.TheVariants.{One, Vmfunc}
-use Rattle.sb_insn.specs.declared.insn.Imm.{Imm}
-use Rattle.sb_insn.specs.declared.insn.Imm.TheVariants as imm
-use Rattle.sb_insn.specs.declared.opcode_map.OperandForm.{OperandForm}
-use Rattle.sb_insn.specs.declared.opcode_map.OperandForm.TheVariants.{Relative}
-use Rattle.sb_insn.specs.declared.opcode_map.Instruction.{Instruction}
 use Rattle.sb_insn.specs.Spelling.{front_bytes, imm_bytes, spelling}
 use Rattle.sb_insn.specs.Grammar.{IsValid}
-use Rattle.sb_insn.specs.Listing.{instruction_of}
+pub use Rattle.sb_insn.specs.Branch.{imm_value as distance, is_distance, is_relative, is_direct}
 use Rattle.sb_scan.specs.Pattern.{HasPatternAt, HasNoPattern}
 
 -- the bytes before ModRM: LOCK, REX and the opcode
@@ -31,32 +25,13 @@ AtModrm =
     (insn : Insn) (modrm : ℕ) → IsValid insn → insn.modrm ≡ Some modrm → HasPatternAt (spelling insn) (length (front insn))
     → (modrm ≡ 0x0F) × IsOrImul insn × ((behind : List ℕ) × (imm_bytes insn.imm ≡ 0x01 ∷ 0xD4 ∷ behind))
 
--- the operand is a distance from the next instruction
-abbrev pub is_distance : OperandForm → Bool
-is_distance Relative = true
-is_distance _ = false
-
-abbrev pub is_relative : Option Instruction → Bool
-is_relative None = false
-is_relative (Some instruction) = is_distance instruction.form
-
 -- JMP, Jcc or CALL with a distance
-abbrev pub is_direct : Insn → Bool
-is_direct insn = is_relative (instruction_of insn)
-
 abbrev pub IsDirect : Insn → Type 0
 IsDirect insn = IsTrue (is_direct insn)
 
 -- it is no direct jump or call that holds the bytes of VMFUNC
 abbrev pub HasForm : Insn → Type 0
 HasForm insn = IsDirect insn → HasNoPattern (spelling insn)
-
--- the distance, extended by its sign to 64 bits
-abbrev pub distance : Imm → ℕ
-distance imm.None = 0
-distance (imm.I8 value) = cast_unsigned w64 value
-distance (imm.I32 value) = cast_unsigned w64 value
-distance (imm.I64 value) = cast_unsigned w64 value
 
 -- where a direct jump at an address leads
 abbrev pub target : Insn → ℕ → ℕ

@@ -4,8 +4,8 @@ use Rattle.sb_insn.specs.declared.insn.Insn.{Insn}
 use Rattle.sb_insn.specs.declared.insn.Op.{Op}
 use Rattle.sb_insn.specs.declared.insn.Op.TheVariants.{One}
 use Rattle.sb_insn.specs.declared.opcode_map.OperandForm.{OperandForm}
-use Rattle.sb_insn.specs.declared.opcode_map.OperandForm.TheVariants.{RmReg, RegRm, RegRmImm, OpcodeImm, Opcode, RmCl}
-use Rattle.sb_insn.specs.Fields.{reg_field, rm_field}
+use Rattle.sb_insn.specs.declared.opcode_map.OperandForm.TheVariants.{RmReg, RegRm, RmImm, AccImm, OpcodeImm, RegRmImm, RmCount, RmCl, Rm, Opcode, Imm, Relative, Nothing}
+use Rattle.sb_insn.specs.Fields.{reg_field, rm_field, index, base}
 use Rattle.sb_forms.specs.declared.helper.Helper.{Helper}
 use Rattle.sb_forms.specs.declared.helper.Helper.TheVariants.{Rcx, Rdx, Rbx, Rsi, Rdi}
 use Rattle.sb_forms.specs.Rex.{rex_r, rex_x, rex_b}
@@ -48,11 +48,11 @@ rm_number (Some modrm) rex = Some (register (rm_field modrm) (rex_b rex))
 
 abbrev pub base_number : Option ℕ → Option ℕ → Option ℕ
 base_number None rex = None
-base_number (Some sib) rex = Some (register (sib % 8) (rex_b rex))
+base_number (Some sib) rex = Some (register (base sib) (rex_b rex))
 
 abbrev pub index_number : Option ℕ → Option ℕ → Option ℕ
 index_number None rex = None
-index_number (Some sib) rex = Some (register (sib / 8 % 8) (rex_x rex))
+index_number (Some sib) rex = Some (register (index sib) (rex_x rex))
 
 -- The register that the operands name beside rm: reg, the register in the opcode, or CL. A reg field that extends the
 -- opcode names none.
@@ -63,7 +63,13 @@ form_number RegRmImm insn = Some (reg_number insn)
 form_number OpcodeImm insn = Some (opcode_number insn)
 form_number Opcode insn = Some (opcode_number insn)
 form_number RmCl insn = Some 1
-form_number _ insn = None
+form_number RmImm insn = None
+form_number AccImm insn = None
+form_number RmCount insn = None
+form_number Rm insn = None
+form_number Imm insn = None
+form_number Relative insn = None
+form_number Nothing insn = None
 
 -- The instruction names the register. Where rm, base or index names none, its number is 4, 5, 12 or 13, which no helper
 -- has.

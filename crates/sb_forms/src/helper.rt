@@ -3,8 +3,7 @@
 ghost use Rattle.std.specs.Prelude.{◌≡◌, ◌≤◌};
 ghost use Rattle.sb_forms.specs.Registers.{register, modrm_of as modrm_at, opcode_of as opcode_at, reg_number, opcode_number, is_number, rm_number, base_number, index_number, form_number, is_named, number_of, is_taken, is_free, first_free, first_helper as first_at, second_helper as second_at};
 
-use crate::rex::{rex_b, rex_r, rex_x};
-use sb_insn::{Insn, Op, OperandForm};
+use sb_insn::{Insn, Op, OperandForm, base, index, reg_field, rex_b, rex_r, rex_x, rm_field};
 
 /// A register that may help, in the order in which they are tried.
 #[derive(Clone, Copy, Debug, PartialEq, Eq)]
@@ -76,21 +75,21 @@ fn register(field: u8, extension: u8) -> u8
 fn rm_number(insn: &Insn) -> Option<u8>
     ensures { result ≡ rm_number insn.now.modrm insn.now.rex }
 {
-    Some(register(insn.modrm? % 8, rex_b(insn.rex)))
+    Some(register(rm_field(insn.modrm?), rex_b(insn.rex)))
 }
 
 /// The register that the base of SIB names, if an SIB byte stands.
 fn base_number(insn: &Insn) -> Option<u8>
     ensures { result ≡ base_number insn.now.sib insn.now.rex }
 {
-    Some(register(insn.sib? % 8, rex_b(insn.rex)))
+    Some(register(base(insn.sib?), rex_b(insn.rex)))
 }
 
 /// The register that the index of SIB names, if an SIB byte stands.
 fn index_number(insn: &Insn) -> Option<u8>
     ensures { result ≡ index_number insn.now.sib insn.now.rex }
 {
-    Some(register(insn.sib? / 8 % 8, rex_x(insn.rex)))
+    Some(register(index(insn.sib?), rex_x(insn.rex)))
 }
 
 /// The register that the operands name beside rm: reg, the one in the opcode, or CL.
@@ -99,13 +98,19 @@ fn form_number(form: OperandForm, insn: &Insn) -> Option<u8>
 {
     match form {
         OperandForm::RmReg | OperandForm::RegRm | OperandForm::RegRmImm => {
-            Some(register(modrm_of(insn) / 8 % 8, rex_r(insn.rex)))
+            Some(register(reg_field(modrm_of(insn)), rex_r(insn.rex)))
         }
         OperandForm::OpcodeImm | OperandForm::Opcode => {
             Some(register(opcode_of(insn.op) % 8, rex_b(insn.rex)))
         }
-        OperandForm::RmCl => Some(1),
-        _ => None,
+        OperandForm::RmCl => Some(Helper::Rcx.number()),
+        OperandForm::RmImm
+        | OperandForm::AccImm
+        | OperandForm::RmCount
+        | OperandForm::Rm
+        | OperandForm::Imm
+        | OperandForm::Relative
+        | OperandForm::Nothing => None,
     }
 }
 

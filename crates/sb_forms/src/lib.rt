@@ -17,6 +17,7 @@
 mod answer;
 mod code;
 mod helper;
+mod laws;
 mod mains;
 mod pattern;
 mod pieces;
@@ -28,5 +29,6 @@ mod table;
 pub use answer::Form;
 pub use code::Code;
 pub use helper::Helper;
-pub use places::{has_form, pattern_places};
+pub use laws::{across_borders, forms_small, free_helpers, pattern_places, wide_immediates};
+pub use places::form_applies;
 pub use table::form;

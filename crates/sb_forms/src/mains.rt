@@ -9,8 +9,8 @@ ghost use Rattle.sb_forms.specs.Table.{spelled};
 use crate::code::Code;
 use crate::helper::{Helper, modrm_of, opcode_of};
 use crate::pieces::{SCRATCH_WORD, opcode_alone, wide, wide_at_address};
-use crate::rex::{rex_b, rex_r, with_r_b};
-use sb_insn::{Disp, Imm, Insn, Mnemonic, Op, OperandForm};
+use crate::rex::with_r_b;
+use sb_insn::{Disp, Imm, Insn, Mnemonic, Op, OperandForm, reg_field, rex_b, rex_r, rm_field};
 
 /// A displacement of one byte 00.
 const ZERO: Disp = Disp::D8(0);
@@ -58,8 +58,18 @@ fn own_register(form: OperandForm, insn: &Insn) -> RmOperand
             disp: Disp::None,
             rex_b: rex_b(insn.rex),
         },
-        _ => RmOperand {
-            mod_rm: 0xC0 + modrm_of(insn) % 8,
+        OperandForm::RmReg
+        | OperandForm::RegRm
+        | OperandForm::RmImm
+        | OperandForm::RegRmImm
+        | OperandForm::RmCount
+        | OperandForm::RmCl
+        | OperandForm::Rm
+        | OperandForm::Opcode
+        | OperandForm::Imm
+        | OperandForm::Relative
+        | OperandForm::Nothing => RmOperand {
+            mod_rm: 0xC0 + rm_field(modrm_of(insn)),
             disp: Disp::None,
             rex_b: rex_b(insn.rex),
         },
@@ -89,7 +99,7 @@ pub fn with_helper(helper: Helper, insn: &Insn) -> Insn
     let operand = at_helper(helper);
     Insn {
         rex: with_r_b(insn.rex, rex_r(insn.rex), 0),
-        modrm: Some(operand.mod_rm + 8 * (modrm_of(insn) / 8 % 8)),
+        modrm: Some(operand.mod_rm + 8 * reg_field(modrm_of(insn))),
         sib: None,
         disp: operand.disp,
         ..*insn
@@ -109,7 +119,31 @@ fn register_op(mnemonic: Mnemonic) -> Op
         Mnemonic::Cmp => Op::One(0x39),
         Mnemonic::Test => Op::One(0x85),
         Mnemonic::Imul => Op::Two(0xAF),
-        _ => Op::One(0x89),
+        Mnemonic::Mov
+        | Mnemonic::Movzx
+        | Mnemonic::Lea
+        | Mnemonic::Not
+        | Mnemonic::Neg
+        | Mnemonic::Shl
+        | Mnemonic::Shr
+        | Mnemonic::Sar
+        | Mnemonic::Inc
+        | Mnemonic::Dec
+        | Mnemonic::Push
+        | Mnemonic::Pop
+        | Mnemonic::Jmp
+        | Mnemonic::Jcc
+        | Mnemonic::Call
+        | Mnemonic::Ret
+        | Mnemonic::Xchg
+        | Mnemonic::Cmpxchg
+        | Mnemonic::Xadd
+        | Mnemonic::Bsf
+        | Mnemonic::Nop
+        | Mnemonic::Endbr64
+        | Mnemonic::Syscall
+        | Mnemonic::Ud2
+        | Mnemonic::Vmfunc => Op::One(0x89),
     }
 }
 
@@ -158,7 +192,38 @@ pub fn on_register(mnemonic: Mnemonic, form: OperandForm, insn: &Insn, helper: H
 {
     match mnemonic {
         Mnemonic::Push => opcode_alone(0x50 + helper.number()),
-        _ => on_own_register(mnemonic, form, insn, helper),
+        Mnemonic::Add
+        | Mnemonic::Or
+        | Mnemonic::And
+        | Mnemonic::Sub
+        | Mnemonic::Xor
+        | Mnemonic::Cmp
+        | Mnemonic::Test
+        | Mnemonic::Mov
+        | Mnemonic::Movzx
+        | Mnemonic::Lea
+        | Mnemonic::Imul
+        | Mnemonic::Not
+        | Mnemonic::Neg
+        | Mnemonic::Shl
+        | Mnemonic::Shr
+        | Mnemonic::Sar
+        | Mnemonic::Inc
+        | Mnemonic::Dec
+        | Mnemonic::Pop
+        | Mnemonic::Jmp
+        | Mnemonic::Jcc
+        | Mnemonic::Call
+        | Mnemonic::Ret
+        | Mnemonic::Xchg
+        | Mnemonic::Cmpxchg
+        | Mnemonic::Xadd
+        | Mnemonic::Bsf
+        | Mnemonic::Nop
+        | Mnemonic::Endbr64
+        | Mnemonic::Syscall
+        | Mnemonic::Ud2
+        | Mnemonic::Vmfunc => on_own_register(mnemonic, form, insn, helper),
     }
 }
 
@@ -170,7 +235,7 @@ fn move_product(insn: &Insn, helper: Helper) -> Insn
 {
     Insn {
         rex: with_r_b(insn.rex, 0, rex_r(insn.rex)),
-        modrm: Some(0xC0 + 8 * helper.number() + modrm_of(insn) / 8 % 8),
+        modrm: Some(0xC0 + 8 * helper.number() + reg_field(modrm_of(insn))),
         ..opcode_alone(0x89)
     }
 }
@@ -183,7 +248,38 @@ pub fn behind(mnemonic: Mnemonic, insn: &Insn, helper: Helper) -> Code
 {
     match mnemonic {
         Mnemonic::Imul => Code::of(&move_product(insn, helper)),
-        _ => Code::new(),
+        Mnemonic::Add
+        | Mnemonic::Or
+        | Mnemonic::And
+        | Mnemonic::Sub
+        | Mnemonic::Xor
+        | Mnemonic::Cmp
+        | Mnemonic::Test
+        | Mnemonic::Mov
+        | Mnemonic::Movzx
+        | Mnemonic::Lea
+        | Mnemonic::Not
+        | Mnemonic::Neg
+        | Mnemonic::Shl
+        | Mnemonic::Shr
+        | Mnemonic::Sar
+        | Mnemonic::Inc
+        | Mnemonic::Dec
+        | Mnemonic::Push
+        | Mnemonic::Pop
+        | Mnemonic::Jmp
+        | Mnemonic::Jcc
+        | Mnemonic::Call
+        | Mnemonic::Ret
+        | Mnemonic::Xchg
+        | Mnemonic::Cmpxchg
+        | Mnemonic::Xadd
+        | Mnemonic::Bsf
+        | Mnemonic::Nop
+        | Mnemonic::Endbr64
+        | Mnemonic::Syscall
+        | Mnemonic::Ud2
+        | Mnemonic::Vmfunc => Code::new(),
     }
 }
 

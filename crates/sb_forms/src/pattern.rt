@@ -10,7 +10,7 @@ use sb_insn::Insn;
 use sb_scan::find_pattern;
 
 /// Whether the bytes of VMFUNC stand somewhere in these.
-#[tactic(auto, using(crate::proofs::Held::found_holds))]
+#[tactic(auto, using(sb_scan::proofs::Held::found_holds))]
 pub fn holds_pattern(bytes: &[u8]) -> bool
     ensures { result ≡ holds_pattern bytes.now }
 {

@@ -9,17 +9,21 @@ ghost use Rattle.sb_forms.specs.Table.{spelled};
 use crate::code::Code;
 use crate::helper::{Helper, modrm_of};
 use crate::pattern::number_holds_pattern;
-use crate::rex::{rex_b, rex_x, with_x_b_exchanged};
-use sb_insn::{Disp, Imm, Insn, Op};
+use crate::rex::with_x_b_exchanged;
+use sb_abi::SCRATCH_ADDRESS;
+use sb_insn::{Disp, Imm, Insn, Op, mod_field, rex_b, rex_x, rm_field};
 
-/// Where a slot saves its first helper: a word of the scratch page (docs/FORMS.md).
-pub const FIRST_SAVED: i32 = 0x7000_4000;
+/// Where a slot saves its first helper: the first word of the scratch page (docs/FORMS.md).
+pub const FIRST_SAVED: i32 = SCRATCH_ADDRESS as i32;
+
 /// Where a slot saves its second helper.
-pub const SECOND_SAVED: i32 = 0x7000_4008;
+pub const SECOND_SAVED: i32 = FIRST_SAVED + 8;
+
 /// A constant of eight bytes by halves, or where a jump leads.
-pub const SCRATCH_WORD: i32 = 0x7000_4010;
+pub const SCRATCH_WORD: i32 = FIRST_SAVED + 16;
+
 /// The upper half of that word.
-pub const UPPER_HALF: i32 = 0x7000_4014;
+pub const UPPER_HALF: i32 = SCRATCH_WORD + 4;
 
 /// What a number is lowered by that would hold the bytes of VMFUNC: it changes the byte 01, or 0F where that comes second.
 const STEP: i32 = 0x100;
@@ -235,7 +239,7 @@ fn without_sib_0f(insn: &Insn) -> Insn
 fn is_from_next(modrm: u8) -> bool
     ensures { result ≡ is_from_next_at modrm }
 {
-    modrm / 64 == 0 && modrm % 8 == 5
+    mod_field(modrm) == 0 && rm_field(modrm) == 5
 }
 
 /// `lea helper, [operand]`, with this displacement.
@@ -249,7 +253,10 @@ fn load_address(helper: Helper, insn: &Insn, disp: Disp) -> Insn
         rex: Some(0x48 + 2 * rex_x(insn.rex) + rex_b(insn.rex)),
         sib: insn.sib,
         disp,
-        ..wide(0x8D, 64 * (modrm / 64) + 8 * helper.number() + modrm % 8)
+        ..wide(
+            0x8D,
+            64 * mod_field(modrm) + 8 * helper.number() + rm_field(modrm),
+        )
     }
 }
 

@@ -1,40 +1,9 @@
-//! The bits of a REX prefix (SDM volume 2, section 2.2.1).
+//! REX prefixes with other bits (SDM volume 2, section 2.2.1).
 
 ghost use Rattle.std.specs.Prelude.{◌≡◌, ◌≤◌};
-ghost use Rattle.sb_forms.specs.Rex.{rex_r, rex_x, rex_b, rex_byte, with_r_b, with_x_b_exchanged};
+ghost use Rattle.sb_forms.specs.Rex.{rex_byte, with_r_b, with_x_b_exchanged};
 
-/// REX.R, which extends reg; 0 without a prefix.
-pub fn rex_r(rex: Option<u8>) -> u8
-    ensures value { result ≡ rex_r rex }
-    ensures bit { result ≤ 1 }
-{
-    match rex {
-        None => 0,
-        Some(rex) => rex / 4 % 2,
-    }
-}
-
-/// REX.X, which extends the index of SIB; 0 without a prefix.
-pub fn rex_x(rex: Option<u8>) -> u8
-    ensures value { result ≡ rex_x rex }
-    ensures bit { result ≤ 1 }
-{
-    match rex {
-        None => 0,
-        Some(rex) => rex / 2 % 2,
-    }
-}
-
-/// REX.B, which extends rm, the base of SIB and the register in the opcode; 0 without a prefix.
-pub fn rex_b(rex: Option<u8>) -> u8
-    ensures value { result ≡ rex_b rex }
-    ensures bit { result ≤ 1 }
-{
-    match rex {
-        None => 0,
-        Some(rex) => rex % 2,
-    }
-}
+use sb_insn::{rex_b, rex_r, rex_w, rex_x};
 
 /// A REX byte with the W of another.
 fn rex_byte(rex: u8, r: u8, x: u8, b: u8) -> u8
@@ -43,7 +12,7 @@ fn rex_byte(rex: u8, r: u8, x: u8, b: u8) -> u8
     requires b { b ≤ 1 }
     ensures { result ≡ rex_byte rex r x b }
 {
-    0x40 + 8 * (rex / 8 % 2) + 4 * r + 2 * x + b
+    0x40 + 8 * rex_w(Some(rex)) + 4 * r + 2 * x + b
 }
 
 /// A prefix where one stands, with its W and these R and B; X is clear.

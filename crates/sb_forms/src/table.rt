@@ -17,7 +17,7 @@ use crate::slots::{
     Site, address_and_constant_slot, address_slot, constant_slot, displaced, jump_slot,
     wide_constant_slot,
 };
-use sb_insn::{Imm, Insn, Instruction, Mnemonic, Op, instruction_of};
+use sb_insn::{Imm, Insn, Instruction, Mnemonic, Op, instruction_of, mod_field};
 
 /// Whether it is VMFUNC.
 fn is_vmfunc(op: Op) -> bool
@@ -66,7 +66,7 @@ fn has_memory(modrm: Option<u8>) -> bool
 {
     match modrm {
         None => false,
-        Some(modrm) => modrm / 64 != 3,
+        Some(modrm) => mod_field(modrm) != 3,
     }
 }
 
@@ -226,7 +226,7 @@ fn site_of(insn: &Insn, at: u64, slot: u64) -> Site
 ///
 /// The instruction stands at `at` in a text, `slot` is where its slot would stand in the rewrite area, and `after_0f` says
 /// whether the byte before it in the text is 0F. The answer is the first case of the table that applies (docs/FORMS.md).
-/// Direct jumps and calls that hold the bytes of VMFUNC have no form (`has_form`).
+/// Direct jumps and calls that hold the bytes of VMFUNC have no form (`form_applies`).
 #[tactic(auto, unfolding(crate::specs::Table::form_of), using(crate::proofs::Room::form_roomy))]
 pub fn form(insn: &Insn, at: u64, slot: u64, after_0f: bool) -> Form
     requires valid { IsValid insn.now }

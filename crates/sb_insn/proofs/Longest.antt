@@ -1,5 +1,6 @@
 -- The longest instruction has 13 bytes.
 use Rattle.std.proofs.Common.{◌≡◌, ℕ, ◌+◌, ◌≤◌, Bool, true, false, ◌&&◌, ◌++◌, length, Option, Some, None, refl, arith, length-append}
+use Rattle.std.proofs.lemmas.Bool.{and_parts}
 use Rattle.std.specs.Option.{option_to_list}
 use Rattle.sb_insn.specs.declared.insn.Insn.{Insn}
 use Rattle.sb_insn.specs.declared.insn.Op.{Op}
@@ -19,7 +20,7 @@ use Rattle.sb_insn.specs.declared.opcode_map.OperandForm.{OperandForm}
 use Rattle.sb_insn.specs.declared.opcode_map.Operand.{Operand}
 use Rattle.sb_insn.specs.OpcodeMap.{one_byte, one_byte_rows, two_byte, two_byte_rows, cell_of}
 use Rattle.sb_insn.specs.Groups.{extended_by, extensions, group_operand, operand_of}
-use Rattle.sb_insn.proofs.Rows.{and_parts, looked_up, every_extension, some_holds, extended}
+use Rattle.sb_insn.proofs.Rows.{looked_up, every_extension, some_holds, extended}
 use Rattle.sb_insn.specs.Spelling.{lock_bytes, op_bytes, disp_bytes, imm_bytes, front_bytes, spelling}
 use Rattle.sb_insn.specs.Fields.{kind_of_imm, kind_of_disp, imm_kind_of, rule_of, disp_kind_of, is_sib_field, is_modrm_field, operand_rule, reg_field}
 use Rattle.sb_insn.specs.Grammar.{IsValid}
@@ -145,7 +146,8 @@ one_lock : (lock : Bool) → length (lock_bytes lock) ≤ 1
 one_lock true = omega arith
 one_lock false = omega arith
 
-one_field : (field : Option ℕ) → length (option_to_list field) ≤ 1
+-- a field of one byte has one byte at most
+pub one_field : (field : Option ℕ) → length (option_to_list field) ≤ 1
 one_field None = omega arith
 one_field (Some byte) = omega arith
 

@@ -1,15 +1,12 @@
 -- What holds of each row of a map, or of a group, holds of what is looked up there.
 use Rattle.std.proofs.Common.{◌≡◌, ℕ, Bool, true, false, cond, ◌&&◌, List, [], ◌∷◌, Option, Some, None, refl}
+use Rattle.std.proofs.lemmas.Bool.{and_parts}
 use Rattle.std.specs.Prelude.{◌==◌}
 use Rattle.sb_insn.specs.declared.opcode_map.Operand.{Operand}
 use Rattle.sb_insn.specs.declared.opcode_map.Cell.{Cell}
 use Rattle.sb_insn.specs.declared.opcode_map.Cell.TheVariants.{Absent}
 use Rattle.sb_insn.specs.OpcodeMap.{Row, is_of, look_up}
 use Rattle.sb_insn.specs.Groups.{Extension, extended_by}
-
-pub and_parts : (a b : Bool) → (a && b) ≡ true → (a ≡ true) × (b ≡ true)
-and_parts true b e = (refl, e)
-and_parts false b e = absurd cc
 
 -- ---- maps
 

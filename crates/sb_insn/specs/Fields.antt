@@ -37,10 +37,31 @@ abbrev pub permits_rex : RexRule → Option ℕ → Bool
 permits_rex rex_rule.Permitted rex = true
 permits_rex rex_rule.Refused rex = is_none rex
 
--- REX.W
+-- The bits of a REX prefix: W, R, X and B from bit 3 down (SDM volume 2, section 2.2.1). Without a prefix they are 0.
+
+-- the operands are 64 bits wide
+abbrev pub rex_w : Option ℕ → ℕ
+rex_w None = 0
+rex_w (Some rex) = rex / 8 % 2
+
+-- reg is extended
+abbrev pub rex_r : Option ℕ → ℕ
+rex_r None = 0
+rex_r (Some rex) = rex / 4 % 2
+
+-- the index of SIB is extended
+abbrev pub rex_x : Option ℕ → ℕ
+rex_x None = 0
+rex_x (Some rex) = rex / 2 % 2
+
+-- rm, the base of SIB or the register of the opcode is extended
+abbrev pub rex_b : Option ℕ → ℕ
+rex_b None = 0
+rex_b (Some rex) = rex % 2
+
+-- REX.W is set
 abbrev pub is_wide : Option ℕ → Bool
-is_wide None = false
-is_wide (Some rex) = rex / 8 % 2 == 1
+is_wide rex = rex_w rex == 1
 
 -- ---- ModRM: mod, reg and rm
 
@@ -90,6 +111,15 @@ is_modrm_field cell lock rex (Some modrm) = some_permits (operand_of cell (reg_f
 
 -- ---- SIB and the displacement
 
+abbrev pub scale : ℕ → ℕ
+scale sib = sib / 64
+
+abbrev pub index : ℕ → ℕ
+index sib = sib / 8 % 8
+
+abbrev pub base : ℕ → ℕ
+base sib = sib % 8
+
 unfoldable pub has_sib : ℕ → Bool
 has_sib modrm = not (is_register modrm) && (rm_field modrm == 4)
 
@@ -101,14 +131,14 @@ abbrev pub is_sib_field : Option ℕ → Option ℕ → Bool
 is_sib_field modrm None = not (wants_sib modrm)
 is_sib_field modrm (Some sib) = wants_sib modrm
 
--- base 5 where mod is 0: no base register
-abbrev pub has_no_base : Option ℕ → Bool
-has_no_base None = false
-has_no_base (Some sib) = sib % 8 == 5
+-- an SIB byte stands whose base is 5, which names no register where mod is 0
+abbrev pub base_field_is_5 : Option ℕ → Bool
+base_field_is_5 None = false
+base_field_is_5 (Some sib) = base sib == 5
 
 unfoldable pub modrm_disp : ℕ → Option ℕ → DispKind
 modrm_disp modrm sib =
-    if mod_field modrm == 0 then (if (rm_field modrm == 5) || has_no_base sib then disp_kind.D32 else disp_kind.None)
+    if mod_field modrm == 0 then (if (rm_field modrm == 5) || base_field_is_5 sib then disp_kind.D32 else disp_kind.None)
     else if mod_field modrm == 1 then disp_kind.D8
     else if mod_field modrm == 2 then disp_kind.D32
     else disp_kind.None

@@ -1,11 +1,147 @@
-//! What each field says of the fields behind it.
+//! The fields of the REX, ModRM and SIB bytes, and what each field of an instruction says of those after it.
 
-ghost use Rattle.std.specs.Prelude.{◌≡◌};
-ghost use Rattle.sb_insn.specs.Fields.{is_none, is_rex, permits_rex, permits_rm, permits, is_register, needs_rex, stands_alone, is_modrm_field, has_sib, wants_sib, has_no_base, modrm_disp, disp_kind_of, rule_of, is_wide, imm_kind_of};
+ghost use Rattle.std.specs.Prelude.{◌≡◌, ◌<◌, ◌≤◌};
+ghost use Rattle.sb_insn.specs.Fields.{
+  rex_w,
+  rex_r,
+  rex_x,
+  rex_b,
+  mod_field,
+  reg_field,
+  rm_field,
+  scale,
+  index,
+  base,
+  is_none,
+  is_rex,
+  permits_rex,
+  permits_rm,
+  permits,
+  is_register,
+  needs_rex,
+  stands_alone,
+  is_modrm_field,
+  has_sib,
+  wants_sib,
+  base_field_is_5,
+  modrm_disp,
+  disp_kind_of,
+  rule_of,
+  is_wide,
+  imm_kind_of,
+};
 
 use crate::insn::{Disp, DispKind, Imm, ImmKind};
 use crate::opcode_map::{Cell, ImmRule, Operand, RexRule, RmRule};
 use crate::opcodes::operand_of;
+
+// ---- REX (SDM volume 2, section 2.2.1)
+
+/// REX.W, which makes the operands 64 bits wide: 0 or 1, and 0 without a prefix.
+#[inline(always)]
+pub fn rex_w(rex: Option<u8>) -> u8
+    ensures value { result ≡ rex_w rex }
+    ensures bit { result ≤ 1 }
+{
+    match rex {
+        None => 0,
+        Some(rex) => rex / 8 % 2,
+    }
+}
+
+/// REX.R, which extends reg: 0 or 1, and 0 without a prefix.
+#[inline(always)]
+pub fn rex_r(rex: Option<u8>) -> u8
+    ensures value { result ≡ rex_r rex }
+    ensures bit { result ≤ 1 }
+{
+    match rex {
+        None => 0,
+        Some(rex) => rex / 4 % 2,
+    }
+}
+
+/// REX.X, which extends the index of SIB: 0 or 1, and 0 without a prefix.
+#[inline(always)]
+pub fn rex_x(rex: Option<u8>) -> u8
+    ensures value { result ≡ rex_x rex }
+    ensures bit { result ≤ 1 }
+{
+    match rex {
+        None => 0,
+        Some(rex) => rex / 2 % 2,
+    }
+}
+
+/// REX.B, which extends rm, the base of SIB or the register in the opcode: 0 or 1, and 0 without a prefix.
+#[inline(always)]
+pub fn rex_b(rex: Option<u8>) -> u8
+    ensures value { result ≡ rex_b rex }
+    ensures bit { result ≤ 1 }
+{
+    match rex {
+        None => 0,
+        Some(rex) => rex % 2,
+    }
+}
+
+// ---- ModRM and SIB (SDM volume 2, section 2.1.3)
+
+/// mod, the two highest bits of a ModRM byte: 3 where rm names a register.
+#[inline(always)]
+pub fn mod_field(modrm: u8) -> u8
+    ensures value { result ≡ mod_field modrm }
+    ensures range { result < 4 }
+{
+    modrm / 64
+}
+
+/// reg, the three bits in the middle of a ModRM byte: a register, or more of the opcode.
+#[inline(always)]
+pub fn reg_field(modrm: u8) -> u8
+    ensures value { result ≡ reg_field modrm }
+    ensures range { result < 8 }
+{
+    modrm / 8 % 8
+}
+
+/// rm, the three lowest bits of a ModRM byte.
+#[inline(always)]
+pub fn rm_field(modrm: u8) -> u8
+    ensures value { result ≡ rm_field modrm }
+    ensures range { result < 8 }
+{
+    modrm % 8
+}
+
+/// scale, the two highest bits of an SIB byte: the index counts 1, 2, 4 or 8 times.
+#[inline(always)]
+pub fn scale(sib: u8) -> u8
+    ensures value { result ≡ scale sib }
+    ensures range { result < 4 }
+{
+    sib / 64
+}
+
+/// index, the three bits in the middle of an SIB byte.
+#[inline(always)]
+pub fn index(sib: u8) -> u8
+    ensures value { result ≡ index sib }
+    ensures range { result < 8 }
+{
+    sib / 8 % 8
+}
+
+/// base, the three lowest bits of an SIB byte.
+#[inline(always)]
+pub fn base(sib: u8) -> u8
+    ensures value { result ≡ base sib }
+    ensures range { result < 8 }
+{
+    sib % 8
+}
+
+// ---- which fields stand after which
 
 /// Whether the byte is a REX prefix: 40 to 4F.
 #[inline(always)]
@@ -20,7 +156,7 @@ pub fn is_rex(byte: u8) -> bool
 fn is_register(modrm: u8) -> bool
     ensures { result ≡ is_register modrm }
 {
-    modrm / 64 == 3
+    mod_field(modrm) == 3
 }
 
 /// Whether a byte register is named that only a REX byte gives: without one, 4 to 7 are AH, CH, DH and BH.
@@ -28,8 +164,8 @@ fn is_register(modrm: u8) -> bool
 fn needs_rex(operand: &Operand, modrm: u8) -> bool
     ensures { result ≡ needs_rex operand.now modrm }
 {
-    (operand.byte_reg && modrm / 8 % 8 >= 4)
-        || (operand.byte_rm && (is_register(modrm) && modrm % 8 >= 4))
+    (operand.byte_reg && reg_field(modrm) >= 4)
+        || (operand.byte_rm && (is_register(modrm) && rm_field(modrm) >= 4))
 }
 
 /// Whether this REX field may stand before an opcode without ModRM byte.
@@ -69,7 +205,7 @@ fn permits(operand: &Operand, lock: bool, rex: Option<u8>, modrm: u8) -> bool
 pub fn permits_modrm(cell: Cell, lock: bool, rex: Option<u8>, modrm: u8) -> bool
     ensures { result ≡ is_modrm_field cell lock rex (Some modrm) }
 {
-    match operand_of(cell, modrm / 8 % 8) {
+    match operand_of(cell, reg_field(modrm)) {
         None => false,
         Some(operand) => permits(&operand, lock, rex, modrm),
     }
@@ -92,7 +228,7 @@ pub fn stands_alone(cell: Cell, lock: bool, rex: Option<u8>) -> bool
 fn has_sib(modrm: u8) -> bool
     ensures { result ≡ has_sib modrm }
 {
-    !is_register(modrm) && modrm % 8 == 4
+    !is_register(modrm) && rm_field(modrm) == 4
 }
 
 /// Whether an SIB byte stands behind this ModRM field.
@@ -106,14 +242,14 @@ pub fn wants_sib(modrm: Option<u8>) -> bool
     }
 }
 
-/// Whether the SIB byte names no base register where mod is 0: base is 5.
+/// Whether an SIB byte stands whose base is 5, which names no register where mod is 0.
 #[inline(always)]
-fn has_no_base(sib: Option<u8>) -> bool
-    ensures { result ≡ has_no_base sib }
+fn base_field_is_5(sib: Option<u8>) -> bool
+    ensures { result ≡ base_field_is_5 sib }
 {
     match sib {
         None => false,
-        Some(sib) => sib % 8 == 5,
+        Some(sib) => base(sib) == 5,
     }
 }
 
@@ -123,9 +259,9 @@ fn has_no_base(sib: Option<u8>) -> bool
 fn modrm_disp(modrm: u8, sib: Option<u8>) -> DispKind
     ensures { result ≡ modrm_disp modrm sib }
 {
-    match modrm / 64 {
+    match mod_field(modrm) {
         0 => {
-            if modrm % 8 == 5 || has_no_base(sib) {
+            if rm_field(modrm) == 5 || base_field_is_5(sib) {
                 DispKind::D32
             } else {
                 DispKind::None
@@ -158,7 +294,7 @@ fn rule_of(cell: Cell, modrm: Option<u8>) -> ImmRule
             Cell::Plain(plain) => plain.imm,
             _ => ImmRule::None,
         },
-        Some(modrm) => match operand_of(cell, modrm / 8 % 8) {
+        Some(modrm) => match operand_of(cell, reg_field(modrm)) {
             None => ImmRule::None,
             Some(operand) => operand.imm,
         },
@@ -170,10 +306,7 @@ fn rule_of(cell: Cell, modrm: Option<u8>) -> ImmRule
 fn is_wide(rex: Option<u8>) -> bool
     ensures { result ≡ is_wide rex }
 {
-    match rex {
-        None => false,
-        Some(byte) => byte / 8 % 2 == 1,
-    }
+    rex_w(rex) == 1
 }
 
 /// Which immediate stands behind these fields.

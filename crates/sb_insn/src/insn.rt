@@ -4,10 +4,12 @@ ghost use Rattle.std.specs.Prelude.{◌≡◌, ◌≤◌, length, IsTrue, ◌↔
 ghost use Rattle.std.specs.Option.{option_to_list};
 ghost use Rattle.sb_insn.specs.Spelling.{disp_bytes, imm_bytes, op_bytes, spelling};
 ghost use Rattle.sb_insn.specs.Fields.{kind_of_disp, kind_of_imm, is_rex_field, is_modrm_field, is_sib_field};
+ghost use Rattle.sb_insn.specs.Branch.{imm_value, is_direct, direct_target};
 ghost use Rattle.sb_insn.specs.Grammar.{IsByte, FitsDisp, FitsImm, IsValid};
 
 use crate::fields::{disp_kind, imm_kind, is_rex, permits_modrm, stands_alone, wants_sib};
-use crate::opcode_map::Cell;
+use crate::listing::instruction_of;
+use crate::opcode_map::{Cell, OperandForm};
 use crate::opcodes::cell_of;
 
 /// An opcode, by the map in which it stands (SDM volume 2, section 2.1.2 and appendix A).
@@ -136,6 +138,18 @@ impl Imm {
         }
     }
 
+    /// The number, sign-extended to 64 bits; 0 where there is none.
+    pub fn value(self) -> u64
+        ensures { result ≡ imm_value self }
+    {
+        match self {
+            Imm::None => 0,
+            Imm::I8(value) => i64::from(value).cast_unsigned(),
+            Imm::I32(value) => i64::from(value).cast_unsigned(),
+            Imm::I64(value) => value.cast_unsigned(),
+        }
+    }
+
     /// How many bytes it has.
     fn length(&self) -> usize
         ensures value { result ≡ length (imm_bytes self.now) }
@@ -230,6 +244,29 @@ impl Insn {
             return false;
         }
         self.imm.kind() == imm_kind(cell, self.modrm, self.rex)
+    }
+
+    /// Whether it is JMP, Jcc or CALL with a distance (SDM volume 2), by its opcode alone.
+    pub fn is_direct(&self) -> bool
+        ensures { result ≡ is_direct self.now }
+    {
+        match instruction_of(self) {
+            None => false,
+            Some(instruction) => matches!(instruction.form, OperandForm::Relative),
+        }
+    }
+
+    /// Where it leads from an address if it is a direct jump or call (SDM volume 2: JMP, Jcc, CALL): its distance from
+    /// the next instruction, modulo 2^64. None for all other instructions.
+    #[tactic(auto, unfolding(crate::specs::Branch::direct_target))]
+    pub fn direct_target(&self, at: u64) -> Option<u64>
+        ensures { result ≡ direct_target self.now at }
+    {
+        if !self.is_direct() {
+            return None;
+        }
+        let next = at.wrapping_add(self.length() as u64);
+        Some(next.wrapping_add(self.imm.value()))
     }
 
     /// How many bytes its spelling has; 13 at most where it is valid.

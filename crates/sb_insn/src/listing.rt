@@ -3,6 +3,7 @@
 ghost use Rattle.std.specs.Prelude.{◌≡◌};
 ghost use Rattle.sb_insn.specs.Listing.{named, instruction_of as instruction_at, operand_for as operand_at, ValidListed};
 
+use crate::fields::reg_field;
 use crate::insn::Insn;
 use crate::opcode_map::{Cell, Instruction, Operand};
 use crate::opcodes::{cell_of, operand_of};
@@ -17,7 +18,7 @@ pub fn operand_for(insn: &Insn) -> Option<Operand>
 {
     match insn.modrm {
         None => None,
-        Some(modrm) => operand_of(cell_of(insn.op), modrm / 8 % 8),
+        Some(modrm) => operand_of(cell_of(insn.op), reg_field(modrm)),
     }
 }
 

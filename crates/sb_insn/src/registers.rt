@@ -1,4 +1,52 @@
-//! Registers and flags.
+//! Registers, by their numbers too, and flags.
+
+/// The number of RAX, the accumulator (the numbers of registers: SDM volume 2, section 2.2.1).
+pub const RAX: usize = 0;
+
+/// The number of RCX, which CL is the lowest byte of.
+pub const RCX: usize = 1;
+
+/// The number of RDX.
+pub const RDX: usize = 2;
+
+/// The number of RBX.
+pub const RBX: usize = 3;
+
+/// The number of RSP, the address of the top of the stack.
+pub const RSP: usize = 4;
+
+/// The number of RBP.
+pub const RBP: usize = 5;
+
+/// The number of RSI.
+pub const RSI: usize = 6;
+
+/// The number of RDI.
+pub const RDI: usize = 7;
+
+/// The number of R8.
+pub const R8: usize = 8;
+
+/// The number of R9.
+pub const R9: usize = 9;
+
+/// The number of R10.
+pub const R10: usize = 10;
+
+/// The number of R11.
+pub const R11: usize = 11;
+
+/// The number of R12.
+pub const R12: usize = 12;
+
+/// The number of R13.
+pub const R13: usize = 13;
+
+/// The number of R14.
+pub const R14: usize = 14;
+
+/// The number of R15.
+pub const R15: usize = 15;
 
 /// The status flags (SDM volume 1, section 3.4.3.1). AF is not kept.
 #[derive(Clone, Copy, Debug, PartialEq, Eq)]

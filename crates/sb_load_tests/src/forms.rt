@@ -1,6 +1,6 @@
 //! Worked instructions, against the bytes that stand in their place.
 
-use sb_forms::{Form, form, has_form, pattern_places};
+use sb_forms::{Form, form, form_applies, pattern_places};
 use sb_insn::{Disp, Imm, Insn, Op};
 
 /// Its bytes are `0F 01 D4 00`.
@@ -29,7 +29,7 @@ fn form_of(insn: &Insn, after_0f: bool) -> Option<Form> {
     if !insn.is_valid() {
         return None;
     }
-    if !has_form(insn) {
+    if !form_applies(insn) {
         return None;
     }
     Some(form(insn, 0x40_0000, 0x1000, after_0f))

@@ -146,11 +146,11 @@ own_by _ kind kinds insn is moved = absurd cc
 
 -- ---- forms with an immediate beside one operand
 
-no_load : (size : Size) (place : Place) → load_by memory_use.Nothing size place ≡ load.Nothing
+pub no_load : (size : Size) (place : Place) → load_by memory_use.Nothing size place ≡ load.Nothing
 no_load size (Register number) = refl
 no_load size (Memory address) = refl
 
-no_store : (size : Size) (place : Place) → store_by memory_use.Nothing size place ≡ store.Nothing
+pub no_store : (size : Size) (place : Place) → store_by memory_use.Nothing size place ≡ store.Nothing
 no_store size (Register number) = refl
 no_store size (Memory address) = refl
 

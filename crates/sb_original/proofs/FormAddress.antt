@@ -26,13 +26,14 @@ use Rattle.sb_original.specs.Alike.{AlikeBut, hides, is_rm_action}
 use Rattle.sb_original.specs.Slot.{Slotted, saved, restored, jumped}
 use Rattle.sb_original.proofs.Saves.{save_done_first, staged_done, address_saves}
 use Rattle.sb_original.specs.Original.{Save, original, Stage, insns_of, Before, Behind, SameAccesses, IsRegs, staged, IsKept, FormLaw}
-use Rattle.sb_original.proofs.Fields.{helper_low}
 use Rattle.sb_original.proofs.Mains.{work_is_rm, helper_action, helper_main}
 use Rattle.sb_original.proofs.Helpers.{first_unnamed}
 use Rattle.sb_original.proofs.Goes.{goes_on}
 use Rattle.sb_original.proofs.Pieces.{save_does, restore_does}
 use Rattle.sb_original.proofs.Chains.{regs_same, restored_1, before_rip, jump_does}
 use Rattle.sb_original.proofs.Addresses.{address_loads}
+use Rattle.sb_original.proofs.Addresses.{helper_16}
+use Rattle.sb_forms.proofs.QuietPieces.{number_7}
 
 -- ---- what every form with a slot needs
 
@@ -48,14 +49,11 @@ pub row_goes : (insn : Insn) (regs : Regs) (loaded : ℕ) → is_rm_action (acti
 unfolding row_of
 row_goes insn regs loaded is = goes_on (action_of insn) insn regs loaded is
 
-one_length : (insn : Insn) → length (spelled (insn ∷ [])) ≡ length (spelling insn)
+pub one_length : (insn : Insn) → length (spelled (insn ∷ [])) ≡ length (spelling insn)
 one_length insn = omega (arith, length-append (spelling insn) [])
 
 hides_one : (helper : Helper) → hides (number_of helper ∷ []) (number_of helper) ≡ true
 hides_one helper = or_left (number_of helper == number_of helper) false (eq-eqb (number_of helper) (number_of helper) refl)
-
-helper_16 : (helper : Helper) → number_of helper < 16
-helper_16 helper = omega (arith, helper_low helper)
 
 -- ---- one helper
 

@@ -15,10 +15,10 @@ use Rattle.sb_original.specs.Kept.{AgreeBut, FollowBut}
 use Rattle.sb_original.specs.Alike.{hides}
 use Rattle.sb_original.specs.Slot.{Slotted, saved, restored, jumped}
 use Rattle.sb_original.specs.Original.{Save, original, Behind, IsRegs, IsKept}
-use Rattle.sb_original.proofs.Fields.{helper_low}
 use Rattle.sb_original.proofs.Pieces.{restore_does}
 use Rattle.sb_original.proofs.Chains.{regs_same, jump_does}
 use Rattle.sb_original.proofs.FormPlain.{all_same}
+use Rattle.sb_forms.proofs.QuietPieces.{number_7}
 
 -- a helper that is restored is no longer hidden
 pub unhide : (helper : Helper) (numbers : List ℕ) (regs other : Regs) (value rip : ℕ) → AgreeBut (hides (number_of helper ∷ numbers)) regs other → value ≡ general regs (number_of helper)
@@ -29,7 +29,7 @@ unhide helper numbers regs other value rip agree is = record {
   other_count = length-set other.general (number_of helper) value ∙ agree.other_count;
   seen = λ k shown.
       elim (cases_eq k (number_of helper)) [
-        | inl same ↦ get_or-set_at other.general (number_of helper) k value 0 same (omega (arith, helper_low helper, agree.other_count)) ∙ is ∙ ap (λ (n : ℕ). get_or regs.general n 0) (sym same)
+        | inl same ↦ get_or-set_at other.general (number_of helper) k value 0 same (omega (arith, number_7 helper, agree.other_count)) ∙ is ∙ ap (λ (n : ℕ). get_or regs.general n 0) (sym same)
         | inr differ ↦ get_or-set_other other.general (number_of helper) k value 0 differ ∙ agree.seen k (or_from (k == number_of helper) (hides numbers k) (ne_eqb k (number_of helper) differ) shown)
       ];
 }

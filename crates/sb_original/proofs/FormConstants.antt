@@ -54,6 +54,7 @@ use Rattle.sb_original.proofs.FormAddress.{insns_staged, alike_accesses, one_sav
 use Rattle.sb_original.proofs.FormConstant.{two_saves, two_kept, two_behind, hides_second}
 use Rattle.sb_original.proofs.Constants.{PlaceIs, constant_main, own_action, whole_main_action}
 use Rattle.sb_original.proofs.Operands.{register_place, memory_reg, memory_at, IsRegister, own_reg, own_place, opcode_is_one}
+use Rattle.sb_original.proofs.FormAddress.{one_length}
 
 -- ---- the table at these instructions
 
@@ -102,9 +103,6 @@ own_bit _ insn = b_1 insn.rex
 pub at_bit : (helper : Helper) → (at_helper helper).rex_b ≤ 1
 unfolding at_helper
 at_bit helper = omega arith
-
-pub one_length : (insn : Insn) → length (spelled (insn ∷ [])) ≡ length (spelling insn)
-one_length insn = omega (arith, length-append (spelling insn) [])
 
 -- it stays where it was, and is no helper
 pub record StaysAt (numbers : List ℕ) (insn : Insn) (kinds : OperandForm) (old : Regs) (main : Insn) (helper : Helper) (other : Regs) : Type 0 where

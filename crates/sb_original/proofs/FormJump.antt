@@ -40,7 +40,6 @@ use Rattle.sb_original.specs.Slot.{Slotted, with_general, saved, restored, jumpe
 use Rattle.sb_original.proofs.Saves.{save_done_first, staged_done, address_saves}
 use Rattle.sb_original.specs.Original.{Behind, staged, FormLaw}
 use Rattle.sb_original.specs.Work.{IsJumpWork, IsEntered}
-use Rattle.sb_original.proofs.Fields.{helper_low}
 use Rattle.sb_original.proofs.Memory.{memory_place, memory_mod, address_below}
 use Rattle.sb_original.proofs.Pieces.{load_row, save_does, restore_does, jump_through_does}
 use Rattle.sb_original.proofs.Chains.{regs_same, agree_set}
@@ -48,6 +47,7 @@ use Rattle.sb_original.proofs.Addresses.{address_loads}
 use Rattle.sb_original.proofs.FormPlain.{all_same}
 use Rattle.sb_original.proofs.FormAddress.{insns_staged, one_save, one_kept}
 use Rattle.sb_original.proofs.FormConstant.{unhide}
+use Rattle.sb_forms.proofs.QuietPieces.{number_7}
 
 -- ---- the rows
 
@@ -77,7 +77,7 @@ jump_is insn instruction regs work =
 -- ---- the form
 
 holds_it : (helper : Helper) (value : ℕ) (registers : List ℕ) → length registers ≡ 16 → slice_index (slice_set registers (number_of helper) value) (number_of helper) ≡ value
-holds_it helper value registers count = get_or-set_at registers (number_of helper) (number_of helper) value 0 refl (omega (arith, helper_low helper, count))
+holds_it helper value registers count = get_or-set_at registers (number_of helper) (number_of helper) value 0 refl (omega (arith, number_7 helper, count))
 
 pub jump_law : {M A N : Type 0} (bus : Interface M A) (Holds : Words → M → N → Type 0) (insn : Insn) (instruction : Instruction) (site : Site) (start : ℕ) (state : Slotted) → HasWords bus Holds → IsJumpWork insn instruction
     → IsEntered insn site start state → FormLaw bus Holds insn start state (jump_form instruction insn site)

@@ -41,11 +41,13 @@ use Rattle.sb_original.specs.Words.{Words}
 use Rattle.sb_original.specs.Kept.{AgreeBut, FollowBut, IsShown}
 use Rattle.sb_original.specs.Alike.{hides}
 use Rattle.sb_original.specs.Slot.{Slotted, Does}
-use Rattle.sb_original.proofs.Fields.{modrm_same, helper_low, with_w}
+use Rattle.sb_original.proofs.Fields.{modrm_same, with_w}
 use Rattle.sb_original.proofs.Registers.{follow_with, value_same}
 use Rattle.sb_original.proofs.Operands.{register_place, with_r_0}
 use Rattle.sb_original.proofs.Pieces.{plain_row, plain_does}
 use Rattle.sb_original.proofs.Chains.{agree_set}
+use Rattle.sb_forms.proofs.Fronts.{r_1}
+use Rattle.sb_forms.proofs.QuietPieces.{number_7}
 
 -- ---- a product
 
@@ -64,10 +66,6 @@ rex_same : (rex : Option ℕ) → bit_of_rex (with_r_b rex 0 (rex_r rex)) 0 ≡ 
 rex_same None = refl
 rex_same (Some rex) = omega arith
 
-r_within : (rex : Option ℕ) → rex_r rex ≤ 1
-r_within None = omega arith
-r_within (Some rex) = omega arith
-
 product_fields : (c r : ℕ) → c ≤ 7 → r ≤ 7 → ((0xC0 + 8 * c + r) / 64 ≡ 3) × ((0xC0 + 8 * c + r) / 8 % 8 ≡ c) × ((0xC0 + 8 * c + r) % 8 ≡ r)
 product_fields c r cc rr = (omega arith, omega arith, omega arith)
 
@@ -79,13 +77,13 @@ move_parts : (insn : Insn) (helper : Helper) (regs : Regs) → (rm_place (move_p
 move_parts insn helper regs =
     let move = move_product insn helper in
     let known = move_fields insn helper in
-    let fields = product_fields (number_of helper) (reg_field (byte_of insn.modrm)) (helper_low helper) (omega arith) in
+    let fields = product_fields (number_of helper) (reg_field (byte_of insn.modrm)) (number_7 helper) (omega arith) in
     let top = ap (λ (m : ℕ). m / 64) known.0 ∙ fields.0 in
     let reg = ap (λ (m : ℕ). m / 8 % 8) known.0 ∙ fields.1 in
     let rm = ap (λ (m : ℕ). m % 8) known.0 ∙ fields.2 in
     let number : rm_number move ≡ reg_number insn = omega (arith, rm, modrm_same insn.modrm, ap (λ r. bit_of_rex r 0) known.1 ∙ rex_same insn.rex) in
-    let helper_is : reg_number move ≡ number_of helper = omega (arith, reg, ap (λ r. bit_of_rex r 2) known.1 ∙ with_r_0 insn.rex (rex_r insn.rex) (r_within insn.rex)) in
-    (register_place move regs top ∙ ap (λ (n : ℕ). Register n) number, helper_is, ap (λ (b : ℕ). if b == 1 then Quad else Double) (ap (λ r. bit_of_rex r 3) known.1 ∙ with_w insn.rex 0 (rex_r insn.rex) (omega arith) (r_within insn.rex)))
+    let helper_is : reg_number move ≡ number_of helper = omega (arith, reg, ap (λ r. bit_of_rex r 2) known.1 ∙ with_r_0 insn.rex (rex_r insn.rex) (r_1 insn.rex)) in
+    (register_place move regs top ∙ ap (λ (n : ℕ). Register n) number, helper_is, ap (λ (b : ℕ). if b == 1 then Quad else Double) (ap (λ r. bit_of_rex r 3) known.1 ∙ with_w insn.rex 0 (rex_r insn.rex) (omega arith) (r_1 insn.rex)))
 
 abbrev move_row : Insn → Regs → Place → Size → ℕ → Row
 move_row move regs place size number = record {
@@ -138,7 +136,7 @@ product_follows helper numbers insn main size product flags old other rip hidden
     let base : Regs = with_flags flags (stepped main other) in
     let now : Regs = with_register size (number_of helper) value base in
     let kept : merged size (general base (number_of helper)) value ≡ general now (number_of helper) =
-    sym (get_or-set_at other.general (number_of helper) (number_of helper) (merged size (general base (number_of helper)) value) 0 refl (omega (arith, helper_low helper, agree.other_count))) in
+    sym (get_or-set_at other.general (number_of helper) (number_of helper) (merged size (general base (number_of helper)) value) 0 refl (omega (arith, number_7 helper, agree.other_count))) in
     let start : AgreeBut (hides numbers) (with_flags flags (stepped insn old)) base = record { flags = refl; count = agree.count; other_count = agree.other_count; seen = agree.seen } in
     let after = agree_set helper numbers (merged size (general base (number_of helper)) value) (with_flags flags (stepped insn old)) base rip hidden start in
     let follow : FollowBut (hides numbers) old (with_flags flags (stepped insn old)) (record now { rip = rip }) = record { agree = after; left = λ k _. refl } in

@@ -1,6 +1,7 @@
 -- The laws of the forms of IMUL with an immediate of four bytes.
 use Rattle.sb_insn.specs.Grammar.{IsValid}
-use Rattle.sb_original.proofs.FormConstants.{rm_shown, same_at, insns_both, one_length, at_bit}
+use Rattle.sb_original.proofs.FormConstants.{rm_shown, same_at, insns_both, at_bit}
+use Rattle.sb_original.proofs.FormAddress.{one_length}
 use Rattle.sb_original.proofs.Operands.{register_place, memory_reg, memory_at, IsRegister, own_reg, own_place}
 use Rattle.sb_original.proofs.Constants.{main_size}
 use Rattle.sb_original.proofs.Addresses.{address_loads, constant_loads}

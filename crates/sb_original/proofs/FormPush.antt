@@ -48,7 +48,7 @@ use Rattle.sb_original.proofs.Pieces.{save_does}
 use Rattle.sb_original.proofs.Chains.{before_rip}
 use Rattle.sb_original.proofs.Addresses.{constant_loads}
 use Rattle.sb_original.proofs.FormAddress.{insns_staged, alike_accesses, one_save, one_kept, one_behind}
-use Rattle.sb_original.proofs.FormWide.{nothing_load}
+use Rattle.sb_original.proofs.Constants.{no_load}
 
 -- ---- the rows
 
@@ -66,7 +66,7 @@ main_is Rdi regs = refl
 own_by : (insn : Insn) (regs : Regs) (value : ℤ) → insn.imm ≡ imm.I32 value → row_by (Push form.Imm) insn regs ≡ push_row insn regs (cast_unsigned w64 value % 2 ^ 64)
 unfolding load_of store_of after_action effect_of last_operand rm_use low
 own_by insn regs value is =
-    ap (λ l. let r : Row = record { load = l; store = store.At (linear (top_pushed regs)) Quad; after = λ loaded. storing (pushed (stepped insn regs)) (imm_value insn.imm % 2 ^ 64); effect = Next } in r) (nothing_load Quad (rm_place insn regs))
+    ap (λ l. let r : Row = record { load = l; store = store.At (linear (top_pushed regs)) Quad; after = λ loaded. storing (pushed (stepped insn regs)) (imm_value insn.imm % 2 ^ 64); effect = Next } in r) (no_load Quad (rm_place insn regs))
     ∙ ap (λ i. push_row insn regs (imm_value i % 2 ^ 64)) is
 
 own_is : (insn : Insn) (instruction : Instruction) (value : ℤ) (regs : Regs) → IsPushWork insn instruction value → row_of insn regs ≡ push_row insn regs (cast_unsigned w64 value % 2 ^ 64)

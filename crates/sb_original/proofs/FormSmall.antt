@@ -24,6 +24,7 @@ use Rattle.sb_exec.specs.Rows.{rm_use, load_of, store_of, after_action, effect_o
 use Rattle.sb_forms.specs.Table.{is_one_byte, is_modrm, is_add_esp_edx, add_from_rm}
 use Rattle.sb_forms.proofs.Operands.{modrm_is}
 use Rattle.sb_original.specs.Original.{InPlaceLaw}
+use Rattle.sb_forms.proofs.Room.{one_byte_is}
 
 -- add esp, edx as 01 D4
 abbrev pub add_to_rm : Insn
@@ -51,18 +52,12 @@ whole_fields false None None disp.None (imm.I8 value) none e s d i = absurd cc
 whole_fields false None None disp.None (imm.I32 value) none e s d i = absurd cc
 whole_fields false None None disp.None (imm.I64 value) none e s d i = absurd cc
 
-one_is : (opcode : ℕ) (op : Op) → is_one_byte opcode op ≡ true → op ≡ One opcode
-one_is opcode (One other) e = ap (λ (byte : ℕ). One byte) (sym (eqb-true opcode other e))
-one_is opcode (Two other) e = absurd cc
-one_is opcode Endbr e = absurd cc
-one_is opcode Vmfunc e = absurd cc
-
 pub add_is : (insn : Insn) → IsValid insn → is_add_esp_edx insn ≡ true → insn ≡ add_to_rm
 add_is insn valid e =
     let parts = and_parts (is_none insn.rex) (is_one_byte 0x01 insn.op && is_modrm 0xD4 insn.modrm) e in
     let behind = and_parts (is_one_byte 0x01 insn.op) (is_modrm 0xD4 insn.modrm) parts.1 in
     let fields : Whole insn.lock insn.rex insn.sib insn.disp insn.imm insn.op insn.modrm =
-    subst (λ op. Whole insn.lock insn.rex insn.sib insn.disp insn.imm op insn.modrm) (sym (one_is 0x01 insn.op behind.0))
+    subst (λ op. Whole insn.lock insn.rex insn.sib insn.disp insn.imm op insn.modrm) (sym (one_byte_is 0x01 insn.op behind.0))
     (subst (λ modrm. Whole insn.lock insn.rex insn.sib insn.disp insn.imm (One 0x01) modrm) (sym (modrm_is 0xD4 insn.modrm behind.1)) (whole_fields insn.lock insn.rex insn.sib insn.disp insn.imm)) in
     fields parts.0 valid.modrm valid.sib valid.disp valid.imm
 

@@ -51,7 +51,7 @@ use Rattle.sb_original.specs.Slot.{Slotted, with_general, saved, low_saved, high
 use Rattle.sb_original.proofs.Saves.{save_done_first, staged_then, constant_saves, half_done, upper_done}
 use Rattle.sb_original.specs.Original.{Save, original, Stage, insns_of, Before, Behind, IsRegs, staged, IsKept, FormLaw}
 use Rattle.sb_original.specs.Work.{IsWideWork, IsEntered}
-use Rattle.sb_original.proofs.Fields.{helper_low, b_same}
+use Rattle.sb_original.proofs.Fields.{b_same}
 use Rattle.sb_original.proofs.Pieces.{load_row, load_does, save_does, low_half_does, high_half_does}
 use Rattle.sb_original.proofs.Chains.{regs_same, restored_1, before_append, before_rip}
 use Rattle.sb_original.proofs.Registers.{follow_with}
@@ -61,6 +61,12 @@ use Rattle.sb_original.proofs.Helpers.{first_unnamed}
 use Rattle.sb_original.proofs.Operands.{opcode_is_one}
 use Rattle.sb_original.proofs.Addresses.{constant_loads}
 use Rattle.sb_original.proofs.FormAddress.{one_save, one_behind}
+use Rattle.sb_forms.proofs.CleanForms.{low_fits}
+use Rattle.sb_forms.proofs.CleanForms.{high_fits}
+use Rattle.sb_forms.proofs.Small.{word_8}
+use Rattle.sb_original.proofs.Constants.{no_load}
+use Rattle.sb_original.proofs.Constants.{no_store}
+use Rattle.sb_forms.proofs.QuietPieces.{number_7}
 
 -- ---- numbers
 
@@ -81,24 +87,10 @@ high_is value fits =
     let below = Fits-of_z {w = w64} {z = value} fits in
     back_again (cast_unsigned w64 value / 2 ^ 32) (omega (arith, below.fits))
 
-low_fits : (value : ℤ) → FitsSigned w32 (low_half value)
-unfolding low_half
-low_fits value = sfits_to_z {w = w32} {n = cast_unsigned w64 value % 2 ^ 32} (omega arith)
-
-high_fits : (value : ℤ) → FitsSigned w64 value → FitsSigned w32 (high_half value)
-unfolding high_half
-high_fits value fits =
-    let below = Fits-of_z {w = w64} {z = value} fits in
-    sfits_to_z {w = w32} {n = cast_unsigned w64 value / 2 ^ 32} (omega (arith, below.fits))
-
 -- two halves are the whole
 halves : (word a b value c d : ℕ) → value < 2 ^ 64 → a ≡ (0 + c) % 2 ^ 64 → c % 2 ^ 32 ≡ value % 2 ^ 32 → b ≡ (0 + d) % 2 ^ 64 → d % 2 ^ 32 ≡ value / 2 ^ 32
     → ((word / 2 ^ 32 * 2 ^ 32 + a % 2 ^ 32 % 2 ^ 32) % 2 ^ 32 + b % 2 ^ 32 % 2 ^ 32 * 2 ^ 32) % 2 ^ 64 ≡ value
 halves word a b value c d below first one second two = omega (arith, below, first, one, second, two)
-
-word_8 : (insn : Insn) → length (spelling (load_word insn)) ≡ 8
-unfolding load_word
-word_8 insn = refl
 
 -- ---- the rows
 
@@ -134,14 +126,6 @@ load_word_is : (insn : Insn) → load_word insn ≡ word_to (forms.opcode_of ins
 unfolding load_word
 load_word_is insn = refl
 
-pub nothing_load : (size : Size) (place : Place) → load_by memory_use.Nothing size place ≡ load.Nothing
-nothing_load size (place.Register number) = refl
-nothing_load size (place.Memory address) = refl
-
-nothing_store : (size : Size) (place : Place) → store_by memory_use.Nothing size place ≡ store.Nothing
-nothing_store size (place.Register number) = refl
-nothing_store size (place.Memory address) = refl
-
 -- the row of a MOV to the register in the opcode
 move_by : (insn : Insn) (regs : Regs) (value : ℤ) → insn.imm ≡ imm.I64 value
     → (row_by (Compute operation.Move form.OpcodeImm Quad) insn regs).after 0 ≡ keeping (with_general (opcode_number insn) (cast_unsigned w64 value % 2 ^ 64) (stepped insn regs))
@@ -156,7 +140,7 @@ any_kept : (helper : Helper) (start : ℕ) (state : Slotted) (words : Words) →
 any_kept helper start state words fit first now agree same =
     let old : Regs = record (state.regs) { rip = start } in
     let word : now.words.first ≡ general old (number_of helper) = omega (arith, ap (λ (w : Words). w.first) same, first, fit.fit (number_of helper)) in
-    regs_same (original (one_save helper) start now) old (restored_1 helper old now.regs now.words.first (omega (arith, helper_low helper)) agree word) refl agree.flags
+    regs_same (original (one_save helper) start now) old (restored_1 helper old now.regs now.words.first (omega (arith, number_7 helper)) agree word) refl agree.flags
 
 insns_then : (saves : List Save) (insns : List Insn) (stages : List Stage) → insns_of (staged saves insns ++ stages) ≡ insns ++ insns_of stages
 insns_then saves [] stages = refl
@@ -182,8 +166,8 @@ own_row : (insn : Insn) (instruction : Instruction) (value : ℤ) (regs : Regs) 
     → ((row_of insn regs).load ≡ load.Nothing) × ((row_of insn regs).store ≡ store.Nothing) × ((row_of insn regs).effect ≡ Next) × ((row_of insn regs).after 0 ≡ keeping (with_general (opcode_number insn) (cast_unsigned w64 value % 2 ^ 64) (stepped insn regs)))
 unfolding row_of load_of store_of effect_of rm_use
 own_row insn instruction value regs work = (
-  ap (λ a. (row_by a insn regs).load) work.action ∙ nothing_load Quad (rm_place insn regs),
-  ap (λ a. (row_by a insn regs).store) work.action ∙ nothing_store Quad (rm_place insn regs),
+  ap (λ a. (row_by a insn regs).load) work.action ∙ no_load Quad (rm_place insn regs),
+  ap (λ a. (row_by a insn regs).store) work.action ∙ no_store Quad (rm_place insn regs),
   ap (λ a. (row_by a insn regs).effect) work.action,
   ap (λ a. (row_by a insn regs).after 0) work.action ∙ move_by insn regs value work.imm,
 )

@@ -5,7 +5,7 @@ pub mod Fields
 pub mod Memory
 pub mod Classes
 pub mod Mains
-pub mod Helpers
+pub use Rattle.sb_forms.proofs.Helpers
 pub mod Goes
 pub mod Pieces
 pub mod Chains
@@ -21,9 +21,9 @@ pub mod FormConstant
 pub mod FormConstants
 pub mod FormJump
 pub mod FormSmall
-pub mod Immediates
-pub mod Small
-pub mod Across
+pub use Rattle.sb_forms.proofs.Immediates
+pub use Rattle.sb_forms.proofs.Small
+pub use Rattle.sb_forms.proofs.Across
 pub mod FormWide
 pub mod FormPush
 pub mod FormThrough

@@ -28,8 +28,9 @@ use Rattle.sb_forms.specs.Rex.{with_r_b}
 use Rattle.sb_forms.specs.Registers.{number_of, byte_of, is_number, is_named}
 use Rattle.sb_forms.specs.Registers as forms
 use Rattle.sb_forms.specs.Mains.{at_helper, with_constant}
-use Rattle.sb_original.proofs.Fields.{with_b_0, helper_low, helper_not_4, at_mod, at_reg, at_rm}
+use Rattle.sb_original.proofs.Fields.{with_b_0, helper_not_4, at_mod, at_reg, at_rm}
 use Rattle.sb_original.proofs.Memory.{memory_place, rm_base}
+use Rattle.sb_forms.proofs.QuietPieces.{number_7}
 
 -- ---- fields
 
@@ -58,7 +59,7 @@ memory_distance name insn at helper value = omega arith
 pub memory_reg : (name : Mnemonic) (insn : Insn) (at helper : Helper) → reg_number (with_constant name insn (at_helper at) helper) ≡ number_of helper
 memory_reg name insn at helper =
     let fields = memory_fields name insn at helper in
-    let reg = ap (λ (m : ℕ). m / 8 % 8) fields.0 ∙ at_reg (number_of at) (number_of helper) (helper_low at) (helper_low helper) in
+    let reg = ap (λ (m : ℕ). m / 8 % 8) fields.0 ∙ at_reg (number_of at) (number_of helper) (number_7 at) (number_7 helper) in
     omega (arith, reg, fields.2)
 
 memory_address : (name : Mnemonic) (insn : Insn) (at helper : Helper) (regs : Regs) → operand_address (with_constant name insn (at_helper at) helper) regs ≡ general regs (number_of at) % 2 ^ 64
@@ -66,8 +67,8 @@ unfolding operand_address
 memory_address name insn at helper regs =
     let main = with_constant name insn (at_helper at) helper in
     let fields = memory_fields name insn at helper in
-    let low_field = ap (λ (m : ℕ). m % 8) fields.0 ∙ at_rm (number_of at) (number_of helper) (helper_low at) (helper_low helper) in
-    let top = ap (λ (m : ℕ). m / 64) fields.0 ∙ at_mod (number_of at) (number_of helper) (helper_low at) (helper_low helper) in
+    let low_field = ap (λ (m : ℕ). m % 8) fields.0 ∙ at_rm (number_of at) (number_of helper) (number_7 at) (number_7 helper) in
+    let top = ap (λ (m : ℕ). m / 64) fields.0 ∙ at_mod (number_of at) (number_of helper) (number_7 at) (number_7 helper) in
     let base = rm_base main regs (λ is. helper_not_4 at (sym low_field ∙ is)) (λ is _. omega (arith, top, is)) in
     let number : rm_number main ≡ number_of at = omega (arith, low_field, fields.1) in
     ap (λ (from : ℕ). (from + disp_value main.disp) % 2 ^ 64) (base ∙ ap (λ (n : ℕ). general regs n) number) ∙ memory_distance name insn at helper (general regs (number_of at))
@@ -75,7 +76,7 @@ memory_address name insn at helper regs =
 pub memory_at : (name : Mnemonic) (insn : Insn) (at helper : Helper) (regs : Regs) → rm_place (with_constant name insn (at_helper at) helper) regs ≡ Memory (linear (general regs (number_of at) % 2 ^ 64))
 memory_at name insn at helper regs =
     let main = with_constant name insn (at_helper at) helper in
-    let top = ap (λ (m : ℕ). m / 64) (memory_fields name insn at helper).0 ∙ at_mod (number_of at) (number_of helper) (helper_low at) (helper_low helper) in
+    let top = ap (λ (m : ℕ). m / 64) (memory_fields name insn at helper).0 ∙ at_mod (number_of at) (number_of helper) (number_7 at) (number_7 helper) in
     memory_place main regs (λ is. omega (arith, top, is)) ∙ ap (λ (n : ℕ). Memory (linear n)) (memory_address name insn at helper regs)
 
 -- ---- a register
@@ -94,7 +95,7 @@ own_fields name insn operand helper = (refl, refl)
 pub own_reg : (name : Mnemonic) (insn : Insn) (operand : RmOperand) (helper : Helper) (low bit : ℕ) → IsRegister operand low bit → reg_number (with_constant name insn operand helper) ≡ number_of helper
 own_reg name insn operand helper low bit is =
     let fields = own_fields name insn operand helper in
-    let reg = ap (λ (m : ℕ). m / 8 % 8) (fields.0 ∙ ap (λ (m : ℕ). m + 8 * number_of helper) is.mod_rm) ∙ (reg_fields low (number_of helper) is.within (helper_low helper)).1 in
+    let reg = ap (λ (m : ℕ). m / 8 % 8) (fields.0 ∙ ap (λ (m : ℕ). m + 8 * number_of helper) is.mod_rm) ∙ (reg_fields low (number_of helper) is.within (number_7 helper)).1 in
     omega (arith, reg, ap (λ r. bit_of_rex r 2) fields.1 ∙ with_r_0 insn.rex operand.rex_b is.rex)
 
 pub own_place : (name : Mnemonic) (insn : Insn) (operand : RmOperand) (helper : Helper) (low bit number : ℕ) (regs : Regs) → IsRegister operand low bit → low + 8 * bit_of_rex (with_r_b insn.rex 0 operand.rex_b) 0 ≡ number
@@ -103,7 +104,7 @@ own_place name insn operand helper low bit number regs is same =
     let main = with_constant name insn operand helper in
     let fields = own_fields name insn operand helper in
     let modrm = fields.0 ∙ ap (λ (m : ℕ). m + 8 * number_of helper) is.mod_rm in
-    let parts = reg_fields low (number_of helper) is.within (helper_low helper) in
+    let parts = reg_fields low (number_of helper) is.within (number_7 helper) in
     let low_field = ap (λ (m : ℕ). m % 8) modrm ∙ parts.2 in
     let top = ap (λ (m : ℕ). m / 64) modrm ∙ parts.0 in
     let rex = ap (λ r. bit_of_rex r 0) fields.1 in

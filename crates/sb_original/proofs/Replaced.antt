@@ -70,6 +70,7 @@ use Rattle.sb_original.proofs.FormThrough.{jump_exchanged, call_exchanged}
 use Rattle.sb_original.proofs.FormSmall.{add_law}
 use Rattle.sb_original.proofs.FormNops.{passed, nop_does}
 use Rattle.sb_original.proofs.Going.{work_is, slot_goes}
+use Rattle.sb_forms.proofs.Room.{vmfunc_3}
 
 -- ---- names and operands
 
@@ -265,12 +266,6 @@ vmfunc_fields false None None None disp.None imm.None e s d i = refl
 vmfunc_op : (op : Op) → is_vmfunc op ≡ true → op ≡ Vmfunc
 vmfunc_op Vmfunc e = refl
 vmfunc_op _ e = absurd cc
-
-vmfunc_3 : (insn : Insn) → IsValid insn → is_vmfunc insn.op ≡ true → length (spelling insn) ≡ 3
-vmfunc_3 insn valid e =
-    let fields : VmfuncFields insn.lock insn.rex insn.modrm insn.sib insn.disp insn.imm insn.op =
-    subst (λ op. VmfuncFields insn.lock insn.rex insn.modrm insn.sib insn.disp insn.imm op) (sym (vmfunc_op insn.op e)) (vmfunc_fields insn.lock insn.rex insn.modrm insn.sib insn.disp insn.imm) in
-    fields valid.modrm valid.sib valid.disp valid.imm
 
 passes : {M A N : Type 0} (bus : Interface M A) (Holds : Words → M → N → Type 0) (insn : Insn) (start : ℕ) (state : Slotted) → IsValid insn → is_vmfunc insn.op ≡ true → Goes bus Holds insn start state (InPlace (nop ∷ nop ∷ nop ∷ []))
 passes bus Holds insn start state valid e =

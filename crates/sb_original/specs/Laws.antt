@@ -29,17 +29,6 @@ use Rattle.sb_original.specs.Going.{Left, original_behind, Goes, IsMovable}
 use Rattle.sb_original.specs.Work.{IsMemoryWork, IsEntered, IsConstantWork, IsJumpWork, IsWideWork, IsPushWork, IsCallWork}
 use Rattle.sb_original.specs.Beside.{AllOutside, AreBeside, IsStopped, MainStep}
 
--- ---- helpers
-
--- both helpers of a valid instruction are registers that it does not name, and they differ
-pub record HelpersFree (form : OperandForm) (insn : Insn) : Type 0 where
-  pub first : is_named form insn (number_of (first_helper form insn)) ≡ false
-  pub second : is_named form insn (number_of (second_helper form insn)) ≡ false
-  pub differ : (number_of (first_helper form insn) == number_of (second_helper form insn)) ≡ false
-
-abbrev pub Helpers : Type 0
-Helpers = (form : OperandForm) (insn : Insn) → IsValid insn → HelpersFree form insn
-
 -- ---- pieces
 
 -- each piece does what it is to do
@@ -120,12 +109,6 @@ Jumping bus Holds =
 -- 03 E2 in place of 01 D4
 abbrev pub Adding : Type 0
 Adding = (insn : Insn) (regs : Regs) → IsValid insn → is_add_esp_edx insn ≡ true → InPlaceLaw (row_of insn regs) add_from_rm regs
-
--- ---- sizes
-
--- each form of a valid instruction has a slot of 74 bytes at most
-abbrev pub FormsSmall : Type 0
-FormsSmall = (insn : Insn) (at slot : ℕ) (after_0f : Bool) → IsValid insn → IsSmall (form_of insn at slot after_0f)
 
 -- MOV of eight bytes
 abbrev pub WideMoving : {M A N : Type 0} → Interface M A → (Words → M → N → Type 0) → Type 0

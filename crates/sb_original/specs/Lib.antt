@@ -6,6 +6,6 @@ pub mod Original
 pub mod Going
 pub mod Work
 pub mod Beside
-pub mod Immediates
-pub mod Borders
+pub use Rattle.sb_forms.specs.Immediates
+pub use Rattle.sb_forms.specs.Borders
 pub mod Laws

@@ -1,8 +1,6 @@
 //! Laws of the pieces and of the forms, as functions with nothing to run.
 
-ghost use Rattle.sb_original.specs.Laws.{Helpers, PiecesDo, Exchanged, Displaced, Addressed, WithConstant, WithBoth, MainSteps, Jumping, Adding, FormsSmall, WideMoving, Pushing, ThroughExchanged, Passing, ReplacementsGo, RestGives};
-ghost use Rattle.sb_original.specs.Immediates.{WithFour, WithEight};
-ghost use Rattle.sb_original.specs.Borders.{NoneWithD4, OneWith01D4, AcrossBorder};
+ghost use Rattle.sb_original.specs.Laws.{PiecesDo, Exchanged, Displaced, Addressed, WithConstant, WithBoth, MainSteps, Jumping, Adding, WideMoving, Pushing, ThroughExchanged, Passing, ReplacementsGo, RestGives};
 
 /// A memory with a scratch page, beside the memory of the original code. It has no values: a type stands for the pair.
 pub trait Rewritten {
@@ -31,11 +29,6 @@ pub trait Rewritten {
 
     ghost naming: { BusStop → BusStop };
 }
-
-/// A valid instruction leaves two helpers free, which differ.
-pub fn free_helpers()
-    ensures { Helpers }
-{}
 
 /// Each piece of a slot changes one register or one word of the scratch page, and no flag.
 pub fn pieces_do<R: Rewritten>()
@@ -81,25 +74,6 @@ pub fn jumping<R: Rewritten>()
 #[tactic(auto, using(crate::proofs::FormSmall::add_law))]
 pub fn adding()
     ensures { Adding }
-{}
-
-/// Each form of a valid instruction fits its slot.
-#[tactic(auto, using(crate::proofs::Small::forms_small))]
-pub fn forms_small()
-    ensures { FormsSmall }
-{}
-
-/// Which instructions have an immediate of four or of eight bytes.
-pub fn wide_immediates()
-    ensures four { WithFour }
-    ensures eight { WithEight }
-{}
-
-/// Where the bytes of VMFUNC stand across two instructions.
-pub fn across_borders()
-    ensures none { NoneWithD4 }
-    ensures one { OneWith01D4 }
-    ensures across { AcrossBorder }
 {}
 
 /// MOV of eight bytes to a register does the same from a slot.

@@ -4,7 +4,6 @@
 mod laws;
 
 pub use laws::{
-    Rewritten, across_borders, adding, addressed, displaced, exchanged, forms_small, free_helpers,
-    jumping, main_steps, passing, pieces_do, pushing, replacements_go, rest_gives,
-    through_exchanged, wide_immediates, wide_moving, with_both, with_constant,
+    Rewritten, adding, addressed, displaced, exchanged, jumping, main_steps, passing, pieces_do,
+    pushing, replacements_go, rest_gives, through_exchanged, wide_moving, with_both, with_constant,
 };

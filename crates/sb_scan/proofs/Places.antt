@@ -27,7 +27,7 @@ byte_of bytes place stands (suc (suc zero)) small = stands.2
 byte_of bytes place stands (suc (suc (suc k))) small = absurd (omega arith)
 
 -- a byte that is not 0 is one of the list
-read_within : (bytes : List ℕ) (place : ℕ) → 0 < get_or bytes place 0 → place < length bytes
+pub read_within : (bytes : List ℕ) (place : ℕ) → 0 < get_or bytes place 0 → place < length bytes
 read_within bytes place some =
     let past : length bytes ≤ place → get_or bytes place 0 ≡ 0 = get_or_past bytes place 0 in
     grind arith
@@ -82,7 +82,7 @@ none_here bytes low places not_here later = record {
 }
 
 -- the pattern does not overlap itself
-apart : (bytes : List ℕ) (low place : ℕ) → HasPatternAt bytes low → HasPatternAt bytes place → low + 1 ≤ place → low + 1 + 2 ≤ place
+pub apart : (bytes : List ℕ) (low place : ℕ) → HasPatternAt bytes low → HasPatternAt bytes place → low + 1 ≤ place → low + 1 + 2 ≤ place
 apart bytes low place here there behind =
     let not_next : place ≡ low + 1 → ⊥ = λ same. omega (arith, sym there.0 ∙ ap (λ (k : ℕ). get_or bytes k 0) same ∙ here.1) in
     let not_last : place ≡ low + 2 → ⊥ = λ same. omega (arith, sym there.0 ∙ ap (λ (k : ℕ). get_or bytes k 0) same ∙ here.2) in

@@ -2,8 +2,9 @@
 //!
 //! Guest text must hold these three bytes nowhere, whether an instruction begins at them or not, since a jump may lead
 //! into the middle of one. `find_pattern` gives the first place, `patterns` all of them in order, and `spans` says
-//! whether they stand across the border of two slices, as of two pages. Each answer is exact, None too. Not inside:
-//! which instructions hold the pattern, and what stands in their place.
+//! whether they stand across the border of two slices, as of two pages; `first_place` looks in a page and across both
+//! its borders. Each answer is exact, None too. Not inside: which instructions hold the pattern, and what stands in
+//! their place.
 //!
 //! ```text
 //! find_pattern(&[0xB8, 0x0F, 0x01, 0xD4, 0x00])      // Some(1)
@@ -11,7 +12,7 @@
 //! ```
 #![tactic(auto)]
 
-ghost use Rattle.std.specs.Prelude.{IfOk, ◌≡◌};
+ghost use Rattle.std.specs.Prelude.{IfOk, IfSome, ◌≡◌, ◌+◌, ◌<◌, ◌≤◌, ◌++◌, length};
 ghost use Rattle.memchr.specs.Find.{matches};
 ghost use Rattle.sb_scan.specs.Pattern.{IsFirstPattern, ArePatterns, IsSpan, pattern};
 
@@ -56,70 +57,21 @@ pub fn spans(left: &[u8], right: &[u8]) -> Option<usize>
     }
 }
 
-#[cfg(test)]
-mod tests {
-    use super::*;
-    use std::test::Fail;
-
-    #[test]
-    fn finds_the_first_place(rt: HostRuntime) {
-        let rows: [(&str, &[u8], Option<usize>); 6] = [
-            ("no byte", &[], None),
-            ("the pattern alone", &[0x0F, 0x01, 0xD4], Some(0)),
-            (
-                "inside an immediate",
-                &[0xB8, 0x0F, 0x01, 0xD4, 0x00],
-                Some(1),
-            ),
-            (
-                "behind its own first byte",
-                &[0x0F, 0x0F, 0x01, 0xD4],
-                Some(1),
-            ),
-            ("two of its bytes", &[0x0F, 0x01], None),
-            ("VMCALL", &[0x0F, 0x01, 0xC1], None),
-        ];
-        for (name, bytes, place) in rows {
-            assert_eq!(rt; find_pattern(bytes), place, "{name}");
-        }
+/// The first place at which the pattern stands in bytes that have others before and after them, as a page has the last
+/// two of the page before it and the first two of the page after it. It is counted from the first of all.
+pub fn first_place(before: &[u8], bytes: &[u8], behind: &[u8]) -> Option<usize>
+    requires before { length before.now ≤ 2 }
+    requires bytes { 2 ≤ length bytes.now }
+    requires behind { length behind.now ≤ 2 }
+    ensures place { IsFirstPattern (before.now ++ (bytes.now ++ behind.now)) result }
+    ensures within { IfSome result (λ place. place < length before.now + length bytes.now) }
+{
+    if let Some(count) = spans(before, bytes) {
+        return Some(before.len() - count);
     }
-
-    #[test]
-    fn finds_all_places(rt: HostRuntime) -> Result<(), Fail> {
-        let rows: [(&str, &[u8], &[usize]); 3] = [
-            ("none", &[0x0F, 0x05], &[]),
-            (
-                "one behind the other",
-                &[0x0F, 0x01, 0xD4, 0x0F, 0x01, 0xD4],
-                &[0, 3],
-            ),
-            ("one before the end", &[0x0F, 0x01, 0xD4, 0x0F, 0x01], &[0]),
-        ];
-        for (name, bytes, places) in rows {
-            assert_eq!(rt; patterns(rt.alloc(), bytes)?.as_slice(), places, "{name}");
-        }
-        Ok(())
+    if let Some(place) = find_pattern(bytes) {
+        return Some(before.len() + place);
     }
-
-    #[test]
-    fn sees_the_pattern_across_a_border(rt: HostRuntime) {
-        let rows: [(&str, &[u8], &[u8], Option<usize>); 8] = [
-            ("one byte before", &[0x0F], &[0x01, 0xD4], Some(1)),
-            (
-                "whatever stands before it",
-                &[0xD4, 0x0F, 0x01, 0x0F],
-                &[0x01, 0xD4, 0x90],
-                Some(1),
-            ),
-            ("two bytes before", &[0x0F, 0x01], &[0xD4], Some(2)),
-            ("not yet whole", &[0x0F], &[0x01], None),
-            ("whole before", &[0x0F, 0x01, 0xD4], &[0x90], None),
-            ("whole behind", &[0x90], &[0x0F, 0x01, 0xD4], None),
-            ("nothing before", &[], &[0x0F, 0x01, 0xD4], None),
-            ("nothing behind", &[0x0F, 0x01], &[], None),
-        ];
-        for (name, left, right, before) in rows {
-            assert_eq!(rt; spans(left, right), before, "{name}");
-        }
-    }
+    let count = spans(bytes, behind)?;
+    Some(before.len() + bytes.len() - count)
 }

@@ -1,4 +1,3 @@
-pub mod Borders
 pub mod Moving
 pub mod Led
 pub mod Finding

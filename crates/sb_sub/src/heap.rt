@@ -5,12 +5,11 @@ ghost use Rattle.sb_memory.specs.Physical.{frame_count};
 ghost use Rattle.sb_memory.specs.declared.address.Frame.{Frame};
 ghost use Rattle.sb_memory.specs.declared.address.Access.TheVariants.{Read};
 ghost use Rattle.sb_pagewalk.specs.TableSet.{walked_in};
-ghost use Rattle.sb_trace.specs.Pattern.{first_pattern};
 ghost use Rattle.sb_sub.specs.Heap.{FindsHeap, frame_before as frame_in_front, frame_behind as frame_after, frame_bytes as bytes_of_frame, heap_at, heap_frame as frame_by_walk, pattern_at, pattern_by};
 
 use sb_memory::{Access, Frame, Linear, Memory};
 use sb_pagewalk::{Direct, TableSet, walk};
-use sb_scan::{find_pattern, spans};
+use sb_scan::first_place;
 
 /// Where the heap begins.
 const HEAP_ADDRESS: u64 = 0xC0_0000;
@@ -73,24 +72,6 @@ fn first_two(bytes: &[u8]) -> &[u8]
     &bytes[..2.min(bytes.len())]
 }
 
-/// The first place of the pattern in bytes with others before and behind them, counted from the first of all.
-fn first_place(before: &[u8], bytes: &[u8], behind: &[u8]) -> Option<usize>
-    requires before { length before.now ≤ 2 }
-    requires bytes { 2 ≤ length bytes.now }
-    requires behind { length behind.now ≤ 2 }
-    ensures place { result ≡ first_pattern (before.now ++ (bytes.now ++ behind.now)) }
-    ensures within { IfSome result (λ place. place < length before.now + length bytes.now) }
-{
-    if let Some(count) = spans(before, bytes) {
-        return Some(before.len() - count);
-    }
-    if let Some(place) = find_pattern(bytes) {
-        return Some(before.len() + place);
-    }
-    let count = spans(bytes, behind)?;
-    Some(before.len() + bytes.len() - count)
-}
-
 /// The frame of the page before, where there is one and it is executable.
 fn frame_before(memory: &mut Memory, set: &TableSet, page: u32, count: u32) -> Option<Frame>
     requires finds { FindsHeap memory.old set.now count }
@@ -150,6 +131,7 @@ pub fn heap_pattern(memory: &mut Memory, set: &TableSet, page: u32, count: u32) 
 }
 
 /// The lowest address of the pattern in the page in a frame, or across its borders with the pages in others.
+#[tactic(auto, using(sb_trace::proofs::Pattern::first_place))]
 fn pattern_among(
     memory: &Memory,
     page: u32,

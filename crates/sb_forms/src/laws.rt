@@ -1,0 +1,41 @@
+//! Laws of the grammar and of the table of forms, as functions with nothing to run.
+
+ghost use Rattle.sb_forms.specs.Places.{BehindOpcode, AtModrm, NotInJumps};
+ghost use Rattle.sb_forms.specs.Immediates.{WithFour, WithEight};
+ghost use Rattle.sb_forms.specs.Borders.{NoneWithD4, OneWith01D4, AcrossBorder};
+ghost use Rattle.sb_forms.specs.Laws.{Helpers, FormsSmall};
+
+/// Laws of the grammar: where the bytes of VMFUNC can stand in an instruction that is not VMFUNC.
+///
+/// They begin behind the opcode. They begin at ModRM only in `81 /1` and `69`, where ModRM is 0F. And no direct jump or
+/// call from a text into a text or the trampoline page holds them.
+#[tactic(auto, using(crate::proofs::Where::behind_opcode_only))]
+pub fn pattern_places()
+    ensures behind_opcode { BehindOpcode }
+    ensures at_modrm { AtModrm }
+    ensures not_in_jumps { NotInJumps }
+{}
+
+/// A valid instruction leaves two helpers free, which differ.
+pub fn free_helpers()
+    ensures { Helpers }
+{}
+
+/// Each form of a valid instruction fits its slot.
+#[tactic(auto, using(crate::proofs::Small::forms_small))]
+pub fn forms_small()
+    ensures { FormsSmall }
+{}
+
+/// Which instructions have an immediate of four or of eight bytes.
+pub fn wide_immediates()
+    ensures four { WithFour }
+    ensures eight { WithEight }
+{}
+
+/// Where the bytes of VMFUNC stand across two instructions.
+pub fn across_borders()
+    ensures none { NoneWithD4 }
+    ensures one { OneWith01D4 }
+    ensures across { AcrossBorder }
+{}
