@@ -1,9 +1,7 @@
 //! Worked texts: their listings, what they are rewritten to, and why they are refused.
 
 use sb_insn::{Disp, Imm, Insn, Op};
-use sb_rewrite::{
-    AREA_SIZE, Edit, ListRefusal, RewriteRefusal, Rewritten, direct_target, list, rewrite,
-};
+use sb_rewrite::{AREA_SIZE, Edit, ListRefusal, RewriteRefusal, Rewritten, list, rewrite};
 use std::alloc::Global;
 use std::test::Fail;
 
@@ -67,7 +65,7 @@ fn says_where_a_direct_jump_leads(rt: HostRuntime) {
         ("SYSCALL", Op::Two(0x05), Imm::None, 0x40_0000, None),
     ];
     for (name, op, imm, at, target) in rows {
-        assert_eq!(rt; direct_target(&plain(op, imm), at), target, "{name}");
+        assert_eq!(rt; plain(op, imm).direct_target(at), target, "{name}");
     }
 }
 
