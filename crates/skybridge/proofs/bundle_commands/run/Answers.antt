@@ -3,7 +3,7 @@ use Rattle.sb_trace.proofs.Runs.{run_more}
 use Rattle.sb_trace.specs.State.{State}
 use Rattle.sb_trace.specs.Step.{Steps}
 use Rattle.skybridge.proofs.Schedule.{entry_below}
-use Rattle.skybridge.proofs.replay.run.Goals as goal
+use Rattle.skybridge.proofs.bundle_commands.run.Goals as goal
 
 pub step-requires : goal.step-requires
 step-requires c =

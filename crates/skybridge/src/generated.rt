@@ -6,8 +6,8 @@ ghost use Rattle.sb_load.specs.Loading.{Loads};
 ghost use Rattle.skybridge.specs.Generator.{generated};
 ghost use Rattle.skybridge.specs.Summary.{IsSummary};
 
+use crate::bundle_commands::whole_run;
 use crate::generator::gen_bundle;
-use crate::replay::whole_run;
 use crate::summary::summary_text;
 use sb_bundle::write_bundle;
 use sb_load::{LoadRefusal, Loaded, load};

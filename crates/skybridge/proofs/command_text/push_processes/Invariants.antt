@@ -1,7 +1,7 @@
 -- The text so far and that of the processes that are left make up the whole.
 use Rattle.std.proofs.Common.{◌≡◌, ◌++◌, string_bytes, drop}
-use Rattle.skybridge.specs.Listings.{processes_text}
-use Rattle.skybridge.proofs.listings.push_processes.Given as goal
+use Rattle.skybridge.specs.CommandText.{processes_text}
+use Rattle.skybridge.proofs.command_text.push_processes.Given as goal
 
 abbrev pub invariant-loop-number : goal.invariant-loop-number
 invariant-loop-number l =

@@ -60,5 +60,5 @@ rewrite_text load = processes_text load.rewritten 0 load.bundle.images ++ codes 
 -- ---- of a bundle
 
 -- the bundle is loaded, and this is written of it
-abbrev pub IsListing : (Load → List ℕ) → Bundle → List ℕ → Type 0
-IsListing list bundle text = (load : Load) × Loads bundle (Ok load) × (text ≡ list load)
+abbrev pub IsCommandText : (Load → List ℕ) → Bundle → List ℕ → Type 0
+IsCommandText list bundle text = (load : Load) × Loads bundle (Ok load) × (text ≡ list load)

@@ -1,7 +1,7 @@
 use Rattle.std.proofs.Common.{◌≡◌, ◌++◌, string_bytes, take}
 use Rattle.std.specs.Prelude.{flat_map}
-use Rattle.skybridge.specs.Listings.{edit_text}
-use Rattle.skybridge.proofs.listings.push_edits.Given as goal
+use Rattle.skybridge.specs.CommandText.{edit_text}
+use Rattle.skybridge.proofs.command_text.push_edits.Given as goal
 
 abbrev pub invariant-loop-edit : goal.invariant-loop-edit
 invariant-loop-edit l =

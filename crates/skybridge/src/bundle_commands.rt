@@ -9,7 +9,7 @@ ghost use Rattle.skybridge.specs.Output.{IsReport, IsOutput};
 ghost use Rattle.skybridge.specs.Answer.{Reports, ReportsBundle};
 ghost use Rattle.sb_bundle.specs.Limits.{IsBundle, AllBelow};
 
-use crate::listings::{check_text, rewrite_text};
+use crate::command_text::{check_text, rewrite_text};
 use crate::words::BundleCommand;
 use sb_bundle::{Bundle, BundleRefusal, read_bundle};
 use sb_load::{LoadRefusal, Loaded, load};

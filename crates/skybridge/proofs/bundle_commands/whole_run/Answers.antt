@@ -1,7 +1,7 @@
 use Rattle.std.proofs.Common.{ap, ◌∙◌}
 use Rattle.sb_bundle.specs.declared.bundle.Bundle.{Bundle}
 use Rattle.skybridge.proofs.Schedule.{threads_enough}
-use Rattle.skybridge.proofs.replay.whole_run.Goals as goal
+use Rattle.skybridge.proofs.bundle_commands.whole_run.Goals as goal
 
 pub run-requires : goal.run-requires
 run-requires c =

@@ -1,18 +1,16 @@
 //! What `check` and `rewrite` write.
 
 ghost use Rattle.std.specs.Prelude.{◌≡◌, ◌++◌, IfOk, OnOk, take, drop, flat_map, string_bytes};
-ghost use Rattle.skybridge.specs.Listings.{check_text as text_of_check, bytes_text, bytes_at as bytes_from, slot_text, edit_text, process_text, processes_text, rewrite_text as text_of_rewrite};
+ghost use Rattle.skybridge.specs.CommandText.{check_text as text_of_check, bytes_text, bytes_at as bytes_from, slot_text, edit_text, process_text, processes_text, rewrite_text as text_of_rewrite};
 
+use sb_abi::KEPT_FRAMES;
 use sb_bundle::Image;
 use sb_load::Loaded;
 use sb_rewrite::{AREA_ADDRESS, Edit, Rewritten, TEXT_ADDRESS};
 use std::alloc::{AllocError, Global};
 
-/// The machine keeps the first frames for itself.
-const KEPT_FRAMES: u32 = 512;
-
 /// The line of `check`: `ok`, the frames that the bundle takes, and those that it has.
-#[tactic(auto, unfolding(crate::specs::Listings::check_text))]
+#[tactic(auto, unfolding(crate::specs::CommandText::check_text))]
 pub fn check_text(alloc: Global, loaded: &Loaded) -> Result<String, AllocError>
     ensures { IfOk result (λ text. string_bytes text ≡ text_of_check loaded.now) }
 {
@@ -62,7 +60,7 @@ fn push_slot(out: &mut String, area: &[u8], slot: Option<(u64, u8)>) -> Result<(
     out.push_str("\n")
 }
 
-#[tactic(auto, unfolding(crate::specs::Listings::edit_text))]
+#[tactic(auto, unfolding(crate::specs::CommandText::edit_text))]
 fn push_edit(out: &mut String, text: &[u8], made: &Rewritten, edit: &Edit) -> Result<(), AllocError>
     ensures { OnOk result (string_bytes out.new ≡ string_bytes out.old ++ edit_text text.now made.now edit.now) }
 {
@@ -89,7 +87,7 @@ fn push_edits(
     Ok(())
 }
 
-#[tactic(auto, unfolding(crate::specs::Listings::process_text))]
+#[tactic(auto, unfolding(crate::specs::CommandText::process_text))]
 fn push_process(
     out: &mut String,
     number: usize,
@@ -113,7 +111,7 @@ fn push_processes(out: &mut String, loaded: &Loaded) -> Result<(), AllocError>
 
 /// The text of `rewrite`: for each process its number, and for each instruction that was rewritten its address, its old and
 /// its new bytes, and its slot where it was moved; last `end`.
-#[tactic(auto, unfolding(crate::specs::Listings::rewrite_text))]
+#[tactic(auto, unfolding(crate::specs::CommandText::rewrite_text))]
 pub fn rewrite_text(alloc: Global, loaded: &Loaded) -> Result<String, AllocError>
     ensures { IfOk result (λ text. string_bytes text ≡ text_of_rewrite loaded.now) }
 {

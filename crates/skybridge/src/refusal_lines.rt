@@ -1,4 +1,4 @@
-//! The lines of the refusals that name a place.
+//! The lines of the refusals.
 
 ghost use Rattle.std.specs.Prelude.{◌≡◌, IfOk, string_bytes};
 ghost use Rattle.skybridge.specs.Lines.{bundle_line as line_of_bundle, load_line as line_of_load};
@@ -6,6 +6,15 @@ ghost use Rattle.skybridge.specs.Lines.{bundle_line as line_of_bundle, load_line
 use sb_bundle::BundleRefusal;
 use sb_load::LoadRefusal;
 use std::alloc::{AllocError, Global};
+
+/// The line where the words are no command.
+pub const USAGE_LINE: &str = "usage: skybridge --help\n";
+
+/// The line where the source failed.
+pub const READ_FAULT_LINE: &str = "read fault\n";
+
+/// The line where the input is longer than the limit.
+pub const TOO_LONG_LINE: &str = "input too long\n";
 
 /// The line of a bundle's refusal: its name and the offset of the field.
 pub fn bundle_line(alloc: Global, refusal: BundleRefusal) -> Result<String, AllocError>
