@@ -3,14 +3,14 @@ use Rattle.std.proofs.Common.{◌≡◌, ℕ, [], refl, sym}
 use Rattle.std.specs.Prelude.{Result, Ok, Err}
 use Rattle.sb_memory.specs.Outcome.{and_then}
 use Rattle.sb_insn.specs.declared.registers.Regs.{Regs}
-use Rattle.sb_exec.specs.declared.stop.BusStop.{BusStop}
+use Rattle.sb_bus.specs.declared.stop.BusStop.{BusStop}
 use Rattle.sb_exec.specs.declared.action.Effect.{Effect}
 use Rattle.sb_exec.specs.declared.action.Load.{Load}
 use Rattle.sb_exec.specs.declared.action.Load.TheVariants as load
 use Rattle.sb_exec.specs.declared.action.Store.{Store}
 use Rattle.sb_exec.specs.declared.action.Store.TheVariants as store
 use Rattle.sb_exec.specs.declared.action.After.{After}
-use Rattle.sb_exec.specs.Interface.{Interface}
+use Rattle.sb_bus.specs.Interface.{Interface}
 use Rattle.sb_exec.specs.Row.{Row, accesses, store_accesses}
 use Rattle.sb_exec.specs.Execution.{Execution, execution_of, execution_by, run, run_on}
 use Rattle.sb_exec.specs.Steps.{load_then_store, store_after_load, effect_if, registers_if}

@@ -5,7 +5,7 @@ use Rattle.sb_insn.specs.declared.insn.Insn.{Insn}
 use Rattle.sb_insn.specs.Spelling.{spelling}
 use Rattle.sb_insn.specs.Grammar.{IsValid, BeginsWith}
 use Rattle.sb_decode.proofs.Exact.{none_begins_another}
-use Rattle.sb_exec.specs.declared.stop.BusStop.{BusStop}
+use Rattle.sb_bus.specs.declared.stop.BusStop.{BusStop}
 use Rattle.sb_exec.specs.Fetching.{Stands, HasShortFronts, Fetches}
 
 -- no instruction begins a proper front of a spelling

@@ -2,9 +2,9 @@
 use Rattle.std.proofs.Common.{ℕ, List, [], ◌∷◌, Result, Ok, Err}
 use Rattle.sb_insn.specs.declared.registers.Regs.{Regs}
 use Rattle.sb_memory.specs.declared.address.Access.TheVariants as access
-use Rattle.sb_exec.specs.declared.stop.BusStop.{BusStop}
-use Rattle.sb_exec.specs.Interface.{Interface}
-use Rattle.sb_exec.specs.Access.{store_answer, byte_for, where_stored}
+use Rattle.sb_bus.specs.declared.stop.BusStop.{BusStop}
+use Rattle.sb_bus.specs.Interface.{Interface}
+use Rattle.sb_bus.specs.Access.{store_answer, byte_for, where_stored}
 use Rattle.sb_exec.specs.Row.{Row, MemoryAccess, Loads, LoadsToWrite, Stores, accesses}
 use Rattle.sb_exec.specs.Execution.{Run, run, run_on, access_answer, meaning_after, call_of, execution_of}
 

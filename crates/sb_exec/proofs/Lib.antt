@@ -1,6 +1,4 @@
 pub mod Accesses
-pub mod Loads
-pub mod TestBus
 pub mod Left
 pub mod Named
 pub mod Effects

@@ -6,8 +6,8 @@ use Rattle.sb_insn.specs.declared.insn.Insn.{Insn}
 use Rattle.sb_insn.specs.Spelling.{spelling}
 use Rattle.sb_insn.specs.Grammar.{Spells, BeginsWith, IsShort, IsUndecoded}
 use Rattle.sb_decode.proofs.Exact.{spelled_apart}
-use Rattle.sb_exec.specs.declared.stop.BusStop.{BusStop}
-use Rattle.sb_exec.specs.Interface.{Interface}
+use Rattle.sb_bus.specs.declared.stop.BusStop.{BusStop}
+use Rattle.sb_bus.specs.Interface.{Interface}
 use Rattle.sb_exec.specs.Fetching.{further, Stands, HasShortFronts, EndsFetch, Fetches, OneFetch, fetch_of, after_fetches, OneFetchOn}
 
 same_ok : (first second : ℕ) (answer : Result ℕ BusStop) → answer ≡ Ok first → answer ≡ Ok second → first ≡ second

@@ -3,12 +3,12 @@ use Rattle.std.proofs.Common.{◌≡◌, ◌∙◌, sym, ap, subst, ℕ, zero, s
 use Rattle.std.specs.Prelude.{Result, Ok, Err}
 use Rattle.std.proofs.Math.Path.{fun_ext}
 use Rattle.sb_memory.specs.declared.address.Access.TheVariants as access
-use Rattle.sb_exec.specs.declared.stop.BusStop.{BusStop}
+use Rattle.sb_bus.specs.declared.stop.BusStop.{BusStop}
 use Rattle.sb_insn.specs.declared.registers.Regs.{Regs}
 use Rattle.sb_exec.specs.declared.action.Effect.{Effect}
 use Rattle.sb_memory.specs.Outcome.{and_then, done}
-use Rattle.sb_exec.specs.Access.{bytes_from, number_of, loaded_from, store_answer, where_stored}
-use Rattle.sb_exec.specs.Interface.{Interface}
+use Rattle.sb_bus.specs.Access.{bytes_from, number_of, loaded_from, store_answer, where_stored}
+use Rattle.sb_bus.specs.Interface.{Interface}
 use Rattle.sb_exec.specs.Row.{Row, MemoryAccess, Loads, LoadsToWrite, Stores, accesses}
 use Rattle.sb_exec.specs.Execution.{Run, Execution, Executes, run, run_on, execution_of, access_answer, meaning_after, execution_by, effect_after, registers_after}
 use Rattle.sb_exec.specs.Simulation.{told, WhereOk, StoresKeep, BytesAgree, AgreeFrom, AgreeAt, AgreeAlong, SameExecution, RowsAgreeing, RowsTold, Alike, RowsAlike, SameEnd, ExecutesAgreeing, ExecutesTold, RowsKeep}

@@ -9,10 +9,10 @@ use Rattle.sb_insn.specs.declared.registers.Regs.{Regs}
 use Rattle.sb_insn.specs.OpcodeMap.{two_byte, cell_of}
 use Rattle.sb_insn.specs.Listing.{instruction_in, instruction_of}
 use Rattle.sb_insn.specs.Grammar.{IsValid}
-use Rattle.sb_exec.specs.declared.stop.BusStop.{BusStop}
+use Rattle.sb_bus.specs.declared.stop.BusStop.{BusStop}
 use Rattle.sb_exec.specs.declared.action.Effect.{Effect}
 use Rattle.sb_exec.specs.declared.action.Effect.TheVariants as effect
-use Rattle.sb_exec.specs.Interface.{Interface}
+use Rattle.sb_bus.specs.Interface.{Interface}
 use Rattle.sb_exec.specs.Row.{accesses}
 use Rattle.sb_exec.specs.Execution.{execution_of, effect_after, run}
 use Rattle.sb_exec.specs.Actions.{action_by, action_for, action_of}

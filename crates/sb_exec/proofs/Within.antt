@@ -2,11 +2,11 @@
 use Rattle.std.proofs.Common.{◌≡◌, ℕ, zero, suc, ◌+◌, ◌%◌, ◌^◌, Bool, List, [], ◌∷◌, refl}
 use Rattle.std.specs.Prelude.{Result, Ok, Err}
 use Rattle.sb_memory.specs.declared.address.Access.TheVariants as access
-use Rattle.sb_exec.specs.declared.stop.BusStop.{BusStop}
+use Rattle.sb_bus.specs.declared.stop.BusStop.{BusStop}
 use Rattle.sb_exec.specs.declared.action.Effect.{Effect}
 use Rattle.sb_memory.specs.Outcome.{and_then, done}
-use Rattle.sb_exec.specs.Access.{bytes_from, loaded_from, store_answer, byte_for, byte_for_write}
-use Rattle.sb_exec.specs.Interface.{Interface}
+use Rattle.sb_bus.specs.Access.{bytes_from, loaded_from, store_answer, byte_for, byte_for_write}
+use Rattle.sb_bus.specs.Interface.{Interface}
 use Rattle.sb_exec.specs.Row.{MemoryAccess, Loads, LoadsToWrite, Stores, accesses}
 use Rattle.sb_exec.specs.Execution.{Run, run, run_on, execution_of, access_answer, effect_after}
 use Rattle.sb_exec.specs.Simulation.{told, WhereOk, StoresKeep, IsIn, BytesAgreeIn, AgreeFrom, AgreeAt, AgreeAlong, RowsIn}

@@ -7,10 +7,10 @@ use Rattle.sb_insn.specs.declared.opcode_map.Mnemonic.TheVariants as mnemonic
 use Rattle.sb_insn.specs.declared.opcode_map.OperandForm.{OperandForm}
 use Rattle.sb_insn.specs.declared.opcode_map.Operand.{Operand}
 use Rattle.sb_insn.specs.Listing.{instruction_of, operand_for}
-use Rattle.sb_exec.specs.declared.size.Size.{Size}
-use Rattle.sb_exec.specs.declared.size.Size.TheVariants.{Byte}
+use Rattle.sb_alu.specs.declared.size.Size.{Size}
+use Rattle.sb_alu.specs.declared.size.Size.TheVariants.{Byte}
 use Rattle.sb_exec.specs.declared.action.Effect.TheVariants as effect
-use Rattle.sb_exec.specs.declared.action.Operation.TheVariants as operation
+use Rattle.sb_alu.specs.declared.operation.Operation.TheVariants as operation
 use Rattle.sb_exec.specs.declared.action.Exchange.TheVariants as exchange
 use Rattle.sb_exec.specs.declared.action.Action.{Action}
 use Rattle.sb_exec.specs.declared.action.Action.TheVariants.{Compute, ZeroExtend, LoadAddress, Exchange, Push, Pop, Return, Jump, JumpIf, Call, Pass, Stop}

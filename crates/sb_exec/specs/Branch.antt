@@ -5,9 +5,9 @@ use Rattle.sb_insn.specs.declared.registers.Regs.{Regs}
 use Rattle.sb_insn.specs.declared.registers.Flags.{Flags}
 use Rattle.sb_insn.specs.declared.opcode_map.OperandForm.{OperandForm}
 use Rattle.sb_insn.specs.declared.opcode_map.OperandForm.TheVariants.{Relative}
-use Rattle.sb_exec.specs.declared.size.Size.TheVariants.{Quad}
+use Rattle.sb_alu.specs.declared.size.Size.TheVariants.{Quad}
 use Rattle.sb_exec.specs.Operand.{general, with_register, next_rip}
-use Rattle.sb_exec.specs.Shift.{differ}
+use Rattle.sb_alu.specs.Shift.{differ}
 use Rattle.sb_exec.specs.WriteBack.{last_operand}
 
 -- ---- the stack, whose top is at the address in RSP, register 4

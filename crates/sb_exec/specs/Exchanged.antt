@@ -3,7 +3,7 @@
 use Rattle.std.specs.Prelude.{ℕ, ◌==◌, if◌then◌else◌}
 use Rattle.sb_insn.specs.declared.insn.Insn.{Insn}
 use Rattle.sb_insn.specs.declared.registers.Regs.{Regs}
-use Rattle.sb_exec.specs.declared.size.Size.{Size}
+use Rattle.sb_alu.specs.declared.size.Size.{Size}
 use Rattle.sb_exec.specs.declared.action.Exchange.{Exchange}
 use Rattle.sb_exec.specs.declared.action.Exchange.TheVariants as exchange
 use Rattle.sb_exec.specs.declared.action.Place.{Place}
@@ -11,7 +11,7 @@ use Rattle.sb_exec.specs.declared.action.Place.TheVariants.{Register, Memory}
 use Rattle.sb_exec.specs.declared.action.After.{After}
 use Rattle.sb_exec.specs.Operand.{reg_number, register, with_register}
 use Rattle.sb_exec.specs.Address.{rm_place}
-use Rattle.sb_exec.specs.Arithmetic.{added, subtracted, sum_of}
+use Rattle.sb_alu.specs.Arithmetic.{added, subtracted, sum_of}
 use Rattle.sb_exec.specs.WriteBack.{stepped, with_flags, keeping, storing, written, rm_value}
 
 -- reg gets what rm held, and then rm the new value

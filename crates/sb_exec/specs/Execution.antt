@@ -3,10 +3,10 @@ use Rattle.std.specs.Prelude.{ℕ, ◌≡◌, List, [], ◌∷◌, Result, Ok, E
 use Rattle.sb_memory.specs.declared.address.Access.TheVariants.{Read, Write}
 use Rattle.sb_memory.specs.Outcome.{and_then}
 use Rattle.sb_insn.specs.declared.registers.Regs.{Regs}
-use Rattle.sb_exec.specs.declared.stop.BusStop.{BusStop}
+use Rattle.sb_bus.specs.declared.stop.BusStop.{BusStop}
 use Rattle.sb_exec.specs.declared.action.Effect.{Effect}
-use Rattle.sb_exec.specs.Interface.{Interface, BusCall, LoadBytes, LoadForWrite, StoreBytes}
-use Rattle.sb_exec.specs.Access.{loaded_from, store_answer, byte_for, byte_for_write, where_stored}
+use Rattle.sb_bus.specs.Interface.{Interface, BusCall, LoadBytes, LoadForWrite, StoreBytes}
+use Rattle.sb_bus.specs.Access.{loaded_from, store_answer, byte_for, byte_for_write, where_stored}
 use Rattle.sb_exec.specs.Row.{Row, MemoryAccess, Loads, LoadsToWrite, Stores, accesses}
 
 -- ---- one access

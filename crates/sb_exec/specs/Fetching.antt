@@ -3,10 +3,10 @@ use Rattle.std.specs.Prelude.{ℕ, zero, suc, ◌≡◌, ◌⊎◌, ◌+◌, ◌
 use Rattle.sb_memory.specs.declared.address.Access.TheVariants.{Fetch}
 use Rattle.sb_insn.specs.declared.insn.Insn.{Insn}
 use Rattle.sb_insn.specs.Grammar.{Spells, IsShort, IsUndecoded}
-use Rattle.sb_exec.specs.declared.stop.BusStop.{BusStop}
-use Rattle.sb_exec.specs.declared.stop.BusStop.TheVariants.{Fault}
-use Rattle.sb_exec.specs.declared.stop.FaultKind.TheVariants.{Undefined}
-use Rattle.sb_exec.specs.Interface.{Interface, FetchByte}
+use Rattle.sb_bus.specs.declared.stop.BusStop.{BusStop}
+use Rattle.sb_bus.specs.declared.stop.BusStop.TheVariants.{Fault}
+use Rattle.sb_bus.specs.declared.stop.FaultKind.TheVariants.{Undefined}
+use Rattle.sb_bus.specs.Interface.{Interface, FetchByte}
 
 -- the address so many bytes further on
 abbrev pub further : ℕ → ℕ → ℕ

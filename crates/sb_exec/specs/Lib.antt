@@ -1,12 +1,12 @@
-pub mod Stop
-pub mod Interface
-pub mod Access
-pub mod Size
+pub use Rattle.sb_bus.specs.Stop
+pub use Rattle.sb_bus.specs.Interface
+pub use Rattle.sb_bus.specs.Access
+pub use Rattle.sb_alu.specs.Size
 pub mod Operand
 pub mod Address
-pub mod Arithmetic
-pub mod Shift
-pub mod Operated
+pub use Rattle.sb_alu.specs.Arithmetic
+pub use Rattle.sb_alu.specs.Shift
+pub use Rattle.sb_alu.specs.Operated
 pub mod WriteBack
 pub mod Exchanged
 pub mod Branch
@@ -17,4 +17,3 @@ pub mod Rows
 pub mod Steps
 pub mod Fetching
 pub mod Simulation
-pub mod TestBus

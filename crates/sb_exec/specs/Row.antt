@@ -6,7 +6,7 @@ use Rattle.sb_exec.specs.declared.action.Load.TheVariants as load
 use Rattle.sb_exec.specs.declared.action.Store.{Store}
 use Rattle.sb_exec.specs.declared.action.Store.TheVariants as store
 use Rattle.sb_exec.specs.declared.action.After.{After}
-use Rattle.sb_exec.specs.Size.{size_bytes}
+use Rattle.sb_alu.specs.Size.{size_bytes}
 
 -- what is loaded, what is stored after it, the registers and the stored number by the loaded one, and the effect
 pub record Row : Type 0 where

@@ -2,11 +2,11 @@
 use Rattle.std.specs.Prelude.{Bool, false, ℕ, zero, suc, ◌+◌, ◌%◌, ◌^◌, ◌≡◌, List, [], ◌∷◌, Result, Ok, Err}
 use Rattle.sb_memory.specs.declared.address.Access.{Access}
 use Rattle.sb_memory.specs.declared.address.Access.TheVariants as access
-use Rattle.sb_exec.specs.declared.stop.BusStop.{BusStop}
+use Rattle.sb_bus.specs.declared.stop.BusStop.{BusStop}
 use Rattle.sb_insn.specs.declared.registers.Regs.{Regs}
 use Rattle.sb_exec.specs.declared.action.Effect.{Effect}
-use Rattle.sb_exec.specs.Access.{store_answer, byte_for, byte_for_write}
-use Rattle.sb_exec.specs.Interface.{Interface}
+use Rattle.sb_bus.specs.Access.{store_answer, byte_for, byte_for_write}
+use Rattle.sb_bus.specs.Interface.{Interface}
 use Rattle.sb_exec.specs.Row.{Row, MemoryAccess, Loads, LoadsToWrite, Stores, accesses}
 use Rattle.sb_exec.specs.Execution.{Execution, Executes, execution_of, access_answer, meaning_after}
 

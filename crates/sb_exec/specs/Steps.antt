@@ -2,15 +2,15 @@
 use Rattle.std.specs.Prelude.{ℕ, Result, Ok, Err}
 use Rattle.sb_memory.specs.declared.address.Access.TheVariants.{Read, Write}
 use Rattle.sb_insn.specs.declared.registers.Regs.{Regs}
-use Rattle.sb_exec.specs.declared.stop.BusStop.{BusStop}
+use Rattle.sb_bus.specs.declared.stop.BusStop.{BusStop}
 use Rattle.sb_exec.specs.declared.action.Effect.{Effect}
 use Rattle.sb_exec.specs.declared.action.Load.{Load}
 use Rattle.sb_exec.specs.declared.action.Load.TheVariants as load
 use Rattle.sb_exec.specs.declared.action.Store.{Store}
 use Rattle.sb_exec.specs.declared.action.Store.TheVariants as store
-use Rattle.sb_exec.specs.Size.{size_bytes}
-use Rattle.sb_exec.specs.Interface.{Interface, LoadBytes, LoadForWrite, StoreBytes}
-use Rattle.sb_exec.specs.Access.{loaded_from, store_answer, byte_for, byte_for_write, where_stored}
+use Rattle.sb_alu.specs.Size.{size_bytes}
+use Rattle.sb_bus.specs.Interface.{Interface, LoadBytes, LoadForWrite, StoreBytes}
+use Rattle.sb_bus.specs.Access.{loaded_from, store_answer, byte_for, byte_for_write, where_stored}
 use Rattle.sb_exec.specs.Row.{Row}
 use Rattle.sb_exec.specs.Execution.{Execution}
 

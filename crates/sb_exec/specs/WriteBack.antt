@@ -5,17 +5,17 @@ use Rattle.sb_insn.specs.declared.registers.Regs.{Regs}
 use Rattle.sb_insn.specs.declared.registers.Flags.{Flags}
 use Rattle.sb_insn.specs.declared.opcode_map.OperandForm.{OperandForm}
 use Rattle.sb_insn.specs.declared.opcode_map.OperandForm.TheVariants.{RmReg, RegRm, RmImm, AccImm, OpcodeImm, RegRmImm, RmCount, RmCl, Rm, Opcode, Imm, Relative, Nothing}
-use Rattle.sb_exec.specs.declared.size.Size.{Size}
-use Rattle.sb_exec.specs.declared.size.Size.TheVariants.{Byte}
-use Rattle.sb_exec.specs.declared.action.Operation.{Operation}
+use Rattle.sb_alu.specs.declared.size.Size.{Size}
+use Rattle.sb_alu.specs.declared.size.Size.TheVariants.{Byte}
+use Rattle.sb_alu.specs.declared.operation.Operation.{Operation}
 use Rattle.sb_exec.specs.declared.action.Place.{Place}
 use Rattle.sb_exec.specs.declared.action.Place.TheVariants.{Register, Memory}
-use Rattle.sb_exec.specs.declared.action.Outcome.{Outcome}
+use Rattle.sb_alu.specs.declared.operation.Outcome.{Outcome}
 use Rattle.sb_exec.specs.declared.action.After.{After}
-use Rattle.sb_exec.specs.Size.{low}
+use Rattle.sb_alu.specs.Size.{low}
 use Rattle.sb_exec.specs.Operand.{reg_number, opcode_number, operand_value, register, with_register, imm_value, next_rip}
 use Rattle.sb_exec.specs.Address.{rm_place}
-use Rattle.sb_exec.specs.Operated.{operated}
+use Rattle.sb_alu.specs.Operated.{operated}
 
 -- ---- registers after an instruction
 

@@ -1,7 +1,7 @@
 //! What an instruction does, apart from the numbers of its operands.
 
-use crate::size::Size;
-use sb_insn::{Flags, OperandForm, Regs};
+use sb_alu::{Operation, Size};
+use sb_insn::{OperandForm, Regs};
 use sb_memory::Linear;
 
 /// What follows an instruction.
@@ -15,36 +15,6 @@ pub enum Effect {
     Switch,
     /// UD2.
     Undefined,
-}
-
-/// A function of two numbers, the destination's first, that gives a number and flags.
-#[derive(Clone, Copy, Debug, PartialEq, Eq)]
-pub enum Operation {
-    Add,
-    Or,
-    And,
-    Sub,
-    Xor,
-    /// SUB of which only the flags are kept.
-    Compare,
-    /// AND of which only the flags are kept.
-    Test,
-    Move,
-    /// Each bit turned; of the first number, as the next three.
-    Not,
-    Negate,
-    Increment,
-    Decrement,
-    /// The signed product.
-    Multiply,
-    /// The second number is the count, as in the next two.
-    ShiftLeft,
-    /// Zeros come in from the left.
-    ShiftRight,
-    /// Copies of the top bit come in from the left.
-    ShiftSigned,
-    /// The place of the lowest bit that is set in the second number.
-    ScanForward,
 }
 
 /// The instructions that write rm and another operand.
@@ -122,14 +92,6 @@ pub enum Load {
 pub enum Store {
     Nothing,
     At(Linear, Size),
-}
-
-/// What an operation gives.
-#[derive(Clone, Copy, Debug, PartialEq, Eq)]
-pub struct Outcome {
-    /// The number that is to be written, if one is.
-    pub value: Option<u64>,
-    pub flags: Flags,
 }
 
 /// What an instruction leaves once its load is done.

@@ -14,9 +14,8 @@ ghost use Rattle.sb_exec.specs.Branch.{
 };
 
 use crate::operand::{next_rip, set_register};
-use crate::shift::differ;
-use crate::size::Size;
 use crate::write_back::last_operand;
+use sb_alu::Size;
 use sb_insn::{Flags, Insn, OperandForm, Regs};
 
 /// The number of RSP.
@@ -86,8 +85,8 @@ fn even_condition(half: u8, flags: &Flags) -> bool
         3 => flags.cf || flags.zf,
         4 => flags.sf,
         5 => flags.pf,
-        6 => differ(flags.sf, flags.of),
-        _ => flags.zf || differ(flags.sf, flags.of),
+        6 => flags.sf != flags.of,
+        _ => flags.zf || flags.sf != flags.of,
     }
 }
 
@@ -95,7 +94,7 @@ fn even_condition(half: u8, flags: &Flags) -> bool
 fn condition(number: u8, flags: &Flags) -> bool
     ensures { result ≡ condition_of number flags.now }
 {
-    differ(even_condition(number / 2, flags), number % 2 == 1)
+    even_condition(number / 2, flags) != (number % 2 == 1)
 }
 
 /// The registers after a jump that is made where the condition holds.

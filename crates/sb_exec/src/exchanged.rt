@@ -1,7 +1,7 @@
 //! The instructions that write rm and another operand. `old` is what rm holds, `source` what reg holds.
 
 ghost use Rattle.std.specs.Prelude.{◌≡◌, ◌<◌};
-ghost use Rattle.sb_exec.specs.Size.{modulus};
+ghost use Rattle.sb_alu.specs.Size.{modulus};
 ghost use Rattle.sb_exec.specs.Operand.{IsPlace};
 ghost use Rattle.sb_exec.specs.Exchanged.{
   exchanged as exchanged_of,
@@ -14,10 +14,9 @@ ghost use Rattle.sb_exec.specs.Exchanged.{
 
 use crate::action::{After, Exchange, Place};
 use crate::address::rm_place;
-use crate::arithmetic::{added, subtracted, sum};
 use crate::operand::{reg_number, register, set_register};
-use crate::size::Size;
 use crate::write_back::{rm_value, stepped, written};
+use sb_alu::{Size, added, subtracted, sum};
 use sb_insn::{Insn, Regs};
 
 /// The number of RAX.

@@ -4,8 +4,7 @@ ghost use Rattle.std.specs.Prelude.{◌≡◌, IfOk, IfSome};
 ghost use Rattle.sb_insn.specs.Grammar.{IsValid, BeginsWith};
 ghost use Rattle.sb_exec.specs.Fetching.{FetchesOn, OneFetch, OneFetchOn};
 
-use crate::bus::Bus;
-use crate::stop::{BusStop, FaultKind};
+use sb_bus::{Bus, BusStop, FaultKind};
 use sb_decode::{DecodeFault, decode};
 use sb_insn::Insn;
 use sb_memory::Linear;

@@ -22,33 +22,22 @@
 
 mod action;
 mod address;
-mod arithmetic;
 mod branch;
-mod bus;
 mod exchanged;
 mod fetch;
 mod operand;
-mod operated;
 mod pair;
 mod rows;
-mod shift;
-mod size;
 mod step;
-mod stop;
 mod table;
 mod write_back;
 
-pub use action::{
-    Action, After, Effect, Exchange, Load, MemoryUse, Operation, Outcome, Place, Store,
-};
-pub use bus::Bus;
+pub use action::{Action, After, Effect, Exchange, Load, MemoryUse, Place, Store};
 pub use fetch::{fetch_insn, first_insn, one_fetch, one_fetch_on};
 pub use pair::{
     Pair, executes_agreeing, executes_told, rows_agreeing, rows_alike, rows_in, rows_told,
 };
-pub use size::Size;
+pub use sb_alu::{Operation, Outcome, Size};
+pub use sb_bus::{Bus, BusStop, FaultKind};
 pub use step::execute;
-pub use stop::{BusStop, FaultKind};
 
-#[cfg(test)]
-mod tests;

@@ -1,7 +1,7 @@
 //! The fields of an instruction as numbers, and registers at a size.
 
 ghost use Rattle.std.specs.Prelude.{◌≡◌, ◌<◌};
-ghost use Rattle.sb_exec.specs.Size.{modulus};
+ghost use Rattle.sb_alu.specs.Size.{modulus};
 ghost use Rattle.sb_exec.specs.Operand.{
   rex_bit as rex_bit_of,
   modrm_of,
@@ -20,7 +20,7 @@ ghost use Rattle.sb_exec.specs.Operand.{
 };
 
 use crate::action::Place;
-use crate::size::Size;
+use sb_alu::Size;
 use sb_insn::{Imm, Insn, Op, Regs};
 
 // ---- fields

@@ -4,7 +4,7 @@ ghost use Rattle.sb_exec.specs.Simulation.{RowsAgreeing, RowsTold, RowsAlike, Ro
 
 /// Two families of memories, and a relation between their meanings. It has no values: a type stands for the pair.
 pub trait Pair {
-    ghost use Rattle.sb_exec.specs.Interface.{Interface};
+    ghost use Rattle.sb_bus.specs.Interface.{Interface};
 
     /// Which of the family, as a thread and its view.
     ghost Of: { Type 0 };

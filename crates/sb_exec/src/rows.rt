@@ -16,13 +16,13 @@ ghost use Rattle.sb_exec.specs.Rows.{
   effect_of,
 };
 
-use crate::action::{Action, After, Effect, Load, MemoryUse, Operation, Place, Store};
+use crate::action::{Action, After, Effect, Load, MemoryUse, Place, Store};
 use crate::address::{operand_address, rm_place};
 use crate::branch::{jumped_if, popped, popped_into, pushed, stack_top, target, top_pushed};
 use crate::exchanged::exchange_after;
 use crate::operand::{next_rip, opcode_number, reg_number, set_register};
-use crate::size::Size;
 use crate::write_back::{computed, last_operand, rm_value, stepped};
+use sb_alu::{Operation, Size};
 use sb_insn::{Insn, OperandForm, Regs};
 use sb_memory::Linear;
 

@@ -7,10 +7,9 @@ ghost use Rattle.sb_exec.specs.Steps.{row_load_answer, row_load_account, row_sto
 ghost use Rattle.sb_exec.specs.Rows.{row_of};
 
 use crate::action::{Effect, Load, Store};
-use crate::bus::Bus;
 use crate::rows::{after, effect, load, store};
-use crate::stop::BusStop;
 use crate::table::action;
+use sb_bus::{Bus, BusStop};
 use sb_insn::{Insn, Op, Regs};
 
 /// Loads a number, 0 where nothing is loaded.

@@ -3,9 +3,9 @@
 ghost use Rattle.std.specs.Prelude.{◌≡◌};
 ghost use Rattle.sb_exec.specs.Actions.{moved_size as moved_size_of, condition_number as condition_number_of, action_by, action_of};
 
-use crate::action::{Action, Effect, Exchange, Operation};
+use crate::action::{Action, Effect, Exchange};
 use crate::operand::{opcode, operand_size};
-use crate::size::Size;
+use sb_alu::{Operation, Size};
 use sb_insn::{Insn, Mnemonic, OperandForm, instruction_of, operand_for};
 
 /// The size of what MOV moves: a byte where the opcode says so.

@@ -1,7 +1,7 @@
 //! The operands of a form, and where its result goes.
 
 ghost use Rattle.std.specs.Prelude.{◌≡◌, ◌<◌};
-ghost use Rattle.sb_exec.specs.Size.{modulus};
+ghost use Rattle.sb_alu.specs.Size.{modulus};
 ghost use Rattle.sb_exec.specs.Operand.{IsPlace};
 ghost use Rattle.sb_exec.specs.WriteBack.{
   stepped as stepped_of,
@@ -14,13 +14,12 @@ ghost use Rattle.sb_exec.specs.WriteBack.{
   computed as computed_of,
 };
 
-use crate::action::{After, Operation, Place};
+use crate::action::{After, Place};
 use crate::address::rm_place;
 use crate::operand::{
     imm_value, next_rip, opcode_number, operand_value, reg_number, register, set_register,
 };
-use crate::operated::operate;
-use crate::size::Size;
+use sb_alu::{Operation, Size, operate};
 use sb_insn::{Insn, OperandForm, Regs};
 
 /// The number of RCX, whose lowest byte is CL.

@@ -4,12 +4,12 @@ use Rattle.std.specs.Prelude.{Option, Some, None, if◌then◌else◌}
 use Rattle.std.proofs.lemmas.Bool.Decides.{Decides-eqb}
 use Rattle.sb_insn.specs.declared.registers.Regs.{Regs}
 use Rattle.sb_tramp.specs.Landing.{EachPhaseStands}
-use Rattle.sb_trace.specs.declared.end.EndKind.{EndKind}
-use Rattle.sb_trace.specs.declared.end.EndKind.TheVariants.{Running}
+use Rattle.sb_state.specs.declared.end_kind.EndKind.{EndKind}
+use Rattle.sb_state.specs.declared.end_kind.EndKind.TheVariants.{Running}
 use Rattle.sb_trace.specs.declared.event.Event.{Event}
-use Rattle.sb_trace.specs.declared.page.Page.{Page}
-use Rattle.sb_trace.specs.declared.page.PageName.TheVariants.{Record}
-use Rattle.sb_trace.specs.declared.state.Flight.{Flight}
+use Rattle.sb_state.specs.declared.page.Page.{Page}
+use Rattle.sb_state.specs.declared.page.PageName.TheVariants.{Record}
+use Rattle.sb_state.specs.declared.state.Flight.{Flight}
 use Rattle.sb_trace.specs.State.{State, contents, find_page, thread_at, flight_at, with_flight}
 use Rattle.sb_trace.specs.Home.{Outcome}
 use Rattle.sb_trace.specs.Flight.{first_flight, flown}

@@ -6,18 +6,18 @@ use Rattle.std.proofs.lemmas.Bool.{cases_eq, and_parts}
 use Rattle.std.proofs.lemmas.Bool.Decides.{Decides-eqb}
 use Rattle.std.proofs.lemmas.List.{length-set}
 use Rattle.sb_tramp.specs.declared.record_words.RecordWords.{RecordWords}
-use Rattle.sb_trace.specs.declared.page.Page.{Page}
-use Rattle.sb_trace.specs.declared.page.PageName.{PageName}
-use Rattle.sb_trace.specs.declared.page.PageName.TheVariants.{Pool, Record}
-use Rattle.sb_trace.specs.declared.state.Binding.{Binding}
-use Rattle.sb_trace.specs.declared.state.Registration.{Registration}
-use Rattle.sb_trace.specs.declared.state.Thread.{Thread}
+use Rattle.sb_state.specs.declared.page.Page.{Page}
+use Rattle.sb_state.specs.declared.page.PageName.{PageName}
+use Rattle.sb_state.specs.declared.page.PageName.TheVariants.{Pool, Record}
+use Rattle.sb_state.specs.declared.state.Binding.{Binding}
+use Rattle.sb_state.specs.declared.state.Registration.{Registration}
+use Rattle.sb_state.specs.declared.state.Thread.{Thread}
 use Rattle.sb_trace.specs.PageName.{same_name}
 use Rattle.sb_trace.specs.State.{State, Process, find_page, thread_at, with_thread, flight_at, process_at, registration_of, registration_at}
 use Rattle.sb_trace.specs.KernelCall.{binding_in, handler_in}
 use Rattle.sb_trace.specs.Start.{named, record_bytes}
-use Rattle.sb_trace.specs.SystemCall.{has_index, first_key, server_words, binding_pages, with_binding, new_binding}
-use Rattle.sb_trace.proofs.Pages.{either, found_added}
+use Rattle.sb_trace.specs.SyscallBind.{has_index, first_key, server_words, binding_pages, with_binding, new_binding}
+use Rattle.sb_state.proofs.Pages.{either, found_added}
 use Rattle.sb_trace.proofs.Threads.{thread_other, only_thread}
 use Rattle.sb_landing.specs.Bound.{HasPoolBytes, RecordsAreBound, IsBindingSound, IsDecidedView, IsBound}
 use Rattle.sb_landing.specs.Laws.{IsFreeIndex, CanBind, BindingsKeepBound}

@@ -11,13 +11,13 @@ use Rattle.byteorder.specs.Endian.{little_bytes}
 use Rattle.byteorder.specs.Numbers.{little_from-lt}
 use Rattle.sb_memory.specs.Words.{word_at, put_word}
 use Rattle.sb_insn.specs.declared.registers.Regs.{Regs}
-use Rattle.sb_trace.specs.declared.page.Page.{Page}
-use Rattle.sb_trace.specs.declared.page.PageName.TheVariants.{Pool, Record}
-use Rattle.sb_trace.specs.declared.state.Binding.{Binding}
-use Rattle.sb_trace.specs.declared.state.Decision.{Decision}
-use Rattle.sb_trace.specs.declared.state.Decision.TheVariants as decision
-use Rattle.sb_trace.specs.declared.state.Flight.{Flight}
-use Rattle.sb_trace.specs.declared.state.Thread.{Thread}
+use Rattle.sb_state.specs.declared.page.Page.{Page}
+use Rattle.sb_state.specs.declared.page.PageName.TheVariants.{Pool, Record}
+use Rattle.sb_state.specs.declared.state.Binding.{Binding}
+use Rattle.sb_state.specs.declared.state.Decision.{Decision}
+use Rattle.sb_state.specs.declared.state.Decision.TheVariants as decision
+use Rattle.sb_state.specs.declared.state.Flight.{Flight}
+use Rattle.sb_state.specs.declared.state.Thread.{Thread}
 use Rattle.sb_trace.specs.PageName.{same_name}
 use Rattle.sb_trace.specs.State.{State, find_page, replaced, bytes_of, contents, with_contents, thread_at, with_thread, with_view, flight_at, with_flight, process_at, registration_at}
 use Rattle.sb_trace.specs.PageWords.{with_word}
@@ -27,10 +27,11 @@ use Rattle.sb_trace.specs.KernelCall.{binding_in, pool_word, lowest_bit}
 use Rattle.sb_trace.specs.Flight.{flown}
 use Rattle.sb_trace.specs.Sound.{StandsAtSwitch, IsUndecided, IsDecidedSound, IsFlightSound}
 use Rattle.sb_trace.proofs.Flights.{flight_of}
-use Rattle.sb_trace.proofs.Names.{name_same}
+use Rattle.sb_state.proofs.Names.{name_same}
 use Rattle.std.specs.Option.{option_map}
-use Rattle.sb_trace.proofs.Pages.{with_bytes, found_same, found_other}
-use Rattle.sb_trace.proofs.Threads.{thread_set, thread_other, only_thread, flight_other, only_flight, bound_there}
+use Rattle.sb_state.proofs.Pages.{with_bytes, found_same, found_other}
+use Rattle.sb_state.proofs.Threads.{thread_set}
+use Rattle.sb_trace.proofs.Threads.{thread_other, only_thread, flight_other, only_flight, bound_there}
 use Rattle.sb_landing.specs.Bound.{HasPoolBytes, phases_of, IsMask, IsDecidedView, IsFlightBound, IsBound}
 use Rattle.sb_landing.proofs.Walk.{flight_set}
 use Rattle.sb_landing.proofs.Ground.{thread_there}

@@ -7,12 +7,12 @@ use Rattle.sb_insn.specs.declared.insn.Insn.{Insn}
 use Rattle.sb_insn.specs.Spelling.{spelling}
 use Rattle.sb_insn.specs.Grammar.{IsValid}
 use Rattle.sb_decode.proofs.Exact.{none_begins_another}
-use Rattle.sb_exec.specs.declared.stop.BusStop.{BusStop}
+use Rattle.sb_bus.specs.declared.stop.BusStop.{BusStop}
 use Rattle.sb_exec.specs.Fetching.{further, Stands, HasShortFronts, Fetches, FetchesOn, fetch_of, after_fetches}
 use Rattle.sb_tramp.specs.Page.{Row, StandsIn}
 use Rattle.sb_tramp.specs.Server.{server_page}
-use Rattle.sb_trace.specs.declared.page.PageName.TheVariants.{ServerTrampoline}
-use Rattle.sb_trace.specs.declared.page.Mode.TheVariants as mode
+use Rattle.sb_state.specs.declared.page.PageName.TheVariants.{ServerTrampoline}
+use Rattle.sb_state.specs.declared.page.Mode.TheVariants as mode
 use Rattle.sb_trace.specs.PageName.{mode_of}
 use Rattle.sb_trace.specs.State.{State, contents, bytes_of}
 use Rattle.sb_trace.specs.Windows.{name_at, shown, page_seen}

@@ -10,26 +10,27 @@ use Rattle.sb_insn.specs.declared.insn.Insn.{Insn}
 use Rattle.sb_insn.specs.declared.registers.Regs.{Regs}
 use Rattle.sb_exec.specs.Rows.{row_of}
 use Rattle.sb_exec.proofs.Simulation.{rows_keep}
-use Rattle.sb_trace.specs.declared.page.Page.{Page}
-use Rattle.sb_trace.specs.declared.page.PageName.{PageName}
-use Rattle.sb_trace.specs.declared.page.PageName.TheVariants.{Record, Pool}
-use Rattle.sb_trace.specs.declared.page.Seen.{Seen}
-use Rattle.sb_trace.specs.declared.state.Binding.{Binding}
-use Rattle.sb_trace.specs.declared.state.Registration.{Registration}
-use Rattle.sb_trace.specs.declared.state.Thread.{Thread}
+use Rattle.sb_state.specs.declared.page.Page.{Page}
+use Rattle.sb_state.specs.declared.page.PageName.{PageName}
+use Rattle.sb_state.specs.declared.page.PageName.TheVariants.{Record, Pool}
+use Rattle.sb_state.specs.declared.page.Seen.{Seen}
+use Rattle.sb_state.specs.declared.state.Binding.{Binding}
+use Rattle.sb_state.specs.declared.state.Registration.{Registration}
+use Rattle.sb_state.specs.declared.state.Thread.{Thread}
 use Rattle.sb_trace.specs.PageName.{same_name}
 use Rattle.sb_trace.specs.State.{State, find_page, bytes_of, contents, with_contents, thread_at, no_thread, with_thread, with_regs, flight_at, process_at, registration_at}
 use Rattle.sb_trace.specs.KernelCall.{binding_in, handler_in}
 use Rattle.sb_trace.specs.Start.{record_bytes}
-use Rattle.sb_trace.specs.SystemCall.{server_words}
+use Rattle.sb_trace.specs.SyscallBind.{server_words}
 use Rattle.sb_trace.specs.Step.{executed}
 use Rattle.sb_trace.specs.Windows.{page_seen}
 use Rattle.sb_trace.specs.PlainMemory.{Placed, placed, placed_at, put_byte, put_all, plain, plain_stored}
 use Rattle.sb_trace.specs.Changes.{shape_of}
-use Rattle.sb_trace.proofs.Names.{name_same}
-use Rattle.sb_trace.proofs.Pages.{with_bytes, found_same, found_other}
+use Rattle.sb_state.proofs.Names.{name_same}
+use Rattle.sb_state.proofs.Pages.{with_bytes, found_same, found_other}
 use Rattle.sb_trace.proofs.Stores.{KeepsShapes, execution_written}
-use Rattle.sb_trace.proofs.Threads.{thread_set, thread_other, only_thread}
+use Rattle.sb_state.proofs.Threads.{thread_set}
+use Rattle.sb_trace.proofs.Threads.{thread_other, only_thread}
 use Rattle.sb_trace.specs.State.{registration_of}
 use Rattle.sb_landing.specs.Bound.{HasPoolBytes, IsBindingSound, AreBindingsSound, RecordsAreBound, HavePools, HaveHandlers, IsDecidedView}
 use Rattle.sb_landing.specs.Laws.{InstructionsKeepBound}

@@ -2,21 +2,21 @@
 use Rattle.std.proofs.Common.{◌≡◌, ◌∙◌, sym, ap, subst, ℕ, zero, suc, ◌+◌, ◌^◌, ◌<◌, Bool, true, false, List, [], ◌∷◌, ◌++◌, ◌==◌, length, refl, arith}
 use Rattle.std.specs.Prelude.{Option, Some, None, slice_get, slice_index, unwrap_or, if◌then◌else◌, map, replicate}
 use Rattle.std.specs.List.{AllByRecursion}
-use Rattle.sb_trace.specs.declared.page.Page.{Page}
-use Rattle.sb_trace.specs.declared.page.PageName.{PageName}
-use Rattle.sb_trace.specs.declared.page.PageName.TheVariants.{Text, Area, Data, Pool, Record}
-use Rattle.sb_trace.specs.declared.state.Binding.{Binding}
-use Rattle.sb_trace.specs.declared.state.Flight.{Flight}
+use Rattle.sb_state.specs.declared.page.Page.{Page}
+use Rattle.sb_state.specs.declared.page.PageName.{PageName}
+use Rattle.sb_state.specs.declared.page.PageName.TheVariants.{Text, Area, Data, Pool, Record}
+use Rattle.sb_state.specs.declared.state.Binding.{Binding}
+use Rattle.sb_state.specs.declared.state.Flight.{Flight}
 use Rattle.sb_trace.specs.PageName.{same_name}
 use Rattle.std.proofs.lemmas.Bool.Decides.{Decides-eqb}
 use Rattle.std.proofs.lemmas.List.{length-replicate}
-use Rattle.sb_trace.specs.declared.state.Registration.{Registration}
-use Rattle.sb_trace.proofs.Pages.{either, found_added}
+use Rattle.sb_state.specs.declared.state.Registration.{Registration}
+use Rattle.sb_state.proofs.Pages.{either, found_added}
 use Rattle.sb_trace.specs.State.{Process, find_page, thread_at, no_thread, flight_at, process_at, registration_of, registration_at}
 use Rattle.sb_trace.specs.PageWords.{zeros}
 use Rattle.sb_trace.specs.KernelCall.{binding_in}
 use Rattle.sb_trace.specs.Start.{ProcessImage, ThreadEntry, named, filled_page, page_count, filled_pages, heap_page, heap_pages, process_pages, thread_pages, trampoline_pages, images_pages, threads_pages, start_threads, start_process}
-use Rattle.sb_trace.proofs.Names.{name_same}
+use Rattle.sb_state.proofs.Names.{name_same}
 use Rattle.sb_trace.proofs.CodePages.{EachPage, found_each}
 use Rattle.sb_trace.proofs.KeptPages.{each_from}
 use Rattle.sb_landing.specs.Bound.{HasWordStarts}

@@ -9,7 +9,7 @@ use Rattle.sb_exec.specs.declared.action.Load.TheVariants as load
 use Rattle.sb_exec.specs.Size.{size_bytes}
 use Rattle.sb_exec.specs.Access.{loaded_from, byte_for}
 use Rattle.sb_exec.specs.Execution.{Execution, execution_of}
-use Rattle.sb_trace.specs.declared.state.Flight.{Flight}
+use Rattle.sb_state.specs.declared.state.Flight.{Flight}
 use Rattle.sb_trace.specs.State.{State, flight_at, with_flight}
 use Rattle.sb_trace.specs.PlainMemory.{plain, plain_byte}
 use Rattle.sb_trace.specs.Step.{executed}

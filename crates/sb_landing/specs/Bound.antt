@@ -1,17 +1,17 @@
 -- What further holds of bindings and flights in each state of a run.
 use Rattle.std.specs.Prelude.{◌≡◌, ◌≢◌, ℕ, ◌^◌, ◌<◌, ◌≤◌, List, [], ◌∷◌, Option, Some, None, slice_get, slice_index, length}
 use Rattle.std.specs.List.{AllByRecursion, Contains}
-use Rattle.sb_trace.specs.declared.page.PageName.TheVariants.{Record, Pool}
-use Rattle.sb_trace.specs.declared.page.Page.{Page}
-use Rattle.sb_trace.specs.declared.state.Binding.{Binding}
-use Rattle.sb_trace.specs.declared.state.Decision.{Decision}
-use Rattle.sb_trace.specs.declared.state.Decision.TheVariants as decision
-use Rattle.sb_trace.specs.declared.state.Flight.{Flight}
-use Rattle.sb_trace.specs.declared.state.Registration.{Registration}
+use Rattle.sb_state.specs.declared.page.PageName.TheVariants.{Record, Pool}
+use Rattle.sb_state.specs.declared.page.Page.{Page}
+use Rattle.sb_state.specs.declared.state.Binding.{Binding}
+use Rattle.sb_state.specs.declared.state.Decision.{Decision}
+use Rattle.sb_state.specs.declared.state.Decision.TheVariants as decision
+use Rattle.sb_state.specs.declared.state.Flight.{Flight}
+use Rattle.sb_state.specs.declared.state.Registration.{Registration}
 use Rattle.sb_trace.specs.State.{State, Process, find_page, thread_at, flight_at, process_at, registration_at}
 use Rattle.sb_trace.specs.KernelCall.{binding_in, handler_in}
 use Rattle.sb_trace.specs.Start.{record_bytes}
-use Rattle.sb_trace.specs.SystemCall.{server_words}
+use Rattle.sb_trace.specs.SyscallBind.{server_words}
 use Rattle.sb_trace.specs.Sound.{HasPage}
 
 -- ---- pages

@@ -3,10 +3,11 @@ use Rattle.std.specs.Prelude.{◌≡◌, ◌≢◌, ℕ, ◌==◌, ◌<◌, ◌�
 use Rattle.sb_insn.specs.declared.registers.Regs.{Regs}
 use Rattle.sb_exec.specs.Fetching.{FetchesOn}
 use Rattle.sb_trace.specs.declared.event.Event.{Event}
-use Rattle.sb_trace.specs.declared.state.Binding.{Binding}
-use Rattle.sb_trace.specs.declared.state.Flight.{Flight}
-use Rattle.sb_trace.specs.SystemCall.{has_index, free_index, is_listed, with_binding, with_server, new_binding}
-use Rattle.sb_trace.specs.declared.state.Registration.{Registration}
+use Rattle.sb_state.specs.declared.state.Binding.{Binding}
+use Rattle.sb_state.specs.declared.state.Flight.{Flight}
+use Rattle.sb_trace.specs.SyscallRegister.{is_listed, with_server}
+use Rattle.sb_trace.specs.SyscallBind.{has_index, free_index, with_binding, new_binding}
+use Rattle.sb_state.specs.declared.state.Registration.{Registration}
 use Rattle.sb_trace.specs.State.{registration_at}
 use Rattle.sb_trace.specs.State.{Process, process_at}
 use Rattle.sb_trace.specs.State.{State, thread_at, flight_at, with_flight, with_regs}

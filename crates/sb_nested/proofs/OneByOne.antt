@@ -11,9 +11,9 @@ use Rattle.sb_memory.specs.declared.address.Access.TheVariants.{Write}
 use Rattle.sb_memory.specs.declared.address.PhysAddr.{PhysAddr}
 use Rattle.sb_walks.specs.declared.stop.NestedStop.{NestedStop}
 use Rattle.sb_walks.proofs.SamePage.{address}
-use Rattle.sb_exec.specs.declared.stop.BusStop.{BusStop}
-use Rattle.sb_exec.specs.declared.stop.BusStop.TheVariants as bus
-use Rattle.sb_exec.specs.Access.{bytes_from}
+use Rattle.sb_bus.specs.declared.stop.BusStop.{BusStop}
+use Rattle.sb_bus.specs.declared.stop.BusStop.TheVariants as bus
+use Rattle.sb_bus.specs.Access.{bytes_from}
 use Rattle.sb_nested.specs.Stop.{stop_at}
 use Rattle.sb_nested.specs.View.{View, place_of, view_byte}
 use Rattle.sb_nested.specs.Store.{memory_stored, put_answer, put_value, put_word_at, store_place}

@@ -1,7 +1,7 @@
 -- The places of a store.
 use Rattle.std.proofs.Common.{◌≡◌, ℕ, zero, suc, ◌+◌, ◌%◌, ◌^◌, ◌<◌, Bool, true, false, cond, List, [], ◌∷◌, length, Result, Ok, Err, refl, ap, arith}
-use Rattle.sb_exec.specs.declared.stop.BusStop.{BusStop}
-use Rattle.sb_exec.specs.Access.{bytes_from}
+use Rattle.sb_bus.specs.declared.stop.BusStop.{BusStop}
+use Rattle.sb_bus.specs.Access.{bytes_from}
 use Rattle.sb_memory.specs.Physical.{Physical, has_frame, frame_of}
 use Rattle.sb_memory.specs.Reading.{byte_written, word_written}
 use Rattle.sb_memory.specs.declared.address.PhysAddr.{PhysAddr}

@@ -13,9 +13,9 @@ use Rattle.sb_memory.proofs.Accounts.{after_reads_words}
 use Rattle.sb_walks.specs.declared.stop.NestedStop.{NestedStop}
 use Rattle.sb_walks.specs.Nested.{mapped, translation_reads}
 use Rattle.sb_walks.proofs.SamePage.{address}
-use Rattle.sb_exec.specs.declared.stop.BusStop.{BusStop}
-use Rattle.sb_exec.specs.declared.stop.BusStop.TheVariants as bus
-use Rattle.sb_exec.specs.Access.{bytes_from, byte_for, store_answer}
+use Rattle.sb_bus.specs.declared.stop.BusStop.{BusStop}
+use Rattle.sb_bus.specs.declared.stop.BusStop.TheVariants as bus
+use Rattle.sb_bus.specs.Access.{bytes_from, byte_for, store_answer}
 use Rattle.sb_nested.specs.Stop.{stop_at}
 use Rattle.sb_nested.specs.View.{View, byte_behind, place_answer, place_of, view_byte, walk_calls}
 use Rattle.sb_nested.specs.Store.{after_word, look_calls, put_word_at, walk_place}

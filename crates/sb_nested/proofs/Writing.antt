@@ -6,9 +6,9 @@ use Rattle.sb_memory.specs.Physical.{Physical}
 use Rattle.sb_walks.specs.declared.stop.NestedStop.{NestedStop}
 use Rattle.sb_walks.specs.Nested.{mapped}
 use Rattle.sb_walks.proofs.Writable.{translated-read}
-use Rattle.sb_exec.specs.declared.stop.BusStop.{BusStop}
+use Rattle.sb_bus.specs.declared.stop.BusStop.{BusStop}
 use Rattle.sb_memory.specs.Outcome.{and_then, done}
-use Rattle.sb_exec.specs.Access.{bytes_from, byte_for, byte_for_write, loaded_from, store_answer}
+use Rattle.sb_bus.specs.Access.{bytes_from, byte_for, byte_for_write, loaded_from, store_answer}
 use Rattle.sb_nested.specs.View.{View, byte_behind, place_of, view_byte, place_answer}
 use Rattle.sb_nested.specs.Store.{store_place, where_there}
 

@@ -8,9 +8,9 @@ use Rattle.sb_walks.specs.declared.stop.WalkStop.{WalkStop}
 use Rattle.sb_walks.specs.declared.stop.WalkStop.TheVariants as guest
 use Rattle.sb_walks.specs.declared.stop.NestedStop.{NestedStop}
 use Rattle.sb_walks.specs.declared.stop.NestedStop.TheVariants as nested
-use Rattle.sb_exec.specs.declared.stop.BusStop.{BusStop}
-use Rattle.sb_exec.specs.declared.stop.BusStop.TheVariants as bus
-use Rattle.sb_exec.specs.declared.stop.FaultKind.TheVariants.{Canon, Memory}
+use Rattle.sb_bus.specs.declared.stop.BusStop.{BusStop}
+use Rattle.sb_bus.specs.declared.stop.BusStop.TheVariants as bus
+use Rattle.sb_bus.specs.declared.stop.FaultKind.TheVariants.{Canon, Memory}
 
 -- a memory fault at an address
 abbrev pub memory_fault : ℕ → BusStop

@@ -7,9 +7,9 @@ use Rattle.sb_memory.specs.declared.address.Access.{Access}
 use Rattle.sb_memory.specs.declared.address.Access.TheVariants.{Read, Write, Fetch}
 use Rattle.sb_memory.specs.declared.address.PhysAddr.{PhysAddr}
 use Rattle.sb_walks.specs.declared.stop.NestedStop.{NestedStop}
-use Rattle.sb_exec.specs.declared.stop.BusStop.{BusStop}
-use Rattle.sb_exec.specs.Access.{bytes_from, byte_for}
-use Rattle.sb_exec.specs.Interface.{BusCall, FetchByte, LoadBytes, LoadForWrite, StoreBytes, Interface}
+use Rattle.sb_bus.specs.declared.stop.BusStop.{BusStop}
+use Rattle.sb_bus.specs.Access.{bytes_from, byte_for}
+use Rattle.sb_bus.specs.Interface.{BusCall, FetchByte, LoadBytes, LoadForWrite, StoreBytes, Interface}
 use Rattle.sb_nested.specs.View.{View, view, place_of, place_answer, view_byte, walk_calls, byte_calls, calls_from}
 
 -- the place of a byte that can be read

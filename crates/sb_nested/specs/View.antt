@@ -9,8 +9,8 @@ use Rattle.sb_memory.specs.declared.address.PhysAddr.{PhysAddr}
 use Rattle.sb_walks.specs.declared.stop.NestedStop.{NestedStop}
 use Rattle.sb_walks.specs.Nested.{mapped, translated, translation_reads}
 use Rattle.sb_walks.specs.Reads.{where_ok}
-use Rattle.sb_exec.specs.declared.stop.BusStop.{BusStop}
-use Rattle.sb_exec.specs.declared.stop.BusStop.TheVariants as bus
+use Rattle.sb_bus.specs.declared.stop.BusStop.{BusStop}
+use Rattle.sb_bus.specs.declared.stop.BusStop.TheVariants as bus
 use Rattle.sb_nested.specs.Stop.{stop_at}
 
 -- physical memory through an EPT pointer and a CR3

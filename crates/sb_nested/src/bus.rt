@@ -5,7 +5,7 @@ ghost use Rattle.sb_memory.specs.Physical.{frame_count};
 ghost use Rattle.sb_memory.specs.declared.address.Access.TheVariants.{Write};
 ghost use Rattle.sb_walks.specs.Entry.{frame_in};
 ghost use Rattle.sb_walks.specs.Ept.{is_eptp};
-ghost use Rattle.sb_exec.specs.Access.{IsSize, byte_for, bytes_from, store_answer};
+ghost use Rattle.sb_bus.specs.Access.{IsSize, byte_for, bytes_from, store_answer};
 ghost use Rattle.sb_memory.specs.Accounts.{after_reads};
 ghost use Rattle.sb_nested.specs.View.{view, view_byte};
 ghost use Rattle.sb_nested.specs.Store.{after_answer, load_calls, put_answer, store_place};
@@ -13,7 +13,7 @@ ghost use Rattle.sb_nested.specs.Store.{after_answer, load_calls, put_answer, st
 use crate::look::{byte, bytes};
 use crate::store::{put, store_places};
 use crate::whole::store_word;
-use sb_exec::{Bus, BusStop};
+use sb_bus::{Bus, BusStop};
 use sb_memory::{Access, Linear, Phys, PhysAddr};
 
 /// Physical memory as an instruction sees it, through an EPT pointer and a CR3.

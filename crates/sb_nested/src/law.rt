@@ -2,7 +2,7 @@
 
 ghost use Rattle.std.specs.Prelude.{ℕ, ◌≡◌, ◌%◌, ◌^◌, ◌<◌, ◌≤◌, length};
 ghost use Rattle.sb_memory.specs.declared.address.Access.{Access};
-ghost use Rattle.sb_exec.specs.Access.{bytes_from};
+ghost use Rattle.sb_bus.specs.Access.{bytes_from};
 ghost use Rattle.sb_nested.specs.View.{View};
 ghost use Rattle.sb_nested.specs.Store.{memory_stored, put_answer, store_place};
 ghost use Rattle.sb_walks.specs.Nested.{Mapped, translation_reads};

@@ -5,13 +5,13 @@ ghost use Rattle.sb_memory.specs.Accounts.{after_reads};
 ghost use Rattle.sb_memory.specs.Physical.{frame_count};
 ghost use Rattle.sb_walks.specs.Entry.{frame_in};
 ghost use Rattle.sb_walks.specs.Ept.{is_eptp};
-ghost use Rattle.sb_exec.specs.Access.{byte_for, loaded_from};
+ghost use Rattle.sb_bus.specs.Access.{byte_for, loaded_from};
 ghost use Rattle.sb_nested.specs.Stop.{stop_at as stop_of};
 ghost use Rattle.sb_nested.specs.View.{byte_calls, view, view_byte};
 ghost use Rattle.sb_nested.specs.Store.{load_calls};
 
 use crate::nested::translate;
-use sb_exec::{BusStop, FaultKind};
+use sb_bus::{BusStop, FaultKind};
 use sb_memory::{Access, EptStop, Linear, Phys};
 use sb_walks::{NestedStop, TableStop, WalkStop};
 
@@ -56,7 +56,7 @@ pub fn byte<P: Phys>(
 }
 
 /// The bytes from an address upwards, as a number, its lowest byte first.
-#[tactic(auto, using(crate::proofs::Loads::loaded_none, crate::proofs::Loads::loaded_stop, crate::proofs::Loads::loaded_stop_later, crate::proofs::Loads::loaded_more, crate::proofs::Loads::load_calls_none, crate::proofs::Loads::load_account_stop, crate::proofs::Loads::load_account_more, crate::proofs::Loads::number_fits, crate::proofs::Loads::number_below))]
+#[tactic(auto, using(sb_bus::proofs::Loads::loaded_none, sb_bus::proofs::Loads::loaded_stop, sb_bus::proofs::Loads::loaded_stop_later, sb_bus::proofs::Loads::loaded_more, crate::proofs::Loads::load_calls_none, crate::proofs::Loads::load_account_stop, crate::proofs::Loads::load_account_more, sb_bus::proofs::Loads::number_fits, sb_bus::proofs::Loads::number_below))]
 pub fn bytes<P: Phys>(
     phys: &mut P,
     eptp: u64,

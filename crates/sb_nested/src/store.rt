@@ -6,13 +6,13 @@ ghost use Rattle.sb_memory.specs.Physical.{frame_count};
 ghost use Rattle.sb_memory.specs.declared.address.Access.TheVariants.{Write};
 ghost use Rattle.sb_walks.specs.Entry.{frame_in};
 ghost use Rattle.sb_walks.specs.Ept.{is_eptp};
-ghost use Rattle.sb_exec.specs.Access.{bytes_from};
+ghost use Rattle.sb_bus.specs.Access.{bytes_from};
 ghost use Rattle.sb_nested.specs.View.{byte_calls, view, view_byte};
 ghost use Rattle.sb_nested.specs.Store.{AllHeld, after_writes, load_calls, put_value, store_place as place_stored};
 
 use crate::look::stop_at;
 use crate::nested::translate;
-use sb_exec::BusStop;
+use sb_bus::BusStop;
 use sb_memory::{Access, Linear, Phys, PhysAddr};
 
 /// Puts the lowest bytes of a value at these places, the lowest first.

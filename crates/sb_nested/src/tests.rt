@@ -4,8 +4,8 @@ ghost use Rattle.std.specs.Prelude.{◌≡◌, ◌<◌, ◌≤◌, ◌==◌, ◌
 ghost use Rattle.sb_memory.specs.TestMemory.{noted_place};
 
 use crate::{NestedBus, NestedStop, translate};
+use sb_bus::{Bus, BusStop, FaultKind};
 use sb_eptwalk::is_eptp;
-use sb_exec::{Bus, BusStop, FaultKind};
 use sb_memory::{Access, EptStop, Frame, Linear, Memory, Missing, Phys, PhysAddr};
 use sb_walks::{TableStop, WalkStop};
 use std::alloc::{AllocError, Global};

@@ -7,13 +7,13 @@ ghost use Rattle.sb_memory.specs.Physical.{frame_count};
 ghost use Rattle.sb_memory.specs.declared.address.Access.TheVariants.{Write};
 ghost use Rattle.sb_walks.specs.Entry.{frame_in};
 ghost use Rattle.sb_walks.specs.Ept.{is_eptp};
-ghost use Rattle.sb_exec.specs.Access.{byte_for, bytes_from, store_answer};
+ghost use Rattle.sb_bus.specs.Access.{byte_for, bytes_from, store_answer};
 ghost use Rattle.sb_nested.specs.View.{place_of, view, view_byte, walk_calls};
 ghost use Rattle.sb_nested.specs.Store.{after_word, look_calls, put_word_at, walk_place};
 
 use crate::look::stop_at;
 use crate::nested::translate;
-use sb_exec::BusStop;
+use sb_bus::BusStop;
 use sb_memory::{Access, Linear, Phys, PhysAddr};
 
 /// Where a byte leads for a write.

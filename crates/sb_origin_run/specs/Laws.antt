@@ -1,7 +1,7 @@
 -- The laws, as statements.
 use Rattle.std.specs.Prelude.{◌≡◌, ℕ, List, length}
 use Rattle.sb_insn.specs.declared.registers.Regs.{Regs}
-use Rattle.sb_exec.specs.declared.stop.BusStop.{BusStop}
+use Rattle.sb_bus.specs.declared.stop.BusStop.{BusStop}
 use Rattle.sb_exec.specs.Interface.{Interface}
 use Rattle.sb_original.specs.Words.{Words, HasWords}
 use Rattle.sb_original.specs.Slot.{Slotted}

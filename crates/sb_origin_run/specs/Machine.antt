@@ -1,7 +1,7 @@
 -- A machine for one thread: it executes what its code has at RIP. The kernel's steps are not made: a run ends before them.
 use Rattle.std.specs.Prelude.{ℕ, zero, suc, List, [], ◌∷◌, Option, Some, None, Result, Ok, Err}
 use Rattle.sb_insn.specs.declared.registers.Regs.{Regs}
-use Rattle.sb_exec.specs.declared.stop.BusStop.{BusStop}
+use Rattle.sb_bus.specs.declared.stop.BusStop.{BusStop}
 use Rattle.sb_exec.specs.declared.action.Effect.{Effect}
 use Rattle.sb_exec.specs.declared.action.Effect.TheVariants.{Next}
 use Rattle.sb_exec.specs.Interface.{Interface}

@@ -3,7 +3,7 @@ use Rattle.std.specs.Prelude.{◌≡◌, ℕ, ◌+◌, ◌%◌, ◌^◌, Bool, t
 use Rattle.sb_insn.specs.declared.insn.Insn.{Insn}
 use Rattle.sb_insn.specs.declared.registers.Regs.{Regs}
 use Rattle.sb_insn.specs.Spelling.{spelling}
-use Rattle.sb_exec.specs.declared.stop.BusStop.{BusStop}
+use Rattle.sb_bus.specs.declared.stop.BusStop.{BusStop}
 use Rattle.sb_exec.specs.Interface.{Interface}
 use Rattle.sb_exec.specs.Row.{Row}
 use Rattle.sb_exec.specs.Rows.{row_of}

@@ -1,7 +1,7 @@
 -- Several threads with a kernel: what an instruction does not do, any function does. What each thread sees and has as its
 -- code goes by a mode, which only the kernel changes.
 use Rattle.std.specs.Prelude.{◌≡◌, ℕ, false, if◌then◌else◌, List, [], ◌∷◌, map}
-use Rattle.sb_exec.specs.declared.stop.BusStop.{BusStop}
+use Rattle.sb_bus.specs.declared.stop.BusStop.{BusStop}
 use Rattle.sb_exec.specs.declared.action.Effect.TheVariants.{Next}
 use Rattle.sb_exec.specs.Interface.{Interface}
 use Rattle.sb_original.specs.Words.{Words}

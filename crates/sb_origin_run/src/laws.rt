@@ -5,7 +5,7 @@ ghost use Rattle.sb_origin_run.specs.Laws.{OriginalState, SlotAccesses, StepsAli
 /// Rewritten code on one memory, and the original code on another. It has no values: a type stands for them.
 pub trait Codes {
     ghost use Rattle.std.specs.Prelude.{ℕ};
-    ghost use Rattle.sb_exec.specs.declared.stop.BusStop.{BusStop};
+    ghost use Rattle.sb_bus.specs.declared.stop.BusStop.{BusStop};
     ghost use Rattle.sb_exec.specs.Interface.{Interface};
     ghost use Rattle.sb_original.specs.Words.{Words};
     ghost use Rattle.sb_origin_run.specs.Machine.{Code};
@@ -83,7 +83,7 @@ pub fn rewritten_threads_run<R: ThreadCodes>()
 /// Rewritten code of several threads on one memory, and the original code on another.
 pub trait ThreadCodes {
     ghost use Rattle.std.specs.Prelude.{ℕ};
-    ghost use Rattle.sb_exec.specs.declared.stop.BusStop.{BusStop};
+    ghost use Rattle.sb_bus.specs.declared.stop.BusStop.{BusStop};
     ghost use Rattle.sb_exec.specs.Interface.{Interface};
     ghost use Rattle.sb_original.specs.Words.{Words};
     ghost use Rattle.sb_origin_run.specs.Machine.{Code};
@@ -119,7 +119,7 @@ pub trait ThreadCodes {
 /// A kernel beside rewritten code of several threads, and one beside the original code.
 pub trait Systems {
     ghost use Rattle.std.specs.Prelude.{ℕ};
-    ghost use Rattle.sb_exec.specs.declared.stop.BusStop.{BusStop};
+    ghost use Rattle.sb_bus.specs.declared.stop.BusStop.{BusStop};
     ghost use Rattle.sb_original.specs.Words.{Words};
     ghost use Rattle.sb_origin_run.specs.Position.{Position};
     ghost use Rattle.sb_origin_run.specs.Served.{System};

@@ -19,10 +19,10 @@ use Rattle.sb_insn.specs.Fields.{reg_field, some_permits, is_modrm_field}
 use Rattle.sb_insn.specs.Listing.{named, instruction_in, instruction_of, operand_in, operand_for}
 use Rattle.sb_insn.specs.Grammar.{IsValid}
 use Rattle.sb_insn.proofs.Rows.{looked_up, some_holds}
-use Rattle.sb_exec.specs.declared.action.Operation.TheVariants as operation
+use Rattle.sb_alu.specs.declared.operation.Operation.TheVariants as operation
 use Rattle.sb_exec.specs.declared.action.Exchange.TheVariants as exchange
 use Rattle.sb_exec.specs.declared.action.Action.TheVariants.{Compute, ZeroExtend, LoadAddress, Exchange, JumpIf}
-use Rattle.sb_exec.specs.declared.size.Size.TheVariants.{Double, Quad}
+use Rattle.sb_alu.specs.declared.size.Size.TheVariants.{Double, Quad}
 use Rattle.sb_exec.specs.Operand.{bit_of_rex, reg_number, operand_size, opcode_of}
 use Rattle.sb_exec.specs.Actions.{byte_or, moved_size, condition_number, action_by, action_for, action_of}
 use Rattle.sb_forms.specs.Registers as forms

@@ -22,10 +22,10 @@ use Rattle.sb_insn.specs.Fields.{reg_field, operand_rule, rule_of, imm_kind_of, 
 use Rattle.sb_insn.specs.Listing.{instruction_of, operand_in, operand_for}
 use Rattle.sb_insn.specs.Grammar.{IsValid}
 use Rattle.sb_insn.proofs.Rows.{looked_up, some_holds}
-use Rattle.sb_exec.specs.declared.size.Size.{Size}
-use Rattle.sb_exec.specs.declared.size.Size.TheVariants.{Byte, Double, Quad}
-use Rattle.sb_exec.specs.declared.action.Operation.{Operation}
-use Rattle.sb_exec.specs.declared.action.Operation.TheVariants as operation
+use Rattle.sb_alu.specs.declared.size.Size.{Size}
+use Rattle.sb_alu.specs.declared.size.Size.TheVariants.{Byte, Double, Quad}
+use Rattle.sb_alu.specs.declared.operation.Operation.{Operation}
+use Rattle.sb_alu.specs.declared.operation.Operation.TheVariants as operation
 use Rattle.sb_exec.specs.declared.action.MemoryUse.{MemoryUse}
 use Rattle.sb_exec.specs.declared.action.MemoryUse.TheVariants as memory_use
 use Rattle.sb_exec.specs.declared.action.Load.TheVariants as load

@@ -14,10 +14,10 @@ use Rattle.sb_insn.specs.Fields.{mod_field, rm_field}
 use Rattle.sb_insn.specs.Spelling.{spelling}
 use Rattle.sb_insn.specs.Listing.{instruction_of}
 use Rattle.sb_exec.specs.declared.action.Action.TheVariants.{Compute}
-use Rattle.sb_exec.specs.declared.action.Operation.{Operation}
+use Rattle.sb_alu.specs.declared.operation.Operation.{Operation}
 use Rattle.sb_exec.specs.declared.action.Place.{Place}
 use Rattle.sb_exec.specs.declared.action.Place.TheVariants.{Memory}
-use Rattle.sb_exec.specs.declared.size.Size.{Size}
+use Rattle.sb_alu.specs.declared.size.Size.{Size}
 use Rattle.sb_exec.specs.Interface.{Interface}
 use Rattle.sb_exec.specs.Operand.{bit_of_rex, modrm_of, reg_number, rm_number, opcode_number, operand_size, general, next_rip}
 use Rattle.sb_exec.specs.Address.{linear, operand_address}

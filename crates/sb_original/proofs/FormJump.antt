@@ -9,7 +9,7 @@ use Rattle.sb_insn.specs.declared.opcode_map.OperandForm.TheVariants as form
 use Rattle.sb_insn.specs.declared.opcode_map.Instruction.{Instruction}
 use Rattle.sb_insn.specs.OpcodeMap.{one_byte}
 use Rattle.sb_insn.specs.Listing.{instruction_of, operand_for}
-use Rattle.sb_exec.specs.declared.size.Size.TheVariants.{Quad}
+use Rattle.sb_alu.specs.declared.size.Size.TheVariants.{Quad}
 use Rattle.sb_exec.specs.declared.action.Action.TheVariants.{Jump}
 use Rattle.sb_exec.specs.declared.action.Place.{Place}
 use Rattle.sb_exec.specs.declared.action.Place.TheVariants.{Memory}

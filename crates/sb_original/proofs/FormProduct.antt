@@ -13,16 +13,16 @@ use Rattle.sb_insn.specs.OpcodeMap.{one_byte}
 use Rattle.sb_insn.specs.Fields.{reg_field}
 use Rattle.sb_insn.specs.Listing.{instruction_of, operand_for}
 use Rattle.sb_insn.specs.declared.opcode_map.OperandForm.TheVariants as form
-use Rattle.sb_exec.specs.declared.action.Operation.TheVariants as operation
+use Rattle.sb_alu.specs.declared.operation.Operation.TheVariants as operation
 use Rattle.sb_exec.specs.declared.action.Action.TheVariants.{Compute}
 use Rattle.sb_original.proofs.Constants.{low_whole}
-use Rattle.sb_exec.specs.declared.size.Size.{Size}
-use Rattle.sb_exec.specs.declared.size.Size.TheVariants.{Byte, Double, Quad}
+use Rattle.sb_alu.specs.declared.size.Size.{Size}
+use Rattle.sb_alu.specs.declared.size.Size.TheVariants.{Byte, Double, Quad}
 use Rattle.sb_exec.specs.declared.action.Effect.TheVariants.{Next}
 use Rattle.sb_exec.specs.declared.action.MemoryUse.TheVariants as memory_use
 use Rattle.sb_exec.specs.declared.action.Place.{Place}
 use Rattle.sb_exec.specs.declared.action.Place.TheVariants.{Register}
-use Rattle.sb_exec.specs.declared.action.Outcome.{Outcome}
+use Rattle.sb_alu.specs.declared.operation.Outcome.{Outcome}
 use Rattle.sb_exec.specs.Size.{modulus, low}
 use Rattle.sb_exec.specs.Arithmetic.{product_overflows, multiplied, signed, fits, is_negative}
 use Rattle.sb_exec.specs.Interface.{Interface}

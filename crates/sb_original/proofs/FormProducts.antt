@@ -56,7 +56,7 @@ use Rattle.sb_original.proofs.FormAddress.{one_behind, insns_staged, one_save, o
 use Rattle.sb_original.proofs.FormConstant.{two_behind, two_saves, two_kept, hides_second}
 use Rattle.sb_insn.specs.OpcodeMap.{two_byte}
 use Rattle.sb_exec.specs.declared.action.After.{After}
-use Rattle.sb_exec.specs.declared.action.Outcome.{Outcome}
+use Rattle.sb_alu.specs.declared.operation.Outcome.{Outcome}
 use Rattle.sb_insn.specs.declared.registers.Flags.{Flags}
 use Rattle.sb_exec.specs.Row.{Row}
 use Rattle.sb_exec.specs.Size.{modulus, low}
@@ -64,7 +64,7 @@ use Rattle.sb_exec.specs.Arithmetic.{product_overflows, multiplied}
 use Rattle.sb_original.proofs.FormProduct.{product_by, own_product, main_product, same_product, product_moved, move_does, product_follows}
 use Rattle.sb_insn.specs.declared.opcode_map.Mnemonic.TheVariants as mnemonic
 use Rattle.sb_insn.specs.declared.opcode_map.OperandForm.TheVariants as form
-use Rattle.sb_exec.specs.declared.action.Operation.TheVariants as operation
+use Rattle.sb_alu.specs.declared.operation.Operation.TheVariants as operation
 use Rattle.sb_exec.specs.declared.action.MemoryUse.TheVariants as memory_use
 
 -- ---- main

@@ -13,7 +13,7 @@ use Rattle.sb_insn.specs.declared.opcode_map.Instruction.{Instruction}
 use Rattle.sb_insn.specs.OpcodeMap.{one_byte}
 use Rattle.sb_insn.specs.Listing.{instruction_of}
 use Rattle.sb_insn.specs.Spelling.{spelling}
-use Rattle.sb_exec.specs.declared.size.Size.TheVariants.{Quad}
+use Rattle.sb_alu.specs.declared.size.Size.TheVariants.{Quad}
 use Rattle.sb_exec.specs.declared.action.Action.TheVariants.{Push}
 use Rattle.sb_exec.specs.declared.action.Effect.TheVariants.{Next}
 use Rattle.sb_exec.specs.declared.action.Load.TheVariants as load

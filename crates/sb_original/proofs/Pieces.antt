@@ -9,8 +9,8 @@ use Rattle.sb_insn.specs.declared.registers.Regs.{Regs}
 use Rattle.sb_insn.specs.OpcodeMap.{one_byte}
 use Rattle.sb_insn.specs.Groups.{group_operand}
 use Rattle.sb_insn.specs.Listing.{instruction_of, operand_for}
-use Rattle.sb_exec.specs.declared.size.Size.{Size}
-use Rattle.sb_exec.specs.declared.size.Size.TheVariants.{Double, Quad}
+use Rattle.sb_alu.specs.declared.size.Size.{Size}
+use Rattle.sb_alu.specs.declared.size.Size.TheVariants.{Double, Quad}
 use Rattle.sb_exec.specs.declared.action.Effect.TheVariants.{Next}
 use Rattle.sb_exec.specs.declared.action.Load.TheVariants as load
 use Rattle.sb_exec.specs.declared.action.Store.TheVariants as store

@@ -27,10 +27,10 @@ use Rattle.sb_insn.specs.Fields.{is_register, is_wide, mod_field, is_modrm_field
 use Rattle.sb_insn.specs.Listing.{instruction_in, instruction_of}
 use Rattle.sb_insn.specs.Grammar.{IsValid, FitsImm}
 use Rattle.sb_insn.proofs.Rows.{looked_up}
-use Rattle.sb_exec.specs.declared.size.Size.{Size}
-use Rattle.sb_exec.specs.declared.size.Size.TheVariants.{Double, Quad}
-use Rattle.sb_exec.specs.declared.action.Operation.{Operation}
-use Rattle.sb_exec.specs.declared.action.Operation.TheVariants as operation
+use Rattle.sb_alu.specs.declared.size.Size.{Size}
+use Rattle.sb_alu.specs.declared.size.Size.TheVariants.{Double, Quad}
+use Rattle.sb_alu.specs.declared.operation.Operation.{Operation}
+use Rattle.sb_alu.specs.declared.operation.Operation.TheVariants as operation
 use Rattle.sb_exec.specs.declared.action.Action.TheVariants.{Compute}
 use Rattle.sb_exec.specs.Interface.{Interface}
 use Rattle.sb_exec.specs.Operand.{bit_of_rex, next_rip}

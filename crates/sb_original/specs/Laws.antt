@@ -8,8 +8,8 @@ use Rattle.sb_insn.specs.declared.opcode_map.OperandForm.TheVariants as form
 use Rattle.sb_insn.specs.declared.opcode_map.Instruction.{Instruction}
 use Rattle.sb_insn.specs.Fields.{mod_field}
 use Rattle.sb_insn.specs.Grammar.{IsValid}
-use Rattle.sb_exec.specs.declared.stop.BusStop.{BusStop}
-use Rattle.sb_exec.specs.declared.action.Operation.{Operation}
+use Rattle.sb_bus.specs.declared.stop.BusStop.{BusStop}
+use Rattle.sb_alu.specs.declared.operation.Operation.{Operation}
 use Rattle.sb_exec.specs.Interface.{Interface}
 use Rattle.sb_exec.specs.Row.{Row}
 use Rattle.sb_exec.specs.Rows.{row_of}

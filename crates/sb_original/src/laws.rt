@@ -5,7 +5,7 @@ ghost use Rattle.sb_original.specs.Laws.{PiecesDo, Exchanged, Displaced, Address
 /// A memory with a scratch page, beside the memory of the original code. It has no values: a type stands for the pair.
 pub trait Rewritten {
     ghost use Rattle.std.specs.Prelude.{ℕ};
-    ghost use Rattle.sb_exec.specs.declared.stop.BusStop.{BusStop};
+    ghost use Rattle.sb_bus.specs.declared.stop.BusStop.{BusStop};
     ghost use Rattle.sb_exec.specs.Interface.{Interface};
     ghost use Rattle.sb_original.specs.Words.{Words};
 

@@ -3,7 +3,7 @@ use Rattle.std.proofs.Common.{◌≡◌, ◌∙◌, ℕ, ◌+◌, ◌-◌, ◌<�
 use Rattle.std.proofs.lemmas.List.{get_or_append_left, get_or-append-add, get_or_past, length-append}
 use Rattle.sb_scan.specs.Pattern.{HasPatternAt, HasFirstPatternAt, HasNoPattern, IsSpan, SpansBy}
 use Rattle.sb_trace.specs.Pattern.{first_pattern}
-use Rattle.sb_trace.proofs.Pattern.{first_place}
+use Rattle.sb_state.proofs.Pattern.{first_place}
 
 -- ---- a place in a part
 

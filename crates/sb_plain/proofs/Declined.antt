@@ -1,20 +1,26 @@
 -- A refused system call leaves all but five registers of its thread as it was.
 use Rattle.std.proofs.Common.{◌≡◌, ◌≢◌, ℕ, ◌+◌, ◌<◌, ◌==◌, Bool, true, false, List, length, Option, Some, None, refl, sym, ap, ◌∙◌, subst, if◌then◌else◌, get_or-set_other, get_or-set_same}
 use Rattle.std.proofs.lemmas.List.{length-set}
-use Rattle.std.specs.Prelude.{nat_le, slice_index, slice_get, slice_set, unwrap_or}
+use Rattle.std.specs.Prelude.{slice_index, slice_get, slice_set, unwrap_or}
 use Rattle.std.proofs.lemmas.Option.{slice_get_read}
 use Rattle.sb_insn.specs.Registers.{flags_image}
-use Rattle.sb_exec.specs.Operand.{next_rip}
-use Rattle.sb_insn.specs.declared.insn.Insn.{Insn}
 use Rattle.sb_insn.specs.declared.registers.Regs.{Regs}
 use Rattle.sb_trace.specs.declared.event.Event.{Event}
-use Rattle.sb_trace.specs.declared.state.Thread.{Thread}
+use Rattle.sb_state.specs.declared.state.Thread.{Thread}
 use Rattle.sb_trace.specs.Home.{Outcome}
 use Rattle.sb_trace.specs.Registers.{rax, rdi, rsi}
-use Rattle.sb_trace.specs.State.{State, thread_at, no_thread, with_regs, process_at}
+use Rattle.sb_trace.specs.State.{State, thread_at, no_thread, with_regs}
 use Rattle.sb_trace.specs.Windows.{present_of}
+use Rattle.sb_abi.specs.declared.call.CallRefusal.{CallRefusal}
+use Rattle.sb_abi.specs.declared.call.CallRefusal.TheVariants.{NoCall, Pattern}
+use Rattle.sb_abi.specs.Numbers.{refusal_number}
+use Rattle.sb_calls.specs.SyscallRegisters.{after_syscall, answered}
+use Rattle.sb_trace.specs.SyscallAnswer.{returned, declined}
+use Rattle.sb_trace.specs.SyscallRegister.{registered}
+use Rattle.sb_trace.specs.SyscallBind.{bound}
+use Rattle.sb_trace.specs.SyscallProtect.{made_executable, protects_by}
+use Rattle.sb_trace.specs.Syscall.{exited, called_by, called}
 use Rattle.sb_trace.specs.Pattern.{heap_pattern}
-use Rattle.sb_trace.specs.SystemCall.{after_syscall, answered, returned, exited, registered, bound, heap_count, made_executable, protects, called_by, called}
 use Rattle.sb_plain.specs.Declined.{IsDeclined, KeepsOthers, LeavesAll}
 
 -- what is said of a call's outcome
@@ -30,10 +36,10 @@ four_put values rcx r11 rax rdx register not_rax not_rcx not_rdx not_r11 =
     ∙ get_or-set_other (slice_set (slice_set values 1 rcx) 11 r11) 0 register rax 0 not_rax
     ∙ get_or-set_other (slice_set values 1 rcx) 11 register r11 0 not_r11 ∙ get_or-set_other values 1 register rcx 0 not_rcx
 
-others_stay : (insn : Insn) (regs : Regs) (answer second : ℕ) → KeepsOthers regs (answered (after_syscall insn regs) answer second)
-others_stay insn regs answer second = record {
+others_stay : (address : ℕ) (regs : Regs) (answer second : ℕ) → KeepsOthers regs (answered (after_syscall address regs) answer second)
+others_stay address regs answer second = record {
   general = λ register not_rax not_rcx not_rdx not_r11.
-      four_put regs.general (next_rip insn regs) (flags_image regs.flags + 0x202) answer second register not_rax not_rcx not_rdx not_r11;
+      four_put regs.general address (flags_image regs.flags + 0x202) answer second register not_rax not_rcx not_rdx not_r11;
   flags = refl;
 }
 
@@ -48,16 +54,6 @@ regs_there state number regs inside =
     ap (λ (found : Option Thread). (unwrap_or found no_thread).regs)
     (put_there state.threads number (record (unwrap_or (slice_get state.threads number) no_thread) { regs = regs }) inside)
 
-declined_leaves : (state : State) (number : ℕ) (insn : Insn) (regs : Regs) (answer second : ℕ) → number < length state.threads
-    → LeavesAll state (returned state number insn regs answer second) number regs
-declined_leaves state number insn regs answer second inside =
-    let after = answered (after_syscall insn regs) answer second in
-    let there = regs_there state number after inside in
-    record {
-      state = ap (λ (left : Regs). with_regs state number left) (sym there);
-      registers = subst (λ (left : Regs). KeepsOthers regs left) (sym there) (others_stay insn regs answer second);
-    }
-
 -- ---- the calls
 
 by_test : (state : State) (number : ℕ) (regs : Regs) (test : Bool) (first second : Outcome) → Leaves state number regs first
@@ -65,46 +61,63 @@ by_test : (state : State) (number : ℕ) (regs : Regs) (test : Bool) (first seco
 by_test state number regs true first second one other = one
 by_test state number regs false first second one other = other
 
-exit_leaves : (state : State) (number : ℕ) (insn : Insn) (regs : Regs) → Leaves state number regs (exited state number insn regs)
-exit_leaves state number insn regs = by_test state number regs ((thread_at state number).view == 0) _ _ (λ no. absurd no) (λ no. absurd no)
+-- a SYSCALL that began with these registers, and whose next instruction is at this address
+module _ (address : ℕ) (regs : Regs) where
+  abbrev next : Regs
+  next = after_syscall address regs
 
-register_leaves : (state : State) (number : ℕ) (insn : Insn) (regs : Regs) (process : ℕ) (refusal : Option ℕ) → number < length state.threads
-    → Leaves state number regs (registered state number insn regs process refusal)
-register_leaves state number insn regs process (Some answer) inside = λ refused. declined_leaves state number insn regs answer 0 inside
-register_leaves state number insn regs process None inside = λ refused. absurd (refused refl)
+  declined_leaves : (state : State) (number : ℕ) (answer second : ℕ) → number < length state.threads
+      → LeavesAll state (returned state number next answer second) number regs
+  declined_leaves state number answer second inside =
+      let there = regs_there state number (answered next answer second) inside in
+      record {
+        state = ap (λ (left : Regs). with_regs state number left) (sym there);
+        registers = subst (λ (left : Regs). KeepsOthers regs left) (sym there) (others_stay address regs answer second);
+      }
 
-bind_leaves : (state : State) (number : ℕ) (thread : Thread) (insn : Insn) (regs : Regs) (refusal : Option ℕ) → number < length state.threads
-    → Leaves state number regs (bound state number thread insn regs refusal)
-bind_leaves state number thread insn regs (Some answer) inside = λ refused. declined_leaves state number insn regs answer 0 inside
-bind_leaves state number thread insn regs None inside = λ refused. absurd (refused refl)
+  refused_leaves : (state : State) (number : ℕ) (refusal : CallRefusal) (second : ℕ) → number < length state.threads
+      → Leaves state number regs (declined state number next refusal second)
+  refused_leaves state number refusal second inside = λ refused. declined_leaves state number (refusal_number refusal) second inside
 
-execute_leaves : (state : State) (number : ℕ) (insn : Insn) (regs : Regs) (process page : ℕ) (found : Option ℕ) → number < length state.threads
-    → Leaves state number regs (made_executable state number insn regs process page found)
-execute_leaves state number insn regs process page (Some address) inside = λ refused. declined_leaves state number insn regs 20 address inside
-execute_leaves state number insn regs process page None inside = λ refused. absurd (refused refl)
+  exit_leaves : (state : State) (number : ℕ) → Leaves state number regs (exited state number next)
+  exit_leaves state number = by_test state number regs ((thread_at state number).view == 0) _ _ (λ no. absurd no) (λ no. absurd no)
 
-protect_leaves : (state : State) (number : ℕ) (insn : Insn) (regs : Regs) (process page mode : ℕ) → number < length state.threads
-    → Leaves state number regs (protects state number insn regs process page mode)
-protect_leaves state number insn regs process page mode inside =
-    by_test state number regs (nat_le (heap_count (process_at state process)) page) _ _ (λ refused. declined_leaves state number insn regs 18 0 inside)
-    (by_test state number regs (mode == 0) _ _ (λ refused. absurd (refused refl))
-    (by_test state number regs (mode == 1) _ _ (execute_leaves state number insn regs process page (heap_pattern state process page) inside)
-    (λ refused. declined_leaves state number insn regs 19 0 inside)))
+  register_leaves : (state : State) (number process : ℕ) (refusal : Option CallRefusal) → number < length state.threads
+      → Leaves state number regs (registered state number next process refusal)
+  register_leaves state number process (Some refusal) inside = refused_leaves state number refusal 0 inside
+  register_leaves state number process None inside = λ refused. absurd (refused refl)
 
-number_leaves : (state : State) (number : ℕ) (thread : Thread) (insn : Insn) (regs : Regs) (call : ℕ) → number < length state.threads
-    → Leaves state number regs (called_by state number thread insn regs call)
-number_leaves state number thread insn regs call inside =
-    by_test state number regs (call == 0) _ _ (exit_leaves state number insn regs)
-    (by_test state number regs (call == 1) _ _ (λ no. absurd no)
-    (by_test state number regs (call == 2) _ _ (register_leaves state number insn regs (present_of thread) _ inside)
-    (by_test state number regs (call == 3) _ _ (bind_leaves state number thread insn regs _ inside)
-    (by_test state number regs (call == 4) _ _ (protect_leaves state number insn regs (present_of thread) (rdi regs) (rsi regs) inside)
-    (λ refused. declined_leaves state number insn regs 21 0 inside)))))
+  bind_leaves : (state : State) (number : ℕ) (thread : Thread) (refusal : Option CallRefusal) → number < length state.threads
+      → Leaves state number regs (bound state number thread next refusal)
+  bind_leaves state number thread (Some refusal) inside = refused_leaves state number refusal 0 inside
+  bind_leaves state number thread None inside = λ refused. absurd (refused refl)
 
--- a refused call, by its line and the state that it left
-pub called_leaves : (state : State) (number : ℕ) (insn : Insn) (regs : Regs) (line : Event) (after : State) → number < length state.threads
-    → ◌≡◌ {A = Outcome} (line, after) (called state number insn regs) → IsDeclined line → LeavesAll state after number regs
-unfolding called
-called_leaves state number insn regs line after inside is =
-    subst (λ (outcome : Outcome). Leaves state number regs outcome) (sym is)
-    (number_leaves state number (thread_at state number) insn regs (rax regs) inside)
+  execute_leaves : (state : State) (number process page : ℕ) (found : Option ℕ) → number < length state.threads
+      → Leaves state number regs (made_executable state number next process page found)
+  execute_leaves state number process page (Some address) inside = refused_leaves state number Pattern address inside
+  execute_leaves state number process page None inside = λ refused. absurd (refused refl)
+
+  protect_leaves : (state : State) (number process page mode : ℕ) (refusal : Option CallRefusal) → number < length state.threads
+      → Leaves state number regs (protects_by state number next process page mode refusal)
+  protect_leaves state number process page mode (Some refusal) inside = refused_leaves state number refusal 0 inside
+  protect_leaves state number process page mode None inside =
+      by_test state number regs (mode == 1) _ _ (execute_leaves state number process page (heap_pattern state process page) inside)
+      (λ refused. absurd (refused refl))
+
+  number_leaves : (state : State) (number : ℕ) (thread : Thread) (call : ℕ) → number < length state.threads
+      → Leaves state number regs (called_by state number thread next call)
+  number_leaves state number thread call inside =
+      by_test state number regs (call == 0) _ _ (exit_leaves state number)
+      (by_test state number regs (call == 1) _ _ (λ no. absurd no)
+      (by_test state number regs (call == 2) _ _ (register_leaves state number (present_of thread) _ inside)
+      (by_test state number regs (call == 3) _ _ (bind_leaves state number thread _ inside)
+      (by_test state number regs (call == 4) _ _ (protect_leaves state number (present_of thread) (rdi next) (rsi next) _ inside)
+      (refused_leaves state number NoCall 0 inside)))))
+
+  -- a refused call, by its line and the state that it left
+  pub called_leaves : (state : State) (number : ℕ) (line : Event) (after : State) → number < length state.threads
+      → ◌≡◌ {A = Outcome} (line, after) (called state number next) → IsDeclined line → LeavesAll state after number regs
+  unfolding called
+  called_leaves state number line after inside is =
+      subst (λ (outcome : Outcome). Leaves state number regs outcome) (sym is)
+      (number_leaves state number (thread_at state number) (rax next) inside)

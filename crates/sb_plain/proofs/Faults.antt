@@ -4,13 +4,14 @@ use Rattle.std.specs.Prelude.{Option, Some, None, IfErr, if◌then◌else◌}
 use Rattle.sb_memory.specs.declared.address.Access.{Access}
 use Rattle.sb_insn.specs.declared.insn.Insn.{Insn}
 use Rattle.sb_insn.specs.declared.registers.Regs.{Regs}
-use Rattle.sb_exec.specs.declared.stop.FaultKind.{FaultKind}
+use Rattle.sb_bus.specs.declared.stop.FaultKind.{FaultKind}
 use Rattle.sb_exec.specs.Row.{Row}
 use Rattle.sb_exec.specs.Execution.{execution_of}
 use Rattle.sb_exec.specs.Fetching.{FetchesOn}
-use Rattle.sb_exec.proofs.Stops.{ByteStops, execution_stops, fetch_stops}
-use Rattle.sb_exec.specs.declared.stop.BusStop.{BusStop}
-use Rattle.sb_trace.specs.declared.page.Seen.{Seen}
+use Rattle.sb_bus.proofs.Stops.{ByteStops}
+use Rattle.sb_exec.proofs.Stops.{execution_stops, fetch_stops}
+use Rattle.sb_bus.specs.declared.stop.BusStop.{BusStop}
+use Rattle.sb_state.specs.declared.page.Seen.{Seen}
 use Rattle.sb_trace.specs.PageName.{permits}
 use Rattle.sb_trace.specs.State.{State}
 use Rattle.sb_trace.specs.Windows.{page_seen}

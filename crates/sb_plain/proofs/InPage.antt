@@ -7,12 +7,12 @@ use Rattle.sb_memory.specs.declared.address.Access.TheVariants.{Fetch}
 use Rattle.sb_insn.specs.declared.insn.Insn.{Insn}
 use Rattle.sb_insn.specs.Spelling.{spelling}
 use Rattle.sb_insn.specs.Grammar.{BeginsWith}
-use Rattle.sb_exec.specs.declared.stop.BusStop.{BusStop}
+use Rattle.sb_bus.specs.declared.stop.BusStop.{BusStop}
 use Rattle.sb_exec.specs.Fetching.{further, Stands, FetchesOn, fetch_of}
 use Rattle.sb_exec.proofs.AtOnce.{fetched_at_once}
-use Rattle.sb_trace.specs.declared.page.PageName.{PageName}
-use Rattle.sb_trace.specs.declared.page.Page.{Page}
-use Rattle.sb_trace.specs.declared.page.Seen.{Seen}
+use Rattle.sb_state.specs.declared.page.PageName.{PageName}
+use Rattle.sb_state.specs.declared.page.Page.{Page}
+use Rattle.sb_state.specs.declared.page.Seen.{Seen}
 use Rattle.sb_trace.specs.PageName.{permits}
 use Rattle.sb_trace.specs.State.{State, find_page}
 use Rattle.sb_trace.specs.Windows.{page_seen}
@@ -20,7 +20,7 @@ use Rattle.sb_trace.specs.PlainMemory.{plain, plain_byte, is_canonical}
 use Rattle.sb_plain.specs.Reach.{reached, reached_as}
 use Rattle.sb_plain.proofs.Reached.{byte_reached, byte_refused}
 use Rattle.sb_exec.specs.Access.{byte_for, loaded_from}
-use Rattle.sb_exec.proofs.Loads.{loaded_none, loaded_stop, loaded_more}
+use Rattle.sb_bus.proofs.Loads.{loaded_none, loaded_stop, loaded_more}
 use Rattle.byteorder.specs.Endian.{little_from}
 
 permits_by : (test : Bool) (name found : PageName) (stop other : BusStop)

@@ -4,7 +4,7 @@ use Rattle.std.specs.Prelude.{IsTrue, ◌↔◌}
 use Rattle.std.specs.List.{Contains}
 use Rattle.std.proofs.lemmas.Bool.{eqb-true, eq-eqb}
 use Rattle.std.proofs.lemmas.List.Elements.{Contains-append_right}
-use Rattle.sb_trace.specs.SystemCall.{is_listed}
+use Rattle.sb_trace.specs.SyscallRegister.{is_listed}
 
 contained_behind : (start address : ℕ) (starts : List ℕ) (first : Bool) → (start == address) ≡ first
     → (is_listed starts address ≡ true → Contains starts address) → (first || is_listed starts address) ≡ true → Contains (start ∷ starts) address

@@ -6,12 +6,12 @@ use Rattle.std.proofs.lemmas.Bool.{false≢true}
 use Rattle.std.proofs.lemmas.List.{set_past, length-replicate}
 use Rattle.std.proofs.lemmas.List.Elements.{All-pop, All-push, All-same, All-set}
 use Rattle.std.proofs.lemmas.Grind.{common_steps}
-use Rattle.sb_trace.specs.declared.page.PageName.{PageName}
-use Rattle.sb_trace.specs.declared.page.Page.{Page}
+use Rattle.sb_state.specs.declared.page.PageName.{PageName}
+use Rattle.sb_state.specs.declared.page.Page.{Page}
 use Rattle.sb_trace.specs.PageName.{same_name}
 use Rattle.sb_trace.specs.State.{find_page, replaced, bytes_of}
 use Rattle.sb_trace.specs.PageWords.{zeros}
-use Rattle.sb_trace.specs.SystemCall.{with_mode}
+use Rattle.sb_trace.specs.SyscallProtect.{with_mode}
 use Rattle.sb_plain.specs.declared.pages.Known.{Known}
 use Rattle.sb_plain.specs.Places.{IsKnown, AreKnown, place_of, equal_names, IsIndex, either, IsNoted, IsWhole, AreWhole, IsBlank, AreBlank, IsSound}
 use Rattle.sb_plain.proofs.Names.{equal_same, name_same}

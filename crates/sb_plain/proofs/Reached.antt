@@ -3,10 +3,10 @@ use Rattle.std.proofs.Common.{◌≡◌, ℕ, ◌/◌, ◌%◌, Bool, true, fals
 use Rattle.std.specs.Prelude.{Option, Some, None, if◌then◌else◌, slice_index}
 use Rattle.sb_memory.specs.declared.address.Access.{Access}
 use Rattle.sb_memory.specs.Outcome.{and_then}
-use Rattle.sb_exec.specs.declared.stop.BusStop.{BusStop}
-use Rattle.sb_trace.specs.declared.page.PageName.{PageName}
-use Rattle.sb_trace.specs.declared.page.Page.{Page}
-use Rattle.sb_trace.specs.declared.page.Seen.{Seen}
+use Rattle.sb_bus.specs.declared.stop.BusStop.{BusStop}
+use Rattle.sb_state.specs.declared.page.PageName.{PageName}
+use Rattle.sb_state.specs.declared.page.Page.{Page}
+use Rattle.sb_state.specs.declared.page.Seen.{Seen}
 use Rattle.sb_trace.specs.PageName.{permits}
 use Rattle.sb_trace.specs.State.{State, find_page, contents}
 use Rattle.sb_trace.specs.Windows.{page_seen}

@@ -4,7 +4,7 @@ use Rattle.sb_insn.specs.declared.registers.Regs.{Regs}
 use Rattle.sb_exec.specs.Row.{Row}
 use Rattle.sb_exec.specs.Execution.{execution_of}
 use Rattle.sb_exec.proofs.Keeps.{execution_keeps}
-use Rattle.sb_trace.specs.declared.page.PageName.{PageName}
+use Rattle.sb_state.specs.declared.page.PageName.{PageName}
 use Rattle.sb_trace.specs.State.{State, with_contents}
 use Rattle.sb_trace.specs.PlainMemory.{Placed, placed, put_byte, put_all, plain_stored, plain}
 

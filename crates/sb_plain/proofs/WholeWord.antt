@@ -7,16 +7,16 @@ use Rattle.std.proofs.lemmas.List.Edits.{sets}
 use Rattle.std.proofs.Math.Nat.{pow-suc, div-div-eq-div-mul}
 use Rattle.sb_memory.specs.declared.address.Access.TheVariants.{Write}
 use Rattle.sb_memory.specs.Words.{put_word}
-use Rattle.sb_exec.specs.declared.stop.BusStop.{BusStop}
+use Rattle.sb_bus.specs.declared.stop.BusStop.{BusStop}
 use Rattle.sb_exec.specs.Access.{bytes_from, byte_for, store_answer}
 use Rattle.sb_exec.specs.Fetching.{further}
-use Rattle.sb_exec.proofs.Loads.{stored_where_loaded, stops_where_loaded}
-use Rattle.sb_trace.specs.declared.page.PageName.{PageName}
-use Rattle.sb_trace.specs.declared.page.Page.{Page}
+use Rattle.sb_bus.proofs.Loads.{stored_where_loaded, stops_where_loaded}
+use Rattle.sb_state.specs.declared.page.PageName.{PageName}
+use Rattle.sb_state.specs.declared.page.Page.{Page}
 use Rattle.sb_trace.specs.PageName.{same_name}
 use Rattle.sb_trace.specs.State.{State, find_page, replaced, bytes_of, contents, with_contents}
 use Rattle.sb_trace.specs.PlainMemory.{plain_byte, Placed, put_byte, placed, put_all, plain_stored}
-use Rattle.sb_trace.proofs.Pages.{found_same}
+use Rattle.sb_state.proofs.Pages.{found_same}
 use Rattle.sb_plain.specs.Reach.{reached}
 use Rattle.sb_plain.specs.Spots.{spot_at}
 use Rattle.sb_plain.proofs.InPage.{reached_again, word_in_page, word_refused}

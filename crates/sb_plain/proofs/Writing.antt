@@ -3,12 +3,12 @@ use Rattle.std.proofs.Common.{◌≡◌, ap, ℕ, ◌/◌, Bool, true, false, re
 use Rattle.std.specs.Prelude.{Option, Some, None, if◌then◌else◌}
 use Rattle.sb_memory.specs.declared.address.Access.TheVariants.{Read, Write}
 use Rattle.sb_memory.specs.Outcome.{and_then}
-use Rattle.sb_exec.specs.declared.stop.BusStop.{BusStop}
+use Rattle.sb_bus.specs.declared.stop.BusStop.{BusStop}
 use Rattle.sb_exec.specs.Access.{byte_for, byte_for_write, loaded_from}
-use Rattle.sb_trace.specs.declared.page.PageName.{PageName}
-use Rattle.sb_trace.specs.declared.page.Seen.{Seen}
-use Rattle.sb_trace.specs.declared.page.Mode.{Mode}
-use Rattle.sb_trace.specs.declared.page.Mode.TheVariants as mode
+use Rattle.sb_state.specs.declared.page.PageName.{PageName}
+use Rattle.sb_state.specs.declared.page.Seen.{Seen}
+use Rattle.sb_state.specs.declared.page.Mode.{Mode}
+use Rattle.sb_state.specs.declared.page.Mode.TheVariants as mode
 use Rattle.sb_trace.specs.State.{State}
 use Rattle.sb_trace.specs.Windows.{page_seen}
 use Rattle.sb_trace.specs.PlainMemory.{plain_byte, byte_seen, is_canonical}

@@ -1,6 +1,6 @@
 -- What stops an instruction of the plain machine.
-use Rattle.sb_exec.specs.declared.stop.BusStop.{BusStop}
-use Rattle.sb_exec.specs.declared.stop.BusStop.TheVariants.{Fault, Missing}
+use Rattle.sb_bus.specs.declared.stop.BusStop.{BusStop}
+use Rattle.sb_bus.specs.declared.stop.BusStop.TheVariants.{Fault, Missing}
 
 -- a fault; no page is missing
 abbrev pub IsFault : BusStop → Type 0

@@ -5,5 +5,4 @@ pub mod Reach
 pub mod Spots
 pub mod ThreadMemory
 pub mod Faults
-pub mod Refusal
 pub mod Declined

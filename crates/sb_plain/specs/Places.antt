@@ -2,9 +2,9 @@
 use Rattle.std.specs.Prelude.{◌≡◌, ℕ, suc, ◌+◌, ◌≤◌, Bool, List, [], ◌∷◌, length, Option, Some, None, if◌then◌else◌}
 use Rattle.std.specs.List.{All}
 use Rattle.std.specs.Option.{option_map}
-use Rattle.sb_trace.specs.declared.page.PageName.{PageName}
-use Rattle.sb_trace.specs.declared.page.Page.{Page}
-use Rattle.sb_trace.specs.contracts.page.PageNamePartialEq.TheImpl.{eq-value}
+use Rattle.sb_state.specs.declared.page.PageName.{PageName}
+use Rattle.sb_state.specs.declared.page.Page.{Page}
+use Rattle.sb_state.specs.contracts.page.PageNamePartialEq.TheImpl.{eq-value}
 use Rattle.sb_trace.specs.PageName.{same_name}
 use Rattle.sb_trace.specs.PageWords.{zeros}
 use Rattle.sb_plain.specs.declared.pages.Known.{Known}

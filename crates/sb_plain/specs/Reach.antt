@@ -1,12 +1,12 @@
 -- Which page an access reaches.
 use Rattle.std.specs.Prelude.{ℕ, ◌/◌, Option, Some, None, Result, Ok, Err, if◌then◌else◌}
 use Rattle.sb_memory.specs.declared.address.Access.{Access}
-use Rattle.sb_exec.specs.declared.stop.BusStop.{BusStop}
-use Rattle.sb_exec.specs.declared.stop.FaultKind.TheVariants.{Canon, Memory}
-use Rattle.sb_trace.specs.declared.page.PageName.{PageName}
+use Rattle.sb_bus.specs.declared.stop.BusStop.{BusStop}
+use Rattle.sb_bus.specs.declared.stop.FaultKind.TheVariants.{Canon, Memory}
+use Rattle.sb_state.specs.declared.page.PageName.{PageName}
 use Rattle.std.specs.Borrow.{Bor}
-use Rattle.sb_trace.specs.declared.page.Page.{Page}
-use Rattle.sb_trace.specs.declared.page.Seen.{Seen}
+use Rattle.sb_state.specs.declared.page.Page.{Page}
+use Rattle.sb_state.specs.declared.page.Seen.{Seen}
 use Rattle.sb_trace.specs.PageName.{permits}
 use Rattle.sb_trace.specs.State.{State}
 use Rattle.sb_trace.specs.Windows.{page_seen}

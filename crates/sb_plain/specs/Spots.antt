@@ -2,8 +2,8 @@
 use Rattle.std.specs.Prelude.{ℕ, ◌/◌, ◌%◌, List, [], ◌∷◌, Result, Ok}
 use Rattle.sb_memory.specs.declared.address.Access.TheVariants.{Write}
 use Rattle.sb_memory.specs.Outcome.{and_then}
-use Rattle.sb_exec.specs.declared.stop.BusStop.{BusStop}
-use Rattle.sb_trace.specs.declared.page.PageName.{PageName}
+use Rattle.sb_bus.specs.declared.stop.BusStop.{BusStop}
+use Rattle.sb_state.specs.declared.page.PageName.{PageName}
 use Rattle.sb_trace.specs.State.{State}
 use Rattle.sb_trace.specs.PlainMemory.{Placed}
 use Rattle.sb_plain.specs.declared.store.Spot.{Spot}

@@ -1,6 +1,6 @@
 -- Pages, and room for more of them.
 use Rattle.std.specs.Prelude.{ℕ, ◌-◌, List, [], ◌∷◌, ◌++◌}
-use Rattle.sb_trace.specs.declared.page.Page.{Page}
+use Rattle.sb_state.specs.declared.page.Page.{Page}
 
 -- the pages, and how many can be added without memory being taken
 pub record Store : Type 0 where

@@ -1,7 +1,7 @@
 -- The memory of a thread in a view, with the two in its meaning: one interface serves all threads and views.
 use Rattle.std.specs.Prelude.{ℕ, Result}
 use Rattle.sb_memory.specs.declared.address.Access.{Access}
-use Rattle.sb_exec.specs.declared.stop.BusStop.{BusStop}
+use Rattle.sb_bus.specs.declared.stop.BusStop.{BusStop}
 use Rattle.sb_exec.specs.Interface.{Interface, BusCall}
 use Rattle.sb_trace.specs.State.{State}
 use Rattle.sb_trace.specs.PlainMemory.{plain_byte, plain_stored}

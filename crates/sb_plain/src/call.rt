@@ -4,31 +4,18 @@
 
 ghost use Rattle.std.specs.Prelude.{◌≡◌, ◌<◌, ◌≤◌, ◌^◌, length};
 ghost use Rattle.sb_trace.specs.declared.event.Event.TheVariants.{Entered};
+ghost use Rattle.sb_abi.specs.Numbers.{status_number};
 ghost use Rattle.sb_trace.specs.State.{thread_at};
 ghost use Rattle.sb_trace.specs.KernelCall.{binding_in as binding_by_index, pool_word as pool_word_of, refused_regs as regs_refused, refused, not_switched, returned_home, entered_regs as regs_entered, lowest_bit as lowest_bit_of, entered, taken, called_through, kernel_call as kernel_call_of};
 
-use crate::home::{HOME_ADDRESS, fault};
+use crate::home::fault;
 use crate::pool::{handler_of, pool_word, set_pool_word};
 use crate::registers::{R9, R10, RAX, RCX, RSI, RSP, eax, ecx, zero_result};
 use crate::state::Plain;
+use sb_abi::{CallStatus, FIRST_STACK_TOP, RETURN_ADDRESS, STACK_DISTANCE};
 use sb_exec::FaultKind;
 use sb_insn::Regs;
 use sb_trace::{Binding, Event};
-
-// The statuses of refused calls.
-const WRONG_KEY: u64 = 1;
-
-const POOL_EMPTY: u64 = 2;
-
-const UNBOUND: u64 = 3;
-
-const BAD_LEAF: u64 = 5;
-
-/// The top word of the first server stack. It has the address of the exit stub, to which the handler returns.
-pub const FIRST_STACK_TOP: u64 = 0x400_3FF8;
-
-/// How far the next server stack is: four pages.
-const STACK_DISTANCE: u64 = 0x4000;
 
 /// The binding with this index.
 pub fn binding_in(bindings: &[Binding], index: u32) -> Option<Binding>
@@ -45,25 +32,25 @@ pub fn binding_in(bindings: &[Binding], index: u32) -> Option<Binding>
 // ---- refusals and ways home
 
 #[tactic(auto, unfolding(sb_trace::specs::KernelCall::refused_regs))]
-fn refused_regs(regs: &Regs, status: u64) -> Regs
-    ensures { result ≡ regs_refused regs.now status }
+fn refused_regs(regs: &Regs, status: CallStatus) -> Regs
+    ensures { result ≡ regs_refused regs.now (status_number status) }
 {
     let mut general = regs.general;
-    general[R9] = status;
+    general[R9] = status.number();
     general[RAX] = 0;
     general[RCX] = 0;
     general[R10] = 0;
     Regs {
         general,
-        rip: HOME_ADDRESS,
+        rip: RETURN_ADDRESS,
         flags: zero_result(),
     }
 }
 
 // A refused call, with its line: the thread is in its home view.
-fn refuse(state: &mut Plain, core: u8, line: Event, status: u64) -> Event
+fn refuse(state: &mut Plain, core: u8, line: Event, status: CallStatus) -> Event
     requires { core < length state.old.threads }
-    ensures refused { (result, state.new) ≡ refused state.old core (thread_at state.old core) line status }
+    ensures refused { (result, state.new) ≡ refused state.old core (thread_at state.old core) line (status_number status) }
     ensures count { length state.new.threads ≡ length state.old.threads }
 {
     let regs = refused_regs(&state.thread(core).regs, status);
@@ -72,9 +59,9 @@ fn refuse(state: &mut Plain, core: u8, line: Event, status: u64) -> Event
 }
 
 // No view is switched: in a server's view that is a fault at the VMFUNC.
-fn stay(state: &mut Plain, core: u8, line: Event, status: u64) -> Event
+fn stay(state: &mut Plain, core: u8, line: Event, status: CallStatus) -> Event
     requires { core < length state.old.threads }
-    ensures stayed { (result, state.new) ≡ not_switched state.old core (thread_at state.old core) line status }
+    ensures stayed { (result, state.new) ≡ not_switched state.old core (thread_at state.old core) line (status_number status) }
     ensures count { length state.new.threads ≡ length state.old.threads }
 {
     let thread = state.thread(core);
@@ -95,7 +82,7 @@ fn return_home(state: &mut Plain, core: u8) -> Event
     let thread = state.thread(core);
     let (view, regs) = (thread.view, thread.regs);
     let at_home = Regs {
-        rip: HOME_ADDRESS,
+        rip: RETURN_ADDRESS,
         ..regs
     };
     state.set_view(core, 0, at_home);
@@ -163,7 +150,7 @@ fn take_stack(state: &mut Plain, core: u8, binding: Binding) -> Event
 {
     let index = u32::from(binding.index);
     match pool_word(state, binding.server) {
-        0 => refuse(state, core, Event::PoolEmpty { index }, POOL_EMPTY),
+        0 => refuse(state, core, Event::PoolEmpty { index }, CallStatus::PoolEmpty),
         word => enter(state, core, binding, word),
     }
 }
@@ -179,11 +166,11 @@ fn call_through(state: &mut Plain, core: u8, index: u32) -> Event
     let thread = state.thread(core);
     let key = thread.regs.general[RSI];
     match binding_in(thread.bindings.items(), index) {
-        None => stay(state, core, Event::Unbound { index }, UNBOUND),
+        None => stay(state, core, Event::Unbound { index }, CallStatus::Unbound),
         Some(binding) if key == binding.key => take_stack(state, core, binding),
         Some(binding) => {
             let index = u32::from(binding.index);
-            refuse(state, core, Event::WrongKey { index }, WRONG_KEY)
+            refuse(state, core, Event::WrongKey { index }, CallStatus::WrongKey)
         }
     }
 }
@@ -198,7 +185,7 @@ pub fn kernel_call(state: &mut Plain, core: u8) -> Event
     let regs = state.thread(core).regs;
     let (leaf, index) = (eax(&regs), ecx(&regs));
     if leaf != 0 {
-        stay(state, core, Event::BadLeaf { index }, BAD_LEAF)
+        stay(state, core, Event::BadLeaf { index }, CallStatus::BadLeaf)
     } else if index == 0 {
         return_home(state, core)
     } else {

@@ -10,7 +10,7 @@ use sb_trace::{EndState, Flight, Thread, ThreadEnd, ThreadEnds};
 use std::alloc::{AllocError, Global};
 
 /// The flight of the thread with this number, where it is in flight.
-#[tactic(auto, unfolding(sb_trace::specs::State::flight_at))]
+#[tactic(auto, unfolding(sb_state::specs::State::flight_at))]
 fn flight_of(state: &Plain, number: usize) -> Option<Flight>
     ensures { result ≡ flight_at state.now number }
 {

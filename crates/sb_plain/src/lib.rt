@@ -32,7 +32,6 @@ mod pattern;
 mod pool;
 mod process;
 mod reach;
-mod refusal;
 mod registers;
 #[cfg(test)]
 mod samples;

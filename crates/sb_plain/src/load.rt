@@ -42,7 +42,7 @@ fn load_word(
 }
 
 /// The number of some bytes from an address upwards, its lowest byte first, byte by byte.
-#[tactic(auto, using(sb_exec::proofs::Loads::loaded_none, sb_exec::proofs::Loads::loaded_stop, sb_exec::proofs::Loads::loaded_stop_later, sb_exec::proofs::Loads::loaded_more, sb_exec::proofs::Loads::number_fits, sb_exec::proofs::Loads::number_below))]
+#[tactic(auto, using(sb_bus::proofs::Loads::loaded_none, sb_bus::proofs::Loads::loaded_stop, sb_bus::proofs::Loads::loaded_stop_later, sb_bus::proofs::Loads::loaded_more, sb_bus::proofs::Loads::number_fits, sb_bus::proofs::Loads::number_below))]
 fn load_bytes(
     state: &Plain,
     thread: u32,

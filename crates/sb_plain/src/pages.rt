@@ -7,7 +7,7 @@ ghost use Rattle.sb_memory.specs.Words.{word_at, put_word as word_put};
 ghost use Rattle.sb_trace.specs.State.{find_page, replaced, bytes_of};
 ghost use Rattle.sb_trace.specs.PageWords.{zeros, words_put};
 ghost use Rattle.sb_trace.specs.Start.{named};
-ghost use Rattle.sb_trace.specs.SystemCall.{with_mode};
+ghost use Rattle.sb_trace.specs.SyscallProtect.{with_mode};
 ghost use Rattle.sb_plain.specs.Places.{place_of, equal_names, IsIndex, IsNoted, AreWhole, AreBlank, AreKnown, known_at, KeepsKnown, Remembers};
 ghost use Rattle.sb_plain.specs.Store.{with_pages, with_room, added};
 
@@ -96,7 +96,7 @@ impl Model for Pages {
 }
 
 /// Bytes of zero for a page.
-#[tactic(auto, unfolding(sb_trace::specs::PageWords::zeros))]
+#[tactic(auto, unfolding(sb_state::specs::PageWords::zeros))]
 pub fn zero_bytes(alloc: Global) -> Result<PageBytes, AllocError>
     ensures bytes { IfOk result (λ bytes. bytes ≡ zeros) }
     ensures size { IfOk result (λ bytes. length bytes ≡ 4096) }

@@ -1,7 +1,7 @@
 //! The bytes of VMFUNC, `0F 01 D4`, in a heap page and across its borders.
 
 ghost use Rattle.std.specs.Prelude.{◌≡◌, ◌<◌, ◌≤◌, ◌+◌, ◌*◌, ◌^◌, ◌++◌, IfSome, length, drop};
-ghost use Rattle.sb_trace.specs.declared.page.PageName.TheVariants.{Heap};
+ghost use Rattle.sb_state.specs.declared.page.PageName.TheVariants.{Heap};
 ghost use Rattle.sb_trace.specs.State.{find_page};
 ghost use Rattle.sb_trace.specs.Pattern.{first_pattern, executable_bytes as bytes_executed, bytes_before as bytes_in_front, bytes_behind as bytes_after, heap_pattern as pattern_by};
 
@@ -74,7 +74,7 @@ fn first_place(before: &[u8], bytes: &[u8], behind: &[u8]) -> Option<usize>
 }
 
 /// The lowest address at which the pattern stands in a heap page or across its border with an executable one.
-#[tactic(auto, unfolding(sb_trace::specs::Pattern::heap_pattern))]
+#[tactic(auto, unfolding(sb_state::specs::Pattern::heap_pattern))]
 pub fn heap_pattern(state: &Plain, process: u32, page: u32) -> Option<u64>
     requires { page + 1 < 2 ^ 32 }
     ensures { result ≡ pattern_by state.now process page }

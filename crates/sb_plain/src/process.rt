@@ -2,7 +2,7 @@
 
 ghost use Rattle.std.specs.Prelude.{◌≡◌, None};
 ghost use Rattle.std.specs.List.Sorted.{IsStrictlyIncreasing};
-ghost use Rattle.sb_trace.specs.SystemCall.{is_listed};
+ghost use Rattle.sb_trace.specs.SyscallRegister.{is_listed};
 
 use sb_rewrite::Starts;
 use sb_trace::Registration;

@@ -38,7 +38,7 @@ fn reach_named(
 }
 
 /// The page that an access in a view of a thread reaches, with its name.
-#[tactic(auto, unfolding(sb_trace::specs::Windows::page_seen, crate::specs::Reach::reached))]
+#[tactic(auto, unfolding(sb_state::specs::Windows::page_seen, crate::specs::Reach::reached))]
 pub fn reach(
     state: &Plain,
     thread: u32,

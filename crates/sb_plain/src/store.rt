@@ -55,7 +55,7 @@ fn find_spots(
 }
 
 /// Puts the lowest bytes of a number at these places, the lowest first.
-#[tactic(auto, unfolding(sb_trace::specs::PlainMemory::put_byte, sb_trace::specs::State::with_contents, sb_trace::specs::State::contents))]
+#[tactic(auto, unfolding(sb_state::specs::PlainMemory::put_byte, sb_state::specs::State::with_contents, sb_state::specs::State::contents))]
 fn put(state: &mut Plain, spots: &[Spot], value: u64)
     ensures { state.new ≡ put_all state.old (placed_in spots.now value) }
 {
@@ -88,7 +88,7 @@ fn store_by(
 
 /// Writes a word at an address, which ends in the page in which it begins, if it may be written: the page's mode is looked
 /// up once.
-#[tactic(auto, using(crate::proofs::WholeWord::word_stored, crate::proofs::WholeWord::word_may_be_stored, crate::proofs::WholeWord::word_not_stored), unfolding(sb_trace::specs::State::with_contents, sb_trace::specs::State::contents))]
+#[tactic(auto, using(crate::proofs::WholeWord::word_stored, crate::proofs::WholeWord::word_may_be_stored, crate::proofs::WholeWord::word_not_stored), unfolding(sb_state::specs::State::with_contents, sb_state::specs::State::contents))]
 fn store_word(
     state: &mut Plain,
     thread: u32,

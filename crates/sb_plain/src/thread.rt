@@ -9,7 +9,7 @@ use sb_trace::{Binding, EndKind, Flight, Thread};
 
 impl Plain {
     /// The thread of a core.
-    #[tactic(auto, unfolding(sb_trace::specs::State::thread_at))]
+    #[tactic(auto, unfolding(sb_state::specs::State::thread_at))]
     pub(crate) fn thread(&self, core: u8) -> &Thread
         requires { core < length self.now.threads }
         ensures { result.now ≡ thread_at self.now core }
@@ -18,7 +18,7 @@ impl Plain {
     }
 
     /// Gives the thread of a core these registers.
-    #[tactic(auto, unfolding(sb_trace::specs::State::thread_at, sb_trace::specs::State::with_regs))]
+    #[tactic(auto, unfolding(sb_state::specs::State::thread_at, sb_state::specs::State::with_regs))]
     pub(crate) fn set_regs(&mut self, core: u8, regs: Regs)
         requires { core < length self.old.threads }
         ensures set { self.new ≡ with_regs self.old core regs }
@@ -28,7 +28,7 @@ impl Plain {
     }
 
     /// Ends the thread of a core.
-    #[tactic(auto, unfolding(sb_trace::specs::State::thread_at, sb_trace::specs::State::with_end))]
+    #[tactic(auto, unfolding(sb_state::specs::State::thread_at, sb_state::specs::State::with_end))]
     pub(crate) fn set_end(&mut self, core: u8, end: EndKind)
         requires { core < length self.old.threads }
         ensures set { self.new ≡ with_end self.old core end }
@@ -38,7 +38,7 @@ impl Plain {
     }
 
     /// Puts the thread of a core into a view, with these registers.
-    #[tactic(auto, unfolding(sb_trace::specs::State::thread_at, sb_trace::specs::State::with_view))]
+    #[tactic(auto, unfolding(sb_state::specs::State::thread_at, sb_state::specs::State::with_view))]
     pub(crate) fn set_view(&mut self, core: u8, view: u16, regs: Regs)
         requires { core < length self.old.threads }
         ensures set { self.new ≡ with_view self.old core view regs }
@@ -50,7 +50,7 @@ impl Plain {
     }
 
     /// The flight of the thread of a core, where it is in flight.
-    #[tactic(auto, unfolding(sb_trace::specs::State::flight_at))]
+    #[tactic(auto, unfolding(sb_state::specs::State::flight_at))]
     pub(crate) fn flight(&self, core: u8) -> Option<Flight>
         ensures { result ≡ flight_at self.now core }
     {
@@ -58,7 +58,7 @@ impl Plain {
     }
 
     /// Puts the thread of a core into a flight, or into none.
-    #[tactic(auto, unfolding(sb_trace::specs::State::with_flight))]
+    #[tactic(auto, unfolding(sb_state::specs::State::with_flight))]
     pub(crate) fn set_flight(&mut self, core: u8, flight: Option<Flight>)
         ensures set { self.new ≡ with_flight self.old core flight }
         ensures threads { self.new.threads ≡ self.old.threads }
@@ -69,7 +69,7 @@ impl Plain {
     }
 
     /// Gives the thread of a core a binding behind its others.
-    #[tactic(auto, unfolding(sb_trace::specs::State::thread_at))]
+    #[tactic(auto, unfolding(sb_state::specs::State::thread_at))]
     pub(crate) fn push_binding(&mut self, core: u8, binding: Binding)
         requires inside { core < length self.old.threads }
         requires room { length (thread_at self.old core).bindings < 15 }

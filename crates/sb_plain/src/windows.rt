@@ -39,7 +39,7 @@ pub fn present_of(thread: &Thread) -> u32
 }
 
 /// The process that a view of the thread with this number shows.
-#[tactic(auto, unfolding(sb_trace::specs::Windows::shown))]
+#[tactic(auto, unfolding(sb_state::specs::Windows::shown))]
 pub fn shown(threads: &[Thread], thread: u32, view: u32) -> Option<u32>
     ensures { result ≡ shown_process threads.now thread view }
 {
@@ -100,7 +100,7 @@ fn special_name(thread: u32, view: u32, process: u32, page: u64) -> Option<PageN
 }
 
 /// The name at a page number, where the view of the thread shows this process.
-#[tactic(auto, unfolding(sb_trace::specs::Windows::name_at))]
+#[tactic(auto, unfolding(sb_state::specs::Windows::name_at))]
 fn name_in(threads: &[Thread], thread: u32, view: u32, page: u64, process: u32) -> Option<PageName>
     requires { page < 2 ^ 52 }
     ensures { result ≡ name_by_page threads.now thread view page process }
@@ -126,7 +126,7 @@ pub fn name_at(threads: &[Thread], thread: u32, view: u32, page: u64) -> Option<
 }
 
 /// How the page of a name may be accessed.
-#[tactic(auto, unfolding(sb_trace::specs::PageName::mode_of))]
+#[tactic(auto, unfolding(sb_state::specs::PageName::mode_of))]
 pub fn mode_of(name: PageName, executable: bool) -> Mode
     ensures { result ≡ mode_by_name name executable }
 {

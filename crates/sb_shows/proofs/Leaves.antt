@@ -19,8 +19,8 @@ use Rattle.sb_walks.specs.Nested.{mapped, page_behind}
 use Rattle.sb_pagewalk.specs.TableSet.{page_walked}
 use Rattle.sb_nested.specs.Stop.{stop_at, memory_fault}
 use Rattle.sb_root.specs.Entry.{reached}
-use Rattle.sb_trace.specs.declared.page.Mode.{Mode}
-use Rattle.sb_trace.specs.declared.page.Mode.TheVariants as mode
+use Rattle.sb_state.specs.declared.page.Mode.{Mode}
+use Rattle.sb_state.specs.declared.page.Mode.TheVariants as mode
 use Rattle.sb_trace.specs.PageName.{permits}
 use Rattle.sb_shows.specs.Placement.{leaf_for, rights_for}
 

@@ -1,12 +1,12 @@
 -- What the calls ask of the pages of a state, where they are those that belong to it.
 use Rattle.std.proofs.Common.{◌≡◌, ap, ℕ, zero, suc, ◌*◌, ◌<◌, List, [], ◌∷◌, length, refl, arith}
 use Rattle.std.specs.Prelude.{Option, Some, None, slice_get}
-use Rattle.sb_trace.specs.declared.page.PageName.{PageName}
-use Rattle.sb_trace.specs.declared.page.PageName.TheVariants.{Heap, Pool, ServerStack, Buffer, Record, Scratch}
-use Rattle.sb_trace.specs.declared.page.Page.{Page}
+use Rattle.sb_state.specs.declared.page.PageName.{PageName}
+use Rattle.sb_state.specs.declared.page.PageName.TheVariants.{Heap, Pool, ServerStack, Buffer, Record, Scratch}
+use Rattle.sb_state.specs.declared.page.Page.{Page}
 use Rattle.sb_trace.specs.State.{State, Process, find_page, process_at, registration_at}
 use Rattle.sb_trace.specs.Windows.{shown}
-use Rattle.sb_trace.specs.SystemCall.{heap_count}
+use Rattle.sb_trace.specs.SyscallProtect.{heap_count}
 use Rattle.sb_trace.specs.Whole.{IsViewThere, stack_count, IsWhole}
 use Rattle.sb_shows.specs.Placement.{IsThere}
 

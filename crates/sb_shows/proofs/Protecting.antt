@@ -16,16 +16,17 @@ use Rattle.sb_pagewalk.proofs.Regions.{page_table_small}
 use Rattle.sb_root.specs.Tables.{base_frames, shared_place, shared_table}
 use Rattle.sb_root.specs.Standing.{IsApart as IsRootApart}
 use Rattle.sb_root.proofs.Frames.{only_one, shared_in_base}
-use Rattle.sb_trace.specs.declared.page.PageName.{PageName}
-use Rattle.sb_trace.specs.declared.page.PageName.TheVariants.{Heap}
-use Rattle.sb_trace.specs.declared.page.Page.{Page}
-use Rattle.sb_trace.specs.declared.state.Thread.{Thread}
+use Rattle.sb_state.specs.declared.page.PageName.{PageName}
+use Rattle.sb_state.specs.declared.page.PageName.TheVariants.{Heap}
+use Rattle.sb_state.specs.declared.page.Page.{Page}
+use Rattle.sb_state.specs.declared.state.Thread.{Thread}
 use Rattle.sb_trace.specs.PageName.{same_name, mode_of}
 use Rattle.sb_trace.specs.State.{State, find_page}
 use Rattle.sb_trace.specs.Windows.{name_at, is_within}
-use Rattle.sb_trace.specs.SystemCall.{with_mode, protected}
-use Rattle.sb_trace.proofs.Names.{name_same}
-use Rattle.sb_trace.proofs.Pages.{mode_same, mode_other, with_executable}
+use Rattle.sb_trace.specs.SyscallProtect.{with_mode, protected}
+use Rattle.sb_state.proofs.Names.{name_same}
+use Rattle.sb_state.proofs.Pages.{with_executable}
+use Rattle.sb_trace.proofs.Modes.{mode_same, mode_other}
 use Rattle.sb_shows.specs.Placement.{Placement, BaseTable, GuestTable, Holds, IsThere, IsOneToOne, is_own, guest_page, leaf_for, leaf_if, rights_for, name_entry, entry_of}
 use Rattle.sb_shows.specs.Keeping.{HasContents, Keeps}
 use Rattle.sb_shows.specs.Windows.{page_number, IsOf}

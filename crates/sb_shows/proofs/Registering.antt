@@ -11,18 +11,18 @@ use Rattle.sb_memory.specs.Words.{put_word}
 use Rattle.sb_memory.proofs.Words.{length_put_word}
 use Rattle.sb_memory.proofs.Changes.{same_outside_word}
 use Rattle.sb_pagewalk.specs.Windows.{IsInWindow, region_of, page_table_of}
-use Rattle.sb_trace.specs.declared.page.PageName.{PageName}
-use Rattle.sb_trace.specs.declared.page.PageName.TheVariants.{Pool, ServerStack}
-use Rattle.sb_trace.specs.declared.page.Page.{Page}
-use Rattle.sb_trace.specs.declared.state.Thread.{Thread}
-use Rattle.sb_trace.specs.declared.state.Registration.{Registration}
+use Rattle.sb_state.specs.declared.page.PageName.{PageName}
+use Rattle.sb_state.specs.declared.page.PageName.TheVariants.{Pool, ServerStack}
+use Rattle.sb_state.specs.declared.page.Page.{Page}
+use Rattle.sb_state.specs.declared.state.Thread.{Thread}
+use Rattle.sb_state.specs.declared.state.Registration.{Registration}
 use Rattle.sb_trace.specs.PageWords.{zeros, with_word}
 use Rattle.sb_trace.specs.State.{State, Process, find_page, replaced, contents, with_contents, bytes_of, thread_at, process_at}
 use Rattle.sb_trace.specs.Start.{pages_from}
-use Rattle.sb_trace.specs.SystemCall.{stack_bytes, server_stack_page, with_registration, with_server}
+use Rattle.sb_trace.specs.SyscallRegister.{stack_bytes, server_stack_page, with_registration, with_server}
 use Rattle.sb_trace.specs.Windows.{name_at, is_within}
-use Rattle.sb_trace.proofs.Names.{name_other}
-use Rattle.sb_trace.proofs.Pages.{found_other}
+use Rattle.sb_state.proofs.Names.{name_other}
+use Rattle.sb_state.proofs.Pages.{found_other}
 use Rattle.sb_trace.proofs.KeptPages.{zeros_size}
 use Rattle.sb_shows.specs.Placement.{Placement, is_own}
 use Rattle.sb_shows.specs.Keeping.{Keeps}

@@ -1,72 +1,83 @@
 -- System calls by their number, and what stands after them.
-use Rattle.std.proofs.Common.{◌≡◌, ◌≢◌, ◌∙◌, sym, ap, subst, ℕ, zero, suc, ◌<◌, ◌==◌, Bool, true, false, nat_le, List, [], ◌∷◌, length, refl, arith}
+use Rattle.std.proofs.Common.{◌≡◌, ◌≢◌, ◌∙◌, sym, ap, subst, ℕ, zero, suc, ◌<◌, ◌==◌, Bool, true, false, nat_le, List, [], ◌∷◌, length, refl, get_or-set_other, arith}
 use Rattle.std.specs.Prelude.{Option, Some, None, if◌then◌else◌, slice_get, slice_set, unwrap_or}
 use Rattle.std.proofs.lemmas.Bool.{eqb-true, ne_eqb}
 use Rattle.std.proofs.lemmas.List.{length-map, length-set}
-use Rattle.sb_insn.specs.declared.insn.Insn.{Insn}
 use Rattle.sb_insn.specs.declared.registers.Regs.{Regs}
 use Rattle.sb_memory.specs.Physical.{Physical}
 use Rattle.sb_frames.specs.Book.{Book}
 use Rattle.sb_root.specs.declared.root_kernel.RootKernel.{RootKernel}
 use Rattle.sb_trace.specs.declared.event.Event.{Event}
 use Rattle.sb_trace.specs.declared.event.Event.TheVariants as event
-use Rattle.sb_trace.specs.declared.end.EndKind.{EndKind}
-use Rattle.sb_trace.specs.declared.end.EndKind.TheVariants.{Ended as EndedWith}
-use Rattle.sb_trace.specs.declared.state.Thread.{Thread}
+use Rattle.sb_state.specs.declared.end_kind.EndKind.{EndKind}
+use Rattle.sb_state.specs.declared.end_kind.EndKind.TheVariants.{Ended as EndedWith}
+use Rattle.sb_state.specs.declared.state.Thread.{Thread}
 use Rattle.sb_trace.specs.State.{State, thread_at, with_regs, with_end, with_view, process_at, no_thread}
 use Rattle.sb_trace.specs.Registers.{rax, rdi, rsi}
-use Rattle.sb_trace.specs.Home.{Outcome, faulted_home, sent_home}
+use Rattle.sb_calls.specs.SyscallRegisters.{faulted_home}
+use Rattle.sb_trace.specs.Home.{Outcome, sent_home}
 use Rattle.sb_trace.specs.Pattern.{heap_pattern}
 use Rattle.sb_trace.specs.Windows.{present_of}
-use Rattle.sb_trace.specs.SystemCall.{after_syscall, answered, returned, declined, exited, heap_count, protected, made_executable, protects, called_by, called}
+use Rattle.sb_abi.specs.declared.call.CallRefusal.{CallRefusal}
+use Rattle.sb_abi.specs.declared.call.CallRefusal.TheVariants.{NoCall}
+use Rattle.sb_abi.specs.Numbers.{refusal_number}
+use Rattle.sb_calls.specs.Refusals.{protect_refusal}
+use Rattle.sb_calls.specs.SyscallRegisters.{answered}
+use Rattle.sb_trace.specs.SyscallAnswer.{returned, declined, accepted}
+use Rattle.sb_trace.specs.SyscallProtect.{heap_count, protected, made_executable, protects_by, protects}
+use Rattle.sb_trace.specs.Syscall.{exited, called_by, called}
 use Rattle.sb_sub.specs.Kernel.{Kernel, Seat, seat_of, shown_in, process_from}
-use Rattle.sb_sub.specs.Refusals.{pattern_refusal, protect_refusal}
+use Rattle.sb_sub.specs.Refusals.{with_pattern, page_refusal, answer_by}
 use Rattle.sb_sub.specs.Outcomes.{ProtectsBy, after_protect, protect_by}
 use Rattle.sb_sub.specs.StandsFor.{StandsFor}
-use Rattle.sb_sub.specs.Serving.{Serves, exit_answer, exit_regs, behind, entered, line_of}
+use Rattle.sb_sub.specs.Serving.{Serves, exit_answer, exit_regs, entered, line_of}
 use Rattle.sb_sub.specs.declared.answer.Answer.{Answer}
 use Rattle.sb_sub.specs.declared.answer.Answer.TheVariants.{Back, Ended, GoHome}
 use Rattle.sb_sub.proofs.Moves.{IsMoved, seats_set, seat_at, stands_moved}
 
 -- ---- by number
 
-pub called_print : (state : State) (number : ℕ) (insn : Insn) (regs : Regs) → rax regs ≡ 1 → called state number insn regs ≡ (event.Printed (rdi regs), returned state number insn regs 0 0)
+pub called_print : (state : State) (number : ℕ) (next : Regs) → rax next ≡ 1 → called state number next ≡ (event.Printed (rdi next), returned state number next 0 0)
 unfolding called
-called_print state number insn regs is = ap (λ (call : ℕ). called_by state number (thread_at state number) insn regs call) is
+called_print state number next is = ap (λ (call : ℕ). called_by state number (thread_at state number) next call) is
 
-pub called_protect : (state : State) (number : ℕ) (insn : Insn) (regs : Regs) → rax regs ≡ 4
-    → called state number insn regs ≡ protects state number insn regs (present_of (thread_at state number)) (rdi regs) (rsi regs)
+pub called_protect : (state : State) (number : ℕ) (next : Regs) → rax next ≡ 4
+    → called state number next ≡ protects state number next (present_of (thread_at state number)) (rdi next) (rsi next)
 unfolding called
-called_protect state number insn regs is = ap (λ (call : ℕ). called_by state number (thread_at state number) insn regs call) is
+called_protect state number next is = ap (λ (call : ℕ). called_by state number (thread_at state number) next call) is
 
-pub called_none : (state : State) (number : ℕ) (insn : Insn) (regs : Regs) → rax regs ≢ 0 → rax regs ≢ 1 → rax regs ≢ 2 → rax regs ≢ 3 → rax regs ≢ 4
-    → called state number insn regs ≡ declined state number insn regs 21 0
+pub called_none : (state : State) (number : ℕ) (next : Regs) → rax next ≢ 0 → rax next ≢ 1 → rax next ≢ 2 → rax next ≢ 3 → rax next ≢ 4
+    → called state number next ≡ declined state number next NoCall 0
 unfolding called
-called_none state number insn regs zeroth first second third fourth =
+called_none state number next zeroth first second third fourth =
     rw (ne_eqb _ _ zeroth, ne_eqb _ _ first, ne_eqb _ _ second, ne_eqb _ _ third, ne_eqb _ _ fourth) refl
 
 -- ---- protect by its refusal
 
-module _ (state : State) (number : ℕ) (insn : Insn) (regs : Regs) (process page mode : ℕ) where
+module _ (state : State) (number : ℕ) (next : Regs) (process page mode : ℕ) where
   abbrev made : (executable : Bool) → Outcome
-  made executable = (event.Sys (rax regs) 0, returned (protected state process page executable) number insn regs 0 0)
+  made executable = accepted (protected state process page executable) number next
 
-  by_cases : (beyond write execute : Bool) (pattern : Option ℕ) → (mode == 0) ≡ write → (mode == 1) ≡ execute
-      → (if beyond then declined state number insn regs 18 0
-      else if write then (event.Sys (rax regs) 0, returned (protected state process page false) number insn regs 0 0)
-      else if execute then made_executable state number insn regs process page pattern
-      else declined state number insn regs 19 0)
-      ≡ protect_by state number insn regs process page mode (if beyond then Some (18, 0) else if write then None else if execute then pattern_refusal pattern else Some (19, 0))
-  by_cases true write execute pattern writes executes = refl
-  by_cases false true execute pattern writes executes =
-      ap made (ap (λ (n : ℕ). n == 1) (sym (eqb-true mode 0 writes)))
-  by_cases false false true None writes executes = ap made (sym executes)
-  by_cases false false true (Some address) writes executes = refl
-  by_cases false false false pattern writes executes = refl
+  -- protect by its refusal, whether the page is to be executable, and where the pattern stands
+  abbrev chosen : Option CallRefusal → Bool → Option ℕ → Outcome
+  chosen (Some refusal) executable pattern = declined state number next refusal 0
+  chosen None executable pattern = if executable then made_executable state number next process page pattern else made false
 
-  pub protects_are : protects state number insn regs process page mode
-      ≡ protect_by state number insn regs process page mode (protect_refusal (heap_count (process_at state process)) page mode (heap_pattern state process page))
-  protects_are = by_cases (nat_le (heap_count (process_at state process)) page) (mode == 0) (mode == 1) (heap_pattern state process page) refl refl
+  by_cases : (refusal : Option CallRefusal) (executable : Bool) (pattern : Option ℕ) → (mode == 1) ≡ executable
+      → chosen refusal executable pattern ≡ protect_by state number next process page mode (with_pattern refusal executable pattern)
+  by_cases (Some refusal) executable pattern is = refl
+  by_cases None true None is = ap made (sym is)
+  by_cases None true (Some address) is = refl
+  by_cases None false pattern is = ap made (sym is)
+
+  by_any : (refusal : Option CallRefusal) → protects_by state number next process page mode refusal
+      ≡ protect_by state number next process page mode (with_pattern refusal (mode == 1) (heap_pattern state process page))
+  by_any (Some refusal) = refl
+  by_any None = by_cases None (mode == 1) (heap_pattern state process page) refl
+
+  pub protects_are : protects state number next process page mode
+      ≡ protect_by state number next process page mode (page_refusal (heap_count (process_at state process)) page mode (heap_pattern state process page))
+  protects_are = by_any (protect_refusal (heap_count (process_at state process)) page mode)
 
 -- ---- the thread
 
@@ -103,56 +114,59 @@ shown_same kernel root book memory state thread view stands is =
 
 -- ---- what is served
 
-module _ (kernel : Kernel) (root : RootKernel) (book : Book) (memory : Physical) (state : State) (thread : ℕ) (insn : Insn) (start old new : Regs) (answer second : ℕ)
-    (stands : StandsFor kernel root book memory state) (inside : thread < length kernel.seats)
-    (began : old ≡ behind insn start) (now : new ≡ answered (entered old) answer second) where
-  regs_now : new ≡ answered (after_syscall insn start) answer second
-  regs_now = now ∙ ap (λ (regs : Regs). answered (entered regs) answer second) began
-
+module _ (kernel : Kernel) (root : RootKernel) (book : Book) (memory : Physical) (state : State) (thread : ℕ) (next new : Regs) (answer second : ℕ)
+    (stands : StandsFor kernel root book memory state) (inside : thread < length kernel.seats) (now : new ≡ answered next answer second) where
   -- the thread goes on in a state that is stood for
-  pub goes_on : (told : Answer) (line : Event) → line_of told ≡ line → Serves kernel root book memory thread told new (line, returned state thread insn start answer second)
+  pub goes_on : (told : Answer) (line : Event) → line_of told ≡ line → Serves kernel root book memory thread told new (line, returned state thread next answer second)
   goes_on told line is = record {
     line = is;
-    registers = regs_now ∙ sym (regs_set state thread (answered (after_syscall insn start) answer second) (subst (λ (n : ℕ). thread < n) (count_same kernel root book memory state stands) inside));
-    stands = stands_moved kernel root book memory state _ (moved_regs state thread (answered (after_syscall insn start) answer second)) stands;
+    registers = now ∙ sym (regs_set state thread (answered next answer second) (subst (λ (n : ℕ). thread < n) (count_same kernel root book memory state stands) inside));
+    stands = stands_moved kernel root book memory state _ (moved_regs state thread (answered next answer second)) stands;
   }
 
--- protect, by its refusal
-protect_served_by : (refusal : Option (ℕ × ℕ)) (kernel : Kernel) (root : RootKernel) (book : Book) (memory : Physical) (state : State) (thread : ℕ) (insn : Insn) (start old new : Regs) (process page mode : ℕ)
-    → StandsFor kernel root book memory (after_protect state process page mode refusal) → thread < length kernel.seats
-    → old ≡ behind insn start → new ≡ answered (entered old) (unwrap_or refusal (0, 0)).0 (unwrap_or refusal (0, 0)).1
-    → Serves kernel root book memory thread (Back (rax old) (unwrap_or refusal (0, 0)).0) new (protect_by state thread insn start process page mode refusal)
-protect_served_by None kernel root book memory state thread insn start old new process page mode stands inside began now =
-    goes_on kernel root book memory (protected state process page (mode == 1)) thread insn start old new 0 0 stands inside began now (Back (rax old) 0) _
-    (ap (λ (regs : Regs). event.Sys (rax regs) 0) began)
-protect_served_by (Some refusal) kernel root book memory state thread insn start old new process page mode stands inside began now =
-    goes_on kernel root book memory state thread insn start old new refusal.0 refusal.1 stands inside began now (Back (rax old) refusal.0) _
-    (ap (λ (regs : Regs). event.Sys (rax regs) refusal.0) began)
+-- number and arguments are as before SYSCALL
+pub rax_entered : (old : Regs) → rax (entered old) ≡ rax old
+rax_entered old = get_or-set_other (slice_set old.general 1 old.rip) 11 0 _ 0 (λ same. cc) ∙ get_or-set_other old.general 1 0 _ 0 (λ same. cc)
 
-pub protect_served : (refusal : Option (ℕ × ℕ)) (kernel : Kernel) (root : RootKernel) (book : Book) (memory : Physical) (state : State) (thread view : ℕ) (insn : Insn) (start old new : Regs) (process : ℕ)
+pub rsi_entered : (old : Regs) → rsi (entered old) ≡ rsi old
+rsi_entered old = get_or-set_other (slice_set old.general 1 old.rip) 11 6 _ 0 (λ same. cc) ∙ get_or-set_other old.general 1 6 _ 0 (λ same. cc)
+
+pub rdi_entered : (old : Regs) → rdi (entered old) ≡ rdi old
+rdi_entered old = get_or-set_other (slice_set old.general 1 old.rip) 11 7 _ 0 (λ same. cc) ∙ get_or-set_other old.general 1 7 _ 0 (λ same. cc)
+
+-- protect, by its refusal
+protect_served_by : (refusal : Option (CallRefusal × ℕ)) (kernel : Kernel) (root : RootKernel) (book : Book) (memory : Physical) (state : State) (thread : ℕ) (next new : Regs) (number process page mode : ℕ)
+    → StandsFor kernel root book memory (after_protect state process page mode refusal) → thread < length kernel.seats
+    → rax next ≡ number → new ≡ answered next (answer_by refusal).0 (answer_by refusal).1
+    → Serves kernel root book memory thread (Back number (answer_by refusal).0) new (protect_by state thread next process page mode refusal)
+protect_served_by None kernel root book memory state thread next new number process page mode stands inside same now =
+    goes_on kernel root book memory (protected state process page (mode == 1)) thread next new 0 0 stands inside now (Back number 0) _
+    (ap (λ (call : ℕ). event.Sys call 0) (sym same))
+protect_served_by (Some refusal) kernel root book memory state thread next new number process page mode stands inside same now =
+    goes_on kernel root book memory state thread next new (refusal_number refusal.0) refusal.1 stands inside now (Back number (refusal_number refusal.0)) _
+    (ap (λ (call : ℕ). event.Sys call (refusal_number refusal.0)) (sym same))
+
+pub protect_served : (refusal : Option (CallRefusal × ℕ)) (kernel : Kernel) (root : RootKernel) (book : Book) (memory : Physical) (state : State) (thread : ℕ) (old new : Regs) (process : ℕ)
     → ProtectsBy kernel root book memory state process (rdi old) (rsi old) refusal → thread < length kernel.seats
     → process ≡ present_of (thread_at state thread)
-    → old ≡ behind insn start → rax old ≡ 4 → new ≡ answered (entered old) (unwrap_or refusal (0, 0)).0 (unwrap_or refusal (0, 0)).1
-    → Serves kernel root book memory thread (Back (rax old) (unwrap_or refusal (0, 0)).0) new (called state thread insn start)
-protect_served refusal kernel root book memory state thread view insn start old new process by inside shows began number now =
-    let same_page : rdi old ≡ rdi start = ap rdi began in
-    let same_mode : rsi old ≡ rsi start = ap rsi began in
-    let same_number : rax old ≡ rax start = ap rax began in
-    let outcome : protect_by state thread insn start process (rdi old) (rsi old) refusal ≡ called state thread insn start =
-    ap (protect_by state thread insn start process (rdi old) (rsi old)) by.is
-    ∙ (sym (protects_are state thread insn start process (rdi old) (rsi old))
-    ∙ (ap (λ (one : ℕ). protects state thread insn start one (rdi old) (rsi old)) shows
-    ∙ (ap (λ (one : ℕ). protects state thread insn start (present_of (thread_at state thread)) one (rsi old)) same_page
-    ∙ (ap (λ (one : ℕ). protects state thread insn start (present_of (thread_at state thread)) (rdi start) one) same_mode
-    ∙ sym (called_protect state thread insn start (sym same_number ∙ number)))))) in
-    subst (Serves kernel root book memory thread (Back (rax old) (unwrap_or refusal (0, 0)).0) new) outcome
-    (protect_served_by refusal kernel root book memory state thread insn start old new process (rdi old) (rsi old) by.stands inside began now)
+    → rax old ≡ 4 → new ≡ answered (entered old) (answer_by refusal).0 (answer_by refusal).1
+    → Serves kernel root book memory thread (Back (rax old) (answer_by refusal).0) new (called state thread (entered old))
+protect_served refusal kernel root book memory state thread old new process by inside shows number now =
+    let outcome : protect_by state thread (entered old) process (rdi old) (rsi old) refusal ≡ called state thread (entered old) =
+    ap (protect_by state thread (entered old) process (rdi old) (rsi old)) by.is
+    ∙ (sym (protects_are state thread (entered old) process (rdi old) (rsi old))
+    ∙ (ap (λ (one : ℕ). protects state thread (entered old) one (rdi old) (rsi old)) shows
+    ∙ (ap (λ (one : ℕ). protects state thread (entered old) (present_of (thread_at state thread)) one (rsi old)) (sym (rdi_entered old))
+    ∙ (ap (λ (one : ℕ). protects state thread (entered old) (present_of (thread_at state thread)) (rdi (entered old)) one) (sym (rsi_entered old))
+    ∙ sym (called_protect state thread (entered old) (rax_entered old ∙ number)))))) in
+    subst (Serves kernel root book memory thread (Back (rax old) (answer_by refusal).0) new) outcome
+    (protect_served_by refusal kernel root book memory state thread (entered old) new (rax old) process (rdi old) (rsi old) by.stands inside (rax_entered old) now)
 
 -- ---- exit
 
-pub called_exit : (state : State) (number : ℕ) (insn : Insn) (regs : Regs) → rax regs ≡ 0 → called state number insn regs ≡ exited state number insn regs
+pub called_exit : (state : State) (number : ℕ) (next : Regs) → rax next ≡ 0 → called state number next ≡ exited state number next
 unfolding called
-called_exit state number insn regs is = ap (λ (call : ℕ). called_by state number (thread_at state number) insn regs call) is
+called_exit state number next is = ap (λ (call : ℕ). called_by state number (thread_at state number) next call) is
 
 moved_end : (state : State) (number : ℕ) (end : EndKind) → IsMoved state (with_end state number end)
 unfolding with_end thread_at
@@ -188,34 +202,34 @@ regs_count : (state : State) (number : ℕ) (regs : Regs) → length (with_regs 
 unfolding with_regs
 regs_count state number regs = length-set state.threads number _
 
-module _ (kernel : Kernel) (root : RootKernel) (book : Book) (memory : Physical) (state : State) (thread : ℕ) (insn : Insn) (start old new : Regs)
-    (stands : StandsFor kernel root book memory state) (inside : thread < length kernel.seats) (began : old ≡ behind insn start) where
+module _ (kernel : Kernel) (root : RootKernel) (book : Book) (memory : Physical) (state : State) (thread : ℕ) (old new : Regs)
+    (stands : StandsFor kernel root book memory state) (inside : thread < length kernel.seats) where
   below : thread < length state.threads
   below = subst (λ (n : ℕ). thread < n) (count_same kernel root book memory state stands) inside
 
   abbrev mid : State
-  mid = with_regs state thread (after_syscall insn start)
+  mid = with_regs state thread (entered old)
 
   exit_by : (home : Bool) → new ≡ (if home then entered old else faulted_home)
       → Serves kernel root book memory thread (if home then Ended (rdi old) else GoHome (rdi old)) new
-      (if home then (event.Exit (rdi start), with_end (with_regs state thread (after_syscall insn start)) thread (EndedWith (rdi start))) else (event.ServerExit (rdi start), sent_home state thread))
+      (if home then (event.Exit (rdi (entered old)), with_end (with_regs state thread (entered old)) thread (EndedWith (rdi (entered old)))) else (event.ServerExit (rdi (entered old)), sent_home state thread))
   exit_by true now = record {
-    line = ap (λ (regs : Regs). event.Exit (rdi regs)) began;
-    registers = now ∙ (ap entered began ∙ (sym (regs_set state thread (after_syscall insn start) below)
-        ∙ sym (end_set mid thread (EndedWith (rdi start)) (subst (λ (n : ℕ). thread < n) (sym (regs_count state thread (after_syscall insn start))) below))));
-    stands = stands_moved kernel root book memory mid _ (moved_end mid thread (EndedWith (rdi start)))
-        (stands_moved kernel root book memory state mid (moved_regs state thread (after_syscall insn start)) stands);
+    line = ap event.Exit (sym (rdi_entered old));
+    registers = now ∙ (sym (regs_set state thread (entered old) below)
+        ∙ sym (end_set mid thread (EndedWith (rdi (entered old))) (subst (λ (n : ℕ). thread < n) (sym (regs_count state thread (entered old))) below)));
+    stands = stands_moved kernel root book memory mid _ (moved_end mid thread (EndedWith (rdi (entered old))))
+        (stands_moved kernel root book memory state mid (moved_regs state thread (entered old)) stands);
   }
   exit_by false now = record {
-    line = ap (λ (regs : Regs). event.ServerExit (rdi regs)) began;
+    line = ap event.ServerExit (sym (rdi_entered old));
     registers = now ∙ sym (view_set state thread 0 faulted_home below);
     stands = stands_moved kernel root book memory state _ (moved_view state thread 0 faulted_home) stands;
   }
 
   pub exit_served : (view : ℕ) → (thread_at state thread).view ≡ view → rax old ≡ 0 → new ≡ exit_regs view old
-      → Serves kernel root book memory thread (exit_answer view (rdi old)) new (called state thread insn start)
+      → Serves kernel root book memory thread (exit_answer view (rdi old)) new (called state thread (entered old))
   exit_served view is number now =
-      let outcome = λ (one : ℕ). if one == 0 then (event.Exit (rdi start), with_end (with_regs state thread (after_syscall insn start)) thread (EndedWith (rdi start))) else (event.ServerExit (rdi start), sent_home state thread) in
+      let outcome = λ (one : ℕ). if one == 0 then (event.Exit (rdi (entered old)), with_end (with_regs state thread (entered old)) thread (EndedWith (rdi (entered old)))) else (event.ServerExit (rdi (entered old)), sent_home state thread) in
       subst (Serves kernel root book memory thread (exit_answer view (rdi old)) new)
-      (ap outcome (sym is) ∙ sym (called_exit state thread insn start (sym (ap rax began) ∙ number)))
+      (ap outcome (sym is) ∙ sym (called_exit state thread (entered old) (rax_entered old ∙ number)))
       (exit_by (view == 0) now)

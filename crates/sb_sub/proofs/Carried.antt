@@ -11,14 +11,14 @@ use Rattle.sb_root.specs.declared.root_kernel.RootKernel.{RootKernel}
 use Rattle.sb_root.specs.Standing.{IsApart as IsRootApart, IsBooked, Stands}
 use Rattle.sb_root.specs.Calls.{IsFree}
 use Rattle.sb_root.proofs.Frames.{only_one}
-use Rattle.sb_trace.specs.declared.page.PageName.{PageName}
-use Rattle.sb_trace.specs.declared.page.Page.{Page}
-use Rattle.sb_trace.specs.declared.page.Mode.{Mode}
-use Rattle.sb_trace.specs.declared.page.Mode.TheVariants.{ReadWrite}
+use Rattle.sb_state.specs.declared.page.PageName.{PageName}
+use Rattle.sb_state.specs.declared.page.Page.{Page}
+use Rattle.sb_state.specs.declared.page.Mode.{Mode}
+use Rattle.sb_state.specs.declared.page.Mode.TheVariants.{ReadWrite}
 use Rattle.sb_trace.specs.PageName.{same_name, mode_of}
 use Rattle.sb_trace.specs.State.{State, find_page}
 use Rattle.sb_trace.specs.Start.{named}
-use Rattle.sb_trace.proofs.Names.{name_same}
+use Rattle.sb_state.proofs.Names.{name_same}
 use Rattle.sb_shows.specs.Placement.{Placement, Unused, GuestTable, Holds, IsThere, leaf_for, rights_for}
 use Rattle.sb_shows.specs.Calls.{SetsPage, ExposesFrame, AddsPage, placed_with, IsNewPage}
 use Rattle.sb_shows.specs.Windows.{page_number}

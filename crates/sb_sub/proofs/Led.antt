@@ -13,9 +13,9 @@ use Rattle.sb_walks.specs.declared.stop.WalkStop.TheVariants.{Denied}
 use Rattle.sb_walks.specs.Guest.{address_in}
 use Rattle.sb_pagewalk.specs.TableSet.{page_walked, walked_in}
 use Rattle.sb_pagewalk.proofs.OnePage.{set_walked_window}
-use Rattle.sb_trace.specs.declared.page.PageName.{PageName}
-use Rattle.sb_trace.specs.declared.page.PageName.TheVariants.{Heap}
-use Rattle.sb_trace.specs.declared.page.Page.{Page}
+use Rattle.sb_state.specs.declared.page.PageName.{PageName}
+use Rattle.sb_state.specs.declared.page.PageName.TheVariants.{Heap}
+use Rattle.sb_state.specs.declared.page.Page.{Page}
 use Rattle.sb_trace.specs.PageName.{mode_of}
 use Rattle.sb_trace.specs.State.{State, find_page}
 use Rattle.sb_trace.specs.Windows.{name_at}

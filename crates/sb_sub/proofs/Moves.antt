@@ -7,12 +7,12 @@ use Rattle.std.proofs.lemmas.List.{length-map}
 use Rattle.sb_memory.specs.Physical.{Physical}
 use Rattle.sb_frames.specs.Book.{Book}
 use Rattle.sb_root.specs.declared.root_kernel.RootKernel.{RootKernel}
-use Rattle.sb_trace.specs.declared.page.PageName.{PageName}
-use Rattle.sb_trace.specs.declared.page.PageName.TheVariants.{Text, Area, Data, Heap, Pool, ServerStack, Save, Stack, Buffer, Record, Scratch, HomeTrampoline, ServerTrampoline}
-use Rattle.sb_trace.specs.declared.state.Thread.{Thread}
+use Rattle.sb_state.specs.declared.page.PageName.{PageName}
+use Rattle.sb_state.specs.declared.page.PageName.TheVariants.{Text, Area, Data, Heap, Pool, ServerStack, Save, Stack, Buffer, Record, Scratch, HomeTrampoline, ServerTrampoline}
+use Rattle.sb_state.specs.declared.state.Thread.{Thread}
 use Rattle.sb_trace.specs.State.{State, Process, find_page, thread_at, no_thread}
 use Rattle.sb_trace.specs.Windows.{shown, shown_by}
-use Rattle.sb_trace.specs.SystemCall.{heap_count}
+use Rattle.sb_trace.specs.SyscallProtect.{heap_count}
 use Rattle.sb_shows.specs.Placement.{IsThere}
 use Rattle.sb_shows.specs.Threads.{SameSight}
 use Rattle.sb_shows.proofs.Threads.{keeps_moved}

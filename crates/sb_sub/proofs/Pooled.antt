@@ -20,18 +20,18 @@ use Rattle.sb_pagewalk.proofs.OnePage.{set_walked_window}
 use Rattle.sb_root.specs.declared.root_kernel.RootKernel.{RootKernel}
 use Rattle.sb_root.specs.Standing.{IsApart as IsRootApart, IsBooked}
 use Rattle.sb_root.proofs.Frames.{only_one}
-use Rattle.sb_trace.specs.declared.page.PageName.{PageName}
-use Rattle.sb_trace.specs.declared.page.PageName.TheVariants.{Pool, ServerStack}
-use Rattle.sb_trace.specs.declared.page.Page.{Page}
-use Rattle.sb_trace.specs.declared.state.Registration.{Registration}
-use Rattle.sb_trace.specs.declared.state.Thread.{Thread}
+use Rattle.sb_state.specs.declared.page.PageName.{PageName}
+use Rattle.sb_state.specs.declared.page.PageName.TheVariants.{Pool, ServerStack}
+use Rattle.sb_state.specs.declared.page.Page.{Page}
+use Rattle.sb_state.specs.declared.state.Registration.{Registration}
+use Rattle.sb_state.specs.declared.state.Thread.{Thread}
 use Rattle.sb_trace.specs.PageName.{mode_of, same_name}
 use Rattle.sb_trace.specs.PageWords.{with_word}
 use Rattle.sb_trace.specs.State.{State, Process, find_page, replaced, contents, with_contents, thread_at, process_at}
 use Rattle.sb_trace.specs.Windows.{name_at}
-use Rattle.sb_trace.specs.SystemCall.{with_registration, with_server}
-use Rattle.sb_trace.proofs.Names.{name_other, name_same}
-use Rattle.sb_trace.proofs.Pages.{found_other, found_same, with_bytes as page_with}
+use Rattle.sb_trace.specs.SyscallRegister.{with_registration, with_server}
+use Rattle.sb_state.proofs.Names.{name_other, name_same}
+use Rattle.sb_state.proofs.Pages.{found_other, found_same, with_bytes as page_with}
 use Rattle.sb_shows.specs.Placement.{Placement, Holds, IsThere, is_own, guest_page, leaf_for, leaf_if, entry_of, entries_of}
 use Rattle.sb_shows.specs.Keeping.{Keeps}
 use Rattle.sb_shows.proofs.Leaves.{guest_permits, leaf_judged}

@@ -1,6 +1,6 @@
 -- A state that is stood for, after protect.
 use Rattle.std.proofs.Common.{◌≡◌, ◌∙◌, sym, ap, subst, ℕ, ◌<◌, ◌==◌, Bool, true, false, nat_le, List, [], ◌∷◌, refl, lit<, arith}
-use Rattle.std.specs.Prelude.{Option, Some, None, IfNone, if◌then◌else◌, slice_get}
+use Rattle.std.specs.Prelude.{◌||◌, Option, Some, None, IfNone, if◌then◌else◌, slice_get}
 use Rattle.std.specs.Option.{option_map}
 use Rattle.std.proofs.lemmas.Grind.{common_steps}
 use Rattle.std.proofs.lemmas.Option.{slice_get-map}
@@ -12,22 +12,26 @@ use Rattle.sb_pagewalk.specs.TableSet.{table_frame}
 use Rattle.sb_pagewalk.specs.Standing.{HasTables}
 use Rattle.sb_root.specs.declared.root_kernel.RootKernel.{RootKernel}
 use Rattle.sb_root.specs.Standing.{IsApart, IsBooked, Stands}
-use Rattle.sb_trace.specs.declared.page.PageName.{PageName}
-use Rattle.sb_trace.specs.declared.page.PageName.TheVariants.{Heap}
-use Rattle.sb_trace.specs.declared.page.Page.{Page}
+use Rattle.sb_state.specs.declared.page.PageName.{PageName}
+use Rattle.sb_state.specs.declared.page.PageName.TheVariants.{Heap}
+use Rattle.sb_state.specs.declared.page.Page.{Page}
 use Rattle.sb_trace.specs.PageName.{same_name, mode_of}
 use Rattle.sb_trace.specs.State.{State, Process, find_page, process_at}
 use Rattle.sb_trace.specs.Pattern.{heap_pattern}
-use Rattle.sb_trace.specs.SystemCall.{heap_count, with_mode, protected}
-use Rattle.sb_trace.proofs.Names.{name_same}
-use Rattle.sb_trace.proofs.Pages.{mode_same, mode_other, with_executable}
+use Rattle.sb_trace.specs.SyscallProtect.{heap_count, with_mode, protected}
+use Rattle.sb_state.proofs.Names.{name_same}
+use Rattle.sb_state.proofs.Pages.{with_executable}
+use Rattle.sb_trace.proofs.Modes.{mode_same, mode_other}
+use Rattle.sb_abi.specs.declared.call.CallRefusal.{CallRefusal}
+use Rattle.sb_abi.specs.declared.call.CallRefusal.TheVariants.{BadPage, BadMode}
+use Rattle.sb_calls.specs.Refusals.{protect_refusal}
 use Rattle.sb_shows.specs.Placement.{IsThere, leaf_for, rights_for}
 use Rattle.sb_shows.specs.Keeping.{Keeps}
 use Rattle.sb_shows.specs.Calls.{SetsPage, ExposesFrame}
 use Rattle.sb_shows.proofs.Protecting.{guest_root_apart, there_mode, protected_keeps}
 use Rattle.sb_sub.specs.Kernel.{Entry, Kernel, process_of}
 use Rattle.sb_sub.specs.Heap.{SetsMode, heap_at, heap_mode, pattern_at}
-use Rattle.sb_sub.specs.Refusals.{pattern_refusal, protect_refusal}
+use Rattle.sb_sub.specs.Refusals.{with_pattern, page_refusal}
 use Rattle.sb_sub.specs.StandsFor.{StandsFor}
 use Rattle.sb_sub.specs.Outcomes.{ProtectsBy, after_protect}
 use Rattle.sb_sub.proofs.Finding.{process_found, process_there, set_is, page_there, frame_read, heap_few, pattern_same}
@@ -127,31 +131,33 @@ module _ (kernel : Kernel) (root : RootKernel) (book : Book) (memory : Physical)
   -- ---- the refusal
 
   refusal_by : (page mode : ℕ) (beyond : Bool) → nat_le entry.process.heap_pages page ≡ beyond
-      → (if beyond then Some (18, 0) else if mode == 0 then None else if mode == 1 then pattern_refusal (pattern_at memory entry.set page entry.process.heap_pages) else Some (19, 0))
-      ≡ (if beyond then Some (18, 0) else if mode == 0 then None else if mode == 1 then pattern_refusal (heap_pattern state process page) else Some (19, 0))
+      → with_pattern (if beyond then Some BadPage else if (mode == 0) || (mode == 1) then None else Some BadMode) (mode == 1)
+          (pattern_at memory entry.set page entry.process.heap_pages)
+      ≡ with_pattern (if beyond then Some BadPage else if (mode == 0) || (mode == 1) then None else Some BadMode) (mode == 1)
+          (heap_pattern state process page)
   refusal_by page mode true is = refl
   refusal_by page mode false is =
       let below : page < entry.process.heap_pages = grind (arith, common_steps) in
-      ap (λ (pattern : Option ℕ). if mode == 0 then None else if mode == 1 then pattern_refusal pattern else Some (19, 0))
+      ap (with_pattern (if (mode == 0) || (mode == 1) then None else Some BadMode) (mode == 1))
       (pattern_same kernel root book memory state stands process entry kept page below)
 
-  pub refusal_same : (page mode : ℕ) → protect_refusal entry.process.heap_pages page mode (pattern_at memory entry.set page entry.process.heap_pages)
-      ≡ protect_refusal (heap_count (process_at state process)) page mode (heap_pattern state process page)
-  unfolding process_at
+  pub refusal_same : (page mode : ℕ) → page_refusal entry.process.heap_pages page mode (pattern_at memory entry.set page entry.process.heap_pages)
+      ≡ page_refusal (heap_count (process_at state process)) page mode (heap_pattern state process page)
+  unfolding process_at protect_refusal
   refusal_same page mode =
       refusal_by page mode (nat_le entry.process.heap_pages page) refl
-      ∙ ap (λ (found : Option Process). protect_refusal (heap_count found) page mode (heap_pattern state process page))
+      ∙ ap (λ (found : Option Process). page_refusal (heap_count found) page mode (heap_pattern state process page))
       (sym (process_found kernel root book memory state stands process entry kept))
 
-  after_by : (refusal : Option (ℕ × ℕ)) (page mode : ℕ) (new : Physical)
-      → ((answer : ℕ × ℕ) → refusal ≡ Some answer → new ≡ memory) → IfNone refusal (page < entry.process.heap_pages) → IfNone refusal (SetsMode entry.set root memory new page (mode == 1))
+  after_by : (refusal : Option (CallRefusal × ℕ)) (page mode : ℕ) (new : Physical)
+      → ((answer : CallRefusal × ℕ) → refusal ≡ Some answer → new ≡ memory) → IfNone refusal (page < entry.process.heap_pages) → IfNone refusal (SetsMode entry.set root memory new page (mode == 1))
       → StandsFor kernel root book new (after_protect state process page mode refusal)
   after_by None page mode new same below sets = protected_stands page (mode == 1) new below sets
   after_by (Some answer) page mode new same below sets = subst (λ (one : Physical). StandsFor kernel root book one state) (sym (same answer refl)) stands
 
-  pub protects_by : (refusal : Option (ℕ × ℕ)) (page mode : ℕ) (new : Physical)
-      → refusal ≡ protect_refusal entry.process.heap_pages page mode (pattern_at memory entry.set page entry.process.heap_pages)
-      → ((answer : ℕ × ℕ) → refusal ≡ Some answer → new ≡ memory) → IfNone refusal (page < entry.process.heap_pages) → IfNone refusal (SetsMode entry.set root memory new page (mode == 1))
+  pub protects_by : (refusal : Option (CallRefusal × ℕ)) (page mode : ℕ) (new : Physical)
+      → refusal ≡ page_refusal entry.process.heap_pages page mode (pattern_at memory entry.set page entry.process.heap_pages)
+      → ((answer : CallRefusal × ℕ) → refusal ≡ Some answer → new ≡ memory) → IfNone refusal (page < entry.process.heap_pages) → IfNone refusal (SetsMode entry.set root memory new page (mode == 1))
       → ProtectsBy kernel root book new state process page mode refusal
   protects_by refusal page mode new is same below sets = record {
     is = is ∙ refusal_same page mode;
@@ -160,15 +166,16 @@ module _ (kernel : Kernel) (root : RootKernel) (book : Book) (memory : Physical)
 
 -- a process that is not there has no heap
 pub absent_protects : (kernel : Kernel) (root : RootKernel) (book : Book) (memory : Physical) (state : State) → StandsFor kernel root book memory state
-    → (process page mode : ℕ) → slice_get kernel.processes process ≡ None → ProtectsBy kernel root book memory state process page mode (Some (18, 0))
-unfolding process_at
+    → (process page mode : ℕ) → slice_get kernel.processes process ≡ None → ProtectsBy kernel root book memory state process page mode (Some (BadPage, 0))
+unfolding process_at protect_refusal
 absent_protects kernel root book memory state stands process page mode none =
     let absent : slice_get state.processes process ≡ None =
     ap (λ (list : List Process). slice_get list process) (sym stands.processes) ∙ (slice_get-map process_of kernel.processes process ∙ ap (option_map process_of) none) in
     let beyond : nat_le 0 page ≡ true = grind (arith, common_steps) in
-    let is : protect_refusal 0 page mode (heap_pattern state process page) ≡ Some (18, 0) =
-    ap (λ (test : Bool). if test then Some (18, 0) else if mode == 0 then None else if mode == 1 then pattern_refusal (heap_pattern state process page) else Some (19, 0)) beyond in
+    let is : page_refusal 0 page mode (heap_pattern state process page) ≡ Some (BadPage, 0) =
+    ap (λ (test : Bool). with_pattern (if test then Some BadPage else if (mode == 0) || (mode == 1) then None else Some BadMode) (mode == 1)
+        (heap_pattern state process page)) beyond in
     record {
-      is = sym (ap (λ (found : Option Process). protect_refusal (heap_count found) page mode (heap_pattern state process page)) absent ∙ is);
+      is = sym (ap (λ (found : Option Process). page_refusal (heap_count found) page mode (heap_pattern state process page)) absent ∙ is);
       stands = stands;
     }

@@ -7,11 +7,11 @@ use Rattle.sb_memory.specs.Physical.{Physical}
 use Rattle.sb_frames.specs.Book.{Book, free_count}
 use Rattle.sb_pagewalk.specs.declared.table_set.TableSet.{TableSet}
 use Rattle.sb_root.specs.declared.root_kernel.RootKernel.{RootKernel}
-use Rattle.sb_trace.specs.declared.page.PageName.TheVariants.{Pool, ServerStack}
-use Rattle.sb_trace.specs.declared.page.Page.{Page}
+use Rattle.sb_state.specs.declared.page.PageName.TheVariants.{Pool, ServerStack}
+use Rattle.sb_state.specs.declared.page.Page.{Page}
 use Rattle.sb_trace.specs.PageWords.{with_word}
 use Rattle.sb_trace.specs.State.{State, Process, find_page, with_contents, process_at, registration_of}
-use Rattle.sb_trace.specs.SystemCall.{with_registration, with_server}
+use Rattle.sb_trace.specs.SyscallRegister.{with_registration, with_server}
 use Rattle.sb_shows.specs.Placement.{IsThere}
 use Rattle.sb_sub.specs.Kernel.{Entry, Kernel, process_of, seat_of}
 use Rattle.sb_sub.specs.Whole.{Belongs, stacks_in}

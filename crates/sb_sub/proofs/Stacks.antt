@@ -8,16 +8,16 @@ use Rattle.sb_frames.specs.Book.{Book}
 use Rattle.sb_pagewalk.specs.declared.table_set.TableSet.{TableSet}
 use Rattle.sb_pagewalk.specs.Windows.{IsInWindow, region_of, page_table_of}
 use Rattle.sb_root.specs.declared.root_kernel.RootKernel.{RootKernel}
-use Rattle.sb_trace.specs.declared.page.PageName.{PageName}
-use Rattle.sb_trace.specs.declared.page.PageName.TheVariants.{ServerStack}
-use Rattle.sb_trace.specs.declared.page.Page.{Page}
-use Rattle.sb_trace.specs.declared.page.Mode.TheVariants.{ReadWrite}
+use Rattle.sb_state.specs.declared.page.PageName.{PageName}
+use Rattle.sb_state.specs.declared.page.PageName.TheVariants.{ServerStack}
+use Rattle.sb_state.specs.declared.page.Page.{Page}
+use Rattle.sb_state.specs.declared.page.Mode.TheVariants.{ReadWrite}
 use Rattle.sb_trace.specs.PageName.{mode_of}
 use Rattle.sb_trace.specs.PageWords.{zeros}
 use Rattle.sb_trace.specs.State.{State, find_page}
 use Rattle.sb_trace.specs.Start.{named, pages_from}
-use Rattle.sb_trace.specs.SystemCall.{stack_bytes, server_stack_page}
-use Rattle.sb_trace.proofs.Names.{name_other}
+use Rattle.sb_trace.specs.SyscallRegister.{stack_bytes, server_stack_page}
+use Rattle.sb_state.proofs.Names.{name_other}
 use Rattle.sb_shows.specs.Placement.{Placement, IsThere, is_own}
 use Rattle.sb_shows.specs.Windows.{page_number}
 use Rattle.sb_shows.specs.Calls.{IsNewPage, placed_with}

@@ -6,17 +6,18 @@ use Rattle.std.proofs.lemmas.Bool.{eqb-true, eqb-false}
 use Rattle.std.proofs.lemmas.List.{length-set}
 use Rattle.std.proofs.lemmas.Option.{slice_get_within}
 use Rattle.sb_memory.specs.Words.{put_word}
-use Rattle.sb_trace.specs.declared.page.PageName.{PageName}
-use Rattle.sb_trace.specs.declared.page.PageName.TheVariants.{Text, Area, Data, Heap, Pool, ServerStack, Save, Stack, Buffer, Record, Scratch, HomeTrampoline, ServerTrampoline}
-use Rattle.sb_trace.specs.declared.page.Page.{Page}
-use Rattle.sb_trace.specs.declared.state.Thread.{Thread}
+use Rattle.sb_state.specs.declared.page.PageName.{PageName}
+use Rattle.sb_state.specs.declared.page.PageName.TheVariants.{Text, Area, Data, Heap, Pool, ServerStack, Save, Stack, Buffer, Record, Scratch, HomeTrampoline, ServerTrampoline}
+use Rattle.sb_state.specs.declared.page.Page.{Page}
+use Rattle.sb_state.specs.declared.state.Thread.{Thread}
 use Rattle.sb_trace.specs.PageName.{same_name}
 use Rattle.sb_trace.specs.PageWords.{with_word}
 use Rattle.sb_trace.specs.State.{State, Process, find_page, replaced, contents, with_contents, process_at, registration_of}
 use Rattle.sb_trace.specs.Start.{pages_from}
-use Rattle.sb_trace.specs.SystemCall.{heap_count, server_stack_page, with_registration, with_server}
-use Rattle.sb_trace.proofs.Names.{name_same}
-use Rattle.sb_trace.proofs.Pages.{either, found_added, found_other, found_same, with_bytes as page_with}
+use Rattle.sb_trace.specs.SyscallRegister.{server_stack_page, with_registration, with_server}
+use Rattle.sb_trace.specs.SyscallProtect.{heap_count}
+use Rattle.sb_state.proofs.Names.{name_same}
+use Rattle.sb_state.proofs.Pages.{either, found_added, found_other, found_same, with_bytes as page_with}
 use Rattle.sb_shows.specs.Placement.{IsThere}
 use Rattle.sb_shows.proofs.Names.{name_self}
 use Rattle.sb_sub.specs.Whole.{ImagePages, Belongs, IsWhole, stacks_in}

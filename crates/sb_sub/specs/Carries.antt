@@ -6,7 +6,7 @@ use Rattle.sb_pagewalk.specs.declared.table_set.TableSet.{TableSet}
 use Rattle.sb_root.specs.declared.root_kernel.RootKernel.{RootKernel}
 use Rattle.sb_root.specs.Standing.{IsBooked}
 use Rattle.sb_root.specs.Calls.{IsFree}
-use Rattle.sb_trace.specs.declared.page.PageName.{PageName}
+use Rattle.sb_state.specs.declared.page.PageName.{PageName}
 use Rattle.sb_trace.specs.State.{State}
 use Rattle.sb_shows.specs.Placement.{Placement, IsThere, Unused}
 use Rattle.sb_shows.specs.Keeping.{Keeps}

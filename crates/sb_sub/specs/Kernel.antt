@@ -1,8 +1,8 @@
 -- What a Subkernel keeps: its processes with their tables, the homes and bindings of its threads, and the key words left.
 use Rattle.std.specs.Prelude.{ℕ, ◌==◌, List, Option, Some, slice_get, unwrap_or, if◌then◌else◌}
 use Rattle.sb_pagewalk.specs.declared.table_set.TableSet.{TableSet}
-use Rattle.sb_trace.specs.declared.state.Binding.{Binding}
-use Rattle.sb_trace.specs.declared.state.Thread.{Thread}
+use Rattle.sb_state.specs.declared.state.Binding.{Binding}
+use Rattle.sb_state.specs.declared.state.Thread.{Thread}
 use Rattle.sb_trace.specs.State.{Process, no_thread}
 use Rattle.sb_trace.specs.Windows.{server_of}
 

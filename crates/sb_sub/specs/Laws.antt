@@ -3,10 +3,10 @@ use Rattle.std.specs.Prelude.{ℕ, ◌≡◌, ◌+◌, slice_get, slice_set, ◌
 use Rattle.sb_memory.specs.Physical.{Physical}
 use Rattle.sb_frames.specs.Book.{Book, free_count}
 use Rattle.sb_root.specs.declared.root_kernel.RootKernel.{RootKernel}
-use Rattle.sb_trace.specs.declared.page.Mode.TheVariants.{ReadWrite}
-use Rattle.sb_trace.specs.declared.page.Page.{Page}
-use Rattle.sb_trace.specs.declared.page.PageName.{PageName}
-use Rattle.sb_trace.specs.declared.page.PageName.TheVariants.{Pool, ServerStack}
+use Rattle.sb_state.specs.declared.page.Mode.TheVariants.{ReadWrite}
+use Rattle.sb_state.specs.declared.page.Page.{Page}
+use Rattle.sb_state.specs.declared.page.PageName.{PageName}
+use Rattle.sb_state.specs.declared.page.PageName.TheVariants.{Pool, ServerStack}
 use Rattle.sb_trace.specs.PageName.{mode_of}
 use Rattle.sb_trace.specs.Start.{named}
 use Rattle.sb_trace.specs.State.{State, Process, find_page, process_at}
@@ -15,7 +15,7 @@ use Rattle.sb_shows.specs.Placement.{Placement}
 use Rattle.sb_shows.specs.Windows.{page_number}
 use Rattle.sb_sub.specs.Carries.{Carries}
 use Rattle.sb_sub.specs.Registering.{FindsPool, RegistersPages, Registered, with_entry}
-use Rattle.sb_trace.specs.SystemCall.{with_server}
+use Rattle.sb_trace.specs.SyscallRegister.{with_server}
 use Rattle.sb_sub.specs.Whole.{ImagePages, IsWhole}
 use Rattle.sb_sub.specs.Taking.{CanTake, TakesPage, top_bytes}
 use Rattle.sb_shows.specs.Related.{HasCores}

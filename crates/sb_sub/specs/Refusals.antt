@@ -1,14 +1,25 @@
--- Refusals of calls over what they look at, in their order: the answer and a second value.
-use Rattle.std.specs.Prelude.{ℕ, ◌==◌, nat_le, Option, Some, None, if◌then◌else◌}
+-- The refusal of a change of a heap page's mode, with a second value.
+use Rattle.std.specs.Prelude.{ℕ, ◌==◌, Bool, Option, Some, None, if◌then◌else◌}
+use Rattle.sb_abi.specs.declared.call.CallRefusal.{CallRefusal}
+use Rattle.sb_abi.specs.declared.call.CallRefusal.TheVariants.{Pattern}
+use Rattle.sb_abi.specs.Numbers.{refusal_number}
+use Rattle.sb_calls.specs.Refusals.{protect_refusal}
 
-abbrev pub pattern_refusal : Option ℕ → Option (ℕ × ℕ)
+-- where the pattern stands it refuses, and the address is the second value
+abbrev pub pattern_refusal : Option ℕ → Option (CallRefusal × ℕ)
 pattern_refusal None = None
-pattern_refusal (Some address) = Some (20, address)
+pattern_refusal (Some address) = Some (Pattern, address)
 
--- protect, in a heap of so many pages: no page of the heap, no mode, or the pattern where the page is to be executable
-abbrev pub protect_refusal : ℕ → ℕ → ℕ → Option ℕ → Option (ℕ × ℕ)
-protect_refusal count page mode pattern =
-    if nat_le count page then Some (18, 0)
-    else if mode == 0 then None
-    else if mode == 1 then pattern_refusal pattern
-    else Some (19, 0)
+-- the refusal of page and mode, or else that of the pattern where the page is to be executable
+abbrev pub with_pattern : Option CallRefusal → Bool → Option ℕ → Option (CallRefusal × ℕ)
+with_pattern (Some refusal) executable pattern = Some (refusal, 0)
+with_pattern None executable pattern = if executable then pattern_refusal pattern else None
+
+-- protect, in a heap of so many pages
+abbrev pub page_refusal : ℕ → ℕ → ℕ → Option ℕ → Option (CallRefusal × ℕ)
+page_refusal count page mode pattern = with_pattern (protect_refusal count page mode) (mode == 1) pattern
+
+-- the answer of a call and its second value, by its refusal
+abbrev pub answer_by : Option (CallRefusal × ℕ) → ℕ × ℕ
+answer_by None = (0, 0)
+answer_by (Some refusal) = (refusal_number refusal.0, refusal.1)

@@ -12,7 +12,7 @@ use Rattle.sb_pagewalk.specs.Standing.{IsApart as IsSetApart}
 use Rattle.sb_root.specs.declared.root_kernel.RootKernel.{RootKernel}
 use Rattle.sb_root.specs.Standing.{IsApart as IsRootApart}
 use Rattle.sb_trace.specs.State.{State}
-use Rattle.sb_trace.specs.SystemCall.{with_server}
+use Rattle.sb_trace.specs.SyscallRegister.{with_server}
 use Rattle.sb_shows.specs.Placement.{Placement}
 use Rattle.sb_sub.specs.Kernel.{Entry}
 use Rattle.sb_sub.specs.Heap.{led_to}

@@ -1,16 +1,14 @@
 -- What a system call answers and leaves, beside the outcome of the definitions.
-use Rattle.std.specs.Prelude.{ℕ, ◌≡◌, ◌≢◌, ◌+◌, slice_set, ◌==◌, if◌then◌else◌}
-use Rattle.sb_insn.specs.declared.insn.Insn.{Insn}
+use Rattle.std.specs.Prelude.{ℕ, ◌≡◌, ◌≢◌, ◌==◌, if◌then◌else◌}
 use Rattle.sb_insn.specs.declared.registers.Regs.{Regs}
-use Rattle.sb_insn.specs.Registers.{flags_image}
-use Rattle.sb_exec.specs.Operand.{next_rip}
+use Rattle.sb_calls.specs.SyscallRegisters.{after_syscall, faulted_home}
 use Rattle.sb_memory.specs.Physical.{Physical}
 use Rattle.sb_frames.specs.Book.{Book}
 use Rattle.sb_root.specs.declared.root_kernel.RootKernel.{RootKernel}
 use Rattle.sb_trace.specs.declared.event.Event.{Event}
 use Rattle.sb_trace.specs.declared.event.Event.TheVariants as event
 use Rattle.sb_trace.specs.State.{State, thread_at}
-use Rattle.sb_trace.specs.Home.{Outcome, faulted_home}
+use Rattle.sb_trace.specs.Home.{Outcome}
 use Rattle.sb_sub.specs.declared.answer.Answer.{Answer}
 use Rattle.sb_sub.specs.declared.answer.Answer.TheVariants.{Back, Printed, Ended, GoHome}
 use Rattle.sb_sub.specs.Kernel.{Kernel}
@@ -18,17 +16,9 @@ use Rattle.sb_sub.specs.StandsFor.{StandsFor}
 
 -- ---- registers
 
--- the registers behind SYSCALL, from those with which it began
-abbrev pub behind : Insn → Regs → Regs
-behind insn start = record start { rip = next_rip insn start }
-
--- SYSCALL puts the present address, which is the next one, into RCX, and the flags with bits 1 and 9 into R11
+-- the registers after SYSCALL, from those with which its thread stands at the next instruction
 abbrev pub entered : Regs → Regs
-entered regs = record {
-  general = slice_set (slice_set regs.general 1 regs.rip) 11 (flags_image regs.flags + 0x202);
-  rip = regs.rip;
-  flags = regs.flags;
-}
+entered regs = after_syscall regs.rip regs
 
 -- ---- answers
 
@@ -49,14 +39,13 @@ pub record Serves (kernel : Kernel) (root : RootKernel) (book : Book) (memory : 
   pub registers : regs ≡ (thread_at outcome.1 thread).regs
   pub stands : StandsFor kernel root book memory outcome.1
 
--- From each state that is stood for, a call gives the outcome of the definitions: the thread in its present view, by an
--- instruction that is a SYSCALL and registers with which it began.
-abbrev pub ServesBy : (State → ℕ → Insn → Regs → Outcome) → Kernel → RootKernel → Book → Physical → Kernel → RootKernel → Book → Physical
+-- From each state that is stood for, a call gives the outcome of the definitions: the thread in its present view, by the
+-- registers after SYSCALL.
+abbrev pub ServesBy : (State → ℕ → Regs → Outcome) → Kernel → RootKernel → Book → Physical → Kernel → RootKernel → Book → Physical
     → ℕ → ℕ → Answer → Regs → Regs → Type 0
 ServesBy outcome kernel root book memory kernel' root' book' memory' thread view answer old new =
-    (state : State) (insn : Insn) (start : Regs)
-    → StandsFor kernel root book memory state → (thread_at state thread).view ≡ view → old ≡ behind insn start
-    → Serves kernel' root' book' memory' thread answer new (outcome state thread insn start)
+    (state : State) → StandsFor kernel root book memory state → (thread_at state thread).view ≡ view
+    → Serves kernel' root' book' memory' thread answer new (outcome state thread (entered old))
 
 -- what exit answers, and the registers that it leaves
 abbrev pub exit_answer : ℕ → ℕ → Answer

@@ -15,7 +15,7 @@ use Rattle.sb_root.specs.Standing.{IsApart as IsRootApart, IsBooked, Stands}
 use Rattle.sb_root.specs.Tables.{base_frames}
 use Rattle.sb_root.specs.Calls.{IsFree}
 use Rattle.sb_trace.specs.PageWords.{zeros}
-use Rattle.sb_trace.specs.declared.page.Mode.TheVariants.{ReadWrite}
+use Rattle.sb_state.specs.declared.page.Mode.TheVariants.{ReadWrite}
 use Rattle.sb_shows.specs.Placement.{leaf_for}
 use Rattle.sb_shows.specs.Calls.{SetsPage, ExposesFrame}
 

@@ -3,11 +3,11 @@ use Rattle.std.specs.Prelude.{ℕ, ◌≡◌, Some}
 use Rattle.sb_memory.specs.declared.address.Access.{Access}
 use Rattle.sb_memory.specs.declared.address.PhysAddr.{PhysAddr}
 use Rattle.sb_nested.specs.View.{View}
-use Rattle.sb_trace.specs.declared.page.Seen.{Seen}
+use Rattle.sb_state.specs.declared.page.Seen.{Seen}
 use Rattle.sb_trace.specs.State.{State}
 use Rattle.sb_trace.specs.Windows.{page_seen}
 use Rattle.sb_shows.specs.Placement.{Placement}
-use Rattle.sb_trace.specs.SystemCall.{with_server}
+use Rattle.sb_trace.specs.SyscallRegister.{with_server}
 use Rattle.sb_sub.specs.Carries.{StaysPlaced}
 use Rattle.sb_shows.specs.Related.{Sees}
 use Rattle.sb_shows.specs.Shows.{LeadsTo}

@@ -1,12 +1,12 @@
 -- Which pages are there: exactly those that the processes, threads and views of a state have.
 use Rattle.std.specs.Prelude.{ℕ, ◌≡◌, ◌≢◌, ◌*◌, ◌<◌, ◌≤◌, ◌↔◌, List, length, slice_get, Option, Some, None}
-use Rattle.sb_trace.specs.declared.page.PageName.{PageName}
-use Rattle.sb_trace.specs.declared.page.PageName.TheVariants.{Text, Area, Data, Heap, Pool, ServerStack, Save, Stack, Buffer, Record, Scratch, HomeTrampoline, ServerTrampoline}
-use Rattle.sb_trace.specs.declared.state.Registration.{Registration}
-use Rattle.sb_trace.specs.declared.state.Thread.{Thread}
+use Rattle.sb_state.specs.declared.page.PageName.{PageName}
+use Rattle.sb_state.specs.declared.page.PageName.TheVariants.{Text, Area, Data, Heap, Pool, ServerStack, Save, Stack, Buffer, Record, Scratch, HomeTrampoline, ServerTrampoline}
+use Rattle.sb_state.specs.declared.state.Registration.{Registration}
+use Rattle.sb_state.specs.declared.state.Thread.{Thread}
 use Rattle.sb_trace.specs.State.{State, Process, registration_of}
 use Rattle.sb_trace.specs.Windows.{shown}
-use Rattle.sb_trace.specs.SystemCall.{heap_count}
+use Rattle.sb_trace.specs.SyscallProtect.{heap_count}
 use Rattle.sb_shows.specs.Placement.{IsThere}
 
 -- the pages of a process's text, area and initial data, which never change

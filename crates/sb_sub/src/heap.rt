@@ -131,7 +131,7 @@ pub fn heap_pattern(memory: &mut Memory, set: &TableSet, page: u32, count: u32) 
 }
 
 /// The lowest address of the pattern in the page in a frame, or across its borders with the pages in others.
-#[tactic(auto, using(sb_trace::proofs::Pattern::first_place))]
+#[tactic(auto, using(sb_state::proofs::Pattern::first_place))]
 fn pattern_among(
     memory: &Memory,
     page: u32,

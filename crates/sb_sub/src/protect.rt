@@ -7,18 +7,14 @@ ghost use Rattle.sb_pagewalk.specs.TableSet.{table_frame};
 ghost use Rattle.sb_root.specs.Standing.{IsApart, Stands};
 ghost use Rattle.sb_shows.specs.Placement.{leaf_for, rights_for};
 ghost use Rattle.sb_sub.specs.Heap.{FindsHeap, SetsMode, heap_mode, pattern_at};
-ghost use Rattle.sb_sub.specs.Refusals.{pattern_refusal as refused_pattern, protect_refusal};
+ghost use Rattle.sb_sub.specs.Refusals.{pattern_refusal as refused_pattern, page_refusal};
 
 use crate::heap::{heap_address, heap_pattern, page_frame};
 use crate::process::Process;
+use sb_abi::CallRefusal;
+use sb_calls::{EXECUTE_MODE, protect_refusal};
 use sb_memory::{Frame, Memory};
 use sb_root::RootKernel;
-
-/// The mode of a page that is written.
-const WRITE: u64 = 0;
-
-/// The mode of a page that is executed.
-const EXECUTE: u64 = 1;
 
 /// Present, user, and not writable: a lowest entry for code.
 const CODE: u64 = 5;
@@ -32,40 +28,32 @@ const READ_WRITE: u8 = 3;
 /// Execute alone, for the base.
 const EXECUTE_ALONE: u8 = 4;
 
-/// No page of the heap.
-pub const BAD_PAGE: u64 = 18;
-
-/// No mode.
-const BAD_MODE: u64 = 19;
-
-/// The bytes of VMFUNC would be executable.
-const PATTERN: u64 = 20;
-
 /// The first refusal of a change of mode, and a second value with it.
-fn refusal(process: &Process, memory: &mut Memory, page: u64, mode: u64) -> Option<(u64, u64)>
+fn refusal(process: &Process, memory: &mut Memory, page: u64, mode: u64) -> Option<(CallRefusal, u64)>
     requires finds { FindsHeap memory.old process.now.set process.now.process.heap_pages }
     ensures same { memory.new ≡ memory.old }
-    ensures refusal { result ≡ protect_refusal process.now.process.heap_pages page mode (pattern_at memory.old process.now.set page process.now.process.heap_pages) }
+    ensures refusal { result ≡ page_refusal process.now.process.heap_pages page mode (pattern_at memory.old process.now.set page process.now.process.heap_pages) }
+    ensures within { IfNone result (page < process.now.process.heap_pages) }
 {
-    if page >= u64::from(process.heap_pages) {
-        return Some((BAD_PAGE, 0));
+    if let Some(refusal) = protect_refusal(process.heap_pages, page, mode) {
+        return Some((refusal, 0));
     }
-    match mode {
-        WRITE => None,
-        EXECUTE => pattern_refusal(process, memory, page as u32),
-        _ => Some((BAD_MODE, 0)),
+    if mode == EXECUTE_MODE {
+        pattern_refusal(process, memory, page as u32)
+    } else {
+        None
     }
 }
 
 /// The refusal of a page that holds the pattern.
-fn pattern_refusal(process: &Process, memory: &mut Memory, page: u32) -> Option<(u64, u64)>
+fn pattern_refusal(process: &Process, memory: &mut Memory, page: u32) -> Option<(CallRefusal, u64)>
     requires finds { FindsHeap memory.old process.now.set process.now.process.heap_pages }
     requires page { page < process.now.process.heap_pages }
     ensures same { memory.new ≡ memory.old }
     ensures refusal { result ≡ refused_pattern (pattern_at memory.old process.now.set page process.now.process.heap_pages) }
 {
     let address = heap_pattern(memory, &process.set, page, process.heap_pages)?;
-    Some((PATTERN, address))
+    Some((CallRefusal::Pattern, address))
 }
 
 /// The lowest entry for a heap page.
@@ -123,12 +111,12 @@ pub fn protect(
     root: &mut RootKernel,
     page: u64,
     mode: u64,
-) -> Option<(u64, u64)>
+) -> Option<(CallRefusal, u64)>
     requires finds { FindsHeap memory.old process.now.set process.now.process.heap_pages }
     requires tables { HasTables process.now.set memory.old }
     requires stands { Stands root.old memory.old }
     requires apart { IsApart root.old (table_frame process.now.set 7 ∷ []) }
-    ensures refusal { result ≡ protect_refusal process.now.process.heap_pages page mode (pattern_at memory.old process.now.set page process.now.process.heap_pages) }
+    ensures refusal { result ≡ page_refusal process.now.process.heap_pages page mode (pattern_at memory.old process.now.set page process.now.process.heap_pages) }
     ensures root { root.new ≡ root.old }
     ensures refused { IfSome result (λ _. memory.new ≡ memory.old) }
     ensures within { IfNone result (page < process.now.process.heap_pages) }
@@ -136,7 +124,7 @@ pub fn protect(
 {
     let refused = refusal(process, memory, page, mode);
     if refused.is_none() {
-        set_mode(process, memory, root, page as u32, mode == EXECUTE);
+        set_mode(process, memory, root, page as u32, mode == EXECUTE_MODE);
     }
     refused
 }

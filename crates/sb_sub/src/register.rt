@@ -7,13 +7,11 @@ ghost use Rattle.sb_sub.specs.Registering.{FindsPool, RegistersPages, pool_found
 ghost use Rattle.sb_sub.specs.Taking.{CanTake};
 
 use crate::taking::add_stacks;
+use sb_abi::POOL_ADDRESS;
 use sb_frames::FrameBook;
 use sb_memory::{Access, Frame, Linear, Memory, PhysAddr};
 use sb_pagewalk::{Direct, TableSet, walk};
 use sb_root::RootKernel;
-
-/// The address of the pool page.
-const POOL_ADDRESS: u64 = 0x7000_6000;
 
 /// The frame of the pool page of a process.
 fn pool_frame(memory: &mut Memory, set: &TableSet, root: &RootKernel) -> Frame

@@ -4,17 +4,20 @@ ghost use Rattle.std.specs.Prelude.{◌≡◌, ◌≢◌, ◌<◌, IfSome, Some,
 ghost use Rattle.sb_trace.specs.State.{State};
 ghost use Rattle.sb_trace.specs.Registers.{rax, rdi};
 ghost use Rattle.sb_trace.specs.Windows.{server_of as server_from};
-ghost use Rattle.sb_trace.specs.SystemCall.{called};
+ghost use Rattle.sb_trace.specs.Syscall.{called};
 ghost use Rattle.sb_frames.specs.Book.{Book};
 ghost use Rattle.sb_sub.specs.Kernel.{shown_in};
 ghost use Rattle.sb_sub.specs.StandsFor.{StandsFor};
 ghost use Rattle.sb_sub.specs.Serving.{IsRefused, ServesBy, exit_answer, exit_regs};
 ghost use Rattle.sb_sub.specs.Outcomes.{ProtectsBy};
+ghost use Rattle.sb_sub.specs.Refusals.{answer_by};
 
 use crate::answer::Answer;
 use crate::process::Process;
-use crate::protect::{BAD_PAGE, protect};
-use crate::registers::{RAX, RDI, RSI, entered, faulted_home, go_on};
+use crate::protect::protect;
+use crate::registers::{RAX, RDI, RSI, entered, go_on};
+use sb_abi::CallRefusal;
+use sb_calls::faulted_home;
 use sb_frames::FrameBook;
 use sb_insn::Regs;
 use sb_memory::Memory;
@@ -22,9 +25,6 @@ use sb_root::RootKernel;
 use sb_trace::{Binding, Bindings};
 use sb_tramp::KeyWords;
 use std::marker::Model;
-
-/// No system call has this number.
-const NO_CALL: u64 = 21;
 
 /// What the Subkernel keeps of a thread.
 #[derive(Debug, Drop)]
@@ -83,6 +83,16 @@ fn exit(view: u16, regs: &mut Regs) -> Answer
     Answer::GoHome(status)
 }
 
+/// The answer of a call and its second value, by its refusal.
+fn answer_of(refusal: Option<(CallRefusal, u64)>) -> (u64, u64)
+    ensures { result ≡ answer_by refusal }
+{
+    match refusal {
+        Some((refusal, second)) => (refusal.number(), second),
+        None => (0, 0),
+    }
+}
+
 impl SubKernel {
     /// The process that a view of a thread shows.
     pub fn shown(&self, thread: u8, view: u16) -> u32
@@ -119,7 +129,7 @@ impl SubKernel {
         process: u32,
         page: u64,
         mode: u64,
-    ) -> Option<(u64, u64)>
+    ) -> Option<(CallRefusal, u64)>
         requires stands { (book : Book) × (state : State) × StandsFor self.now root.old book memory.old state }
         ensures root { root.new ≡ root.old }
         ensures refused { IfSome result (λ _. memory.new ≡ memory.old) }
@@ -128,7 +138,7 @@ impl SubKernel {
         if self.has_process(process) {
             protect(self.process(process), memory, root, page, mode)
         } else {
-            Some((BAD_PAGE, 0))
+            Some((CallRefusal::BadPage, 0))
         }
     }
 
@@ -161,18 +171,15 @@ impl SubKernel {
             4 => {
                 let process = self.shown(thread, view);
                 let (page, mode) = (regs.general[RDI], regs.general[RSI]);
-                let (answer, second) = self
-                    .protect_page(memory, root, process, page, mode)
-                    .unwrap_or((0, 0));
+                let refusal = self.protect_page(memory, root, process, page, mode);
+                let (answer, second) = answer_of(refusal);
                 go_on(regs, answer, second);
                 Answer::Back { number, answer }
             }
             _ => {
-                go_on(regs, NO_CALL, 0);
-                Answer::Back {
-                    number,
-                    answer: NO_CALL,
-                }
+                let answer = CallRefusal::NoCall.number();
+                go_on(regs, answer, 0);
+                Answer::Back { number, answer }
             }
         }
     }

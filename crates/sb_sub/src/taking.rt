@@ -5,11 +5,12 @@ ghost use Rattle.sb_memory.specs.Physical.{HasSize, frame_count};
 ghost use Rattle.sb_memory.specs.Changes.{SameOutside};
 ghost use Rattle.sb_frames.specs.Book.{IsLowestFree, free_count, with_holder};
 ghost use Rattle.sb_pagewalk.specs.Windows.{IsInWindow};
-ghost use Rattle.sb_trace.specs.declared.page.Mode.TheVariants.{ReadWrite};
+ghost use Rattle.sb_state.specs.declared.page.Mode.TheVariants.{ReadWrite};
 ghost use Rattle.sb_shows.specs.Placement.{leaf_for};
 ghost use Rattle.sb_sub.specs.Carries.{TakesStacks, stack_at, stack_top};
 ghost use Rattle.sb_sub.specs.Taking.{CanTake, TakesPage, top_bytes};
 
+use sb_abi::{EXIT_STUB, PAGE_SIZE, SERVER_STACKS_ADDRESS, TOP_WORD};
 use sb_frames::{FrameBook, Kind};
 use sb_memory::{Frame, Linear, Memory, PhysAddr};
 use sb_pagewalk::TableSet;
@@ -20,9 +21,6 @@ const DATA: u64 = 7 + (1 << 63);
 
 /// Read and write, for the base.
 const READ_WRITE: u8 = 3;
-
-/// The place of the last word of a page.
-const TOP: u64 = 0xFF8;
 
 /// Takes the lowest free frame.
 pub fn take(book: &mut FrameBook, kind: Kind, owner: u32) -> Frame
@@ -46,7 +44,7 @@ fn fill(memory: &mut Memory, frame: Frame, top: u64)
 {
     memory.clear_frame(frame);
     if top != 0 {
-        memory.set_word(PhysAddr(4096 * u64::from(frame.0) + TOP), top);
+        memory.set_word(PhysAddr(4096 * u64::from(frame.0) + TOP_WORD), top);
     }
 }
 
@@ -80,12 +78,6 @@ pub fn add_page(
     set.set_page(memory, at, data_entry(frame));
     root.expose(memory, frame, READ_WRITE);
 }
-
-/// Where the server stacks begin.
-const STACKS_ADDRESS: u64 = 0x400_0000;
-
-/// The address of the exit stub, to which a handler returns.
-const EXIT_STUB: u64 = 0x7000_0000;
 
 /// Adds so many pages of server stacks to a process.
 pub fn add_stacks(
@@ -121,7 +113,7 @@ pub fn add_stacks(
 fn stack_address(page: u32) -> Linear
     ensures { result.0 ≡ stack_at page }
 {
-    Linear(STACKS_ADDRESS + 4096 * u64::from(page))
+    Linear(SERVER_STACKS_ADDRESS + PAGE_SIZE * u64::from(page))
 }
 
 /// The word at the top of a page of a server stack.

@@ -9,20 +9,20 @@ use Rattle.sb_scan.specs.Pattern.{HasNoPattern}
 use Rattle.sb_tramp.specs.Home.{home_page}
 use Rattle.sb_tramp.specs.Server.{server_page}
 use Rattle.sb_tramp.proofs.Bytes.{home_size, server_size}
-use Rattle.sb_trace.specs.declared.page.PageName.{PageName}
-use Rattle.sb_trace.specs.declared.page.PageName.TheVariants.{Text, Area, Data, Heap, Pool, HomeTrampoline, ServerTrampoline}
-use Rattle.sb_trace.specs.declared.page.Page.{Page}
-use Rattle.sb_trace.specs.declared.page.Mode.TheVariants as mode
-use Rattle.sb_trace.specs.declared.state.Flight.{Flight}
-use Rattle.sb_trace.specs.PageName.{same_name, mode_of, permits}
-use Rattle.sb_trace.specs.State.{find_page, thread_at, no_thread, flight_at}
-use Rattle.sb_trace.specs.PageWords.{zeros}
+use Rattle.sb_state.specs.declared.page.PageName.{PageName}
+use Rattle.sb_state.specs.declared.page.PageName.TheVariants.{Text, Area, Data, Heap, Pool, HomeTrampoline, ServerTrampoline}
+use Rattle.sb_state.specs.declared.page.Page.{Page}
+use Rattle.sb_state.specs.declared.page.Mode.TheVariants as mode
+use Rattle.sb_state.specs.declared.state.Flight.{Flight}
+use Rattle.sb_state.specs.PageName.{same_name, mode_of, permits}
+use Rattle.sb_state.specs.State.{find_page, thread_at, no_thread, flight_at}
+use Rattle.sb_state.specs.PageWords.{zeros}
 use Rattle.sb_trace.specs.Start.{ProcessImage, ThreadEntry, filled, page_of, named, filled_page, page_count, filled_pages, heap_page, heap_pages, process_pages, home_words, thread_pages, trampoline_pages, images_pages, threads_pages, start_threads, start_state}
 use Rattle.sb_trace.specs.Code.{fetched_byte, code_byte, HasNoCodePattern}
 use Rattle.sb_trace.specs.Sound.{HasPage, ArePagesSound, HasView, IsFlightSound}
 use Rattle.sb_trace.specs.Laws.{HasCleanCode, StartIsSound}
-use Rattle.sb_trace.proofs.Names.{name_same}
-use Rattle.sb_trace.proofs.Pages.{either, found_added}
+use Rattle.sb_state.proofs.Names.{name_same}
+use Rattle.sb_state.proofs.Pages.{either, found_added}
 use Rattle.sb_trace.proofs.CodePages.{EachPage, found_each}
 use Rattle.sb_trace.proofs.KeptPages.{zeros_size, record_size, each_from}
 

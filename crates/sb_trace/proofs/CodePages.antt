@@ -5,21 +5,21 @@ use Rattle.std.specs.Option.{option_map, option_and_then}
 use Rattle.sb_memory.specs.declared.address.Access.TheVariants.{Fetch, Write}
 use Rattle.sb_memory.specs.Words.{put_word}
 use Rattle.sb_memory.proofs.Words.{length_put_word}
-use Rattle.sb_trace.specs.declared.page.PageName.{PageName}
-use Rattle.sb_trace.specs.declared.page.PageName.TheVariants.{Text, Area, Heap, Pool, HomeTrampoline, ServerTrampoline}
-use Rattle.sb_trace.specs.declared.page.Mode.{Mode}
-use Rattle.sb_trace.specs.declared.page.Mode.TheVariants as mode
-use Rattle.sb_trace.specs.declared.page.Page.{Page}
-use Rattle.sb_trace.specs.declared.page.Seen.{Seen}
-use Rattle.sb_trace.specs.PageName.{same_name, mode_of, permits}
-use Rattle.sb_trace.specs.State.{State, find_page, replaced, bytes_of, contents}
-use Rattle.sb_trace.specs.Windows.{page_seen, seen, seen_as, name_at, shown}
+use Rattle.sb_state.specs.declared.page.PageName.{PageName}
+use Rattle.sb_state.specs.declared.page.PageName.TheVariants.{Text, Area, Heap, Pool, HomeTrampoline, ServerTrampoline}
+use Rattle.sb_state.specs.declared.page.Mode.{Mode}
+use Rattle.sb_state.specs.declared.page.Mode.TheVariants as mode
+use Rattle.sb_state.specs.declared.page.Page.{Page}
+use Rattle.sb_state.specs.declared.page.Seen.{Seen}
+use Rattle.sb_state.specs.PageName.{same_name, mode_of, permits}
+use Rattle.sb_state.specs.State.{State, find_page, replaced, bytes_of, contents}
+use Rattle.sb_state.specs.Windows.{page_seen, seen, seen_as, name_at, shown}
 use Rattle.sb_trace.specs.Code.{fetched_byte, code_byte, HasNoCodePattern}
 use Rattle.sb_trace.specs.Sound.{HasPage, ArePagesSound}
 use Rattle.sb_trace.specs.Changes.{IsClosed, Shape, shape_of, WritesOpen, with_first_word}
-use Rattle.sb_trace.proofs.Cases.{clash, same_found}
-use Rattle.sb_trace.proofs.Names.{name_same, name_other}
-use Rattle.sb_trace.proofs.Pages.{with_bytes, found_other, found_same, either, found_added}
+use Rattle.sb_state.proofs.Cases.{clash, same_found}
+use Rattle.sb_state.proofs.Names.{name_same, name_other}
+use Rattle.sb_state.proofs.Pages.{with_bytes, found_other, found_same, either, found_added}
 
 -- ---- where the same bytes may be fetched
 

@@ -4,26 +4,26 @@ use Rattle.std.specs.Prelude.{Option, Some, None, if◌then◌else◌, nat_lt, n
 use Rattle.std.specs.Option.{option_map, option_and_then}
 use Rattle.std.proofs.lemmas.Bool.{ltb-true, leb-true, and_parts}
 use Rattle.sb_memory.specs.declared.address.Access.TheVariants.{Fetch}
-use Rattle.sb_exec.specs.declared.stop.BusStop.{BusStop}
-use Rattle.sb_exec.specs.declared.stop.FaultKind.TheVariants.{Canon, Memory}
+use Rattle.sb_bus.specs.declared.stop.BusStop.{BusStop}
+use Rattle.sb_bus.specs.declared.stop.FaultKind.TheVariants.{Canon, Memory}
 use Rattle.sb_exec.specs.Fetching.{further, Stands, fetch_of}
 use Rattle.sb_scan.specs.Pattern.{pattern}
 use Rattle.sb_tramp.specs.Home.{home_page}
 use Rattle.sb_tramp.specs.Server.{server_page}
 use Rattle.sb_tramp.proofs.Switches.{home_switches, server_switches}
-use Rattle.sb_trace.specs.declared.page.PageName.{PageName}
-use Rattle.sb_trace.specs.declared.page.PageName.TheVariants.{Text, Area, Heap, Pool, Save, Stack, Buffer, HomeTrampoline, ServerTrampoline}
-use Rattle.sb_trace.specs.declared.page.Page.{Page}
-use Rattle.sb_trace.specs.declared.page.Seen.{Seen}
-use Rattle.sb_trace.specs.declared.state.Thread.{Thread}
-use Rattle.sb_trace.specs.PageName.{mode_of, permits}
-use Rattle.sb_trace.specs.State.{State, find_page, contents, bytes_of}
-use Rattle.sb_trace.specs.Windows.{name_if, is_within, stack_name, buffer_name, special_name, name_at, shown, seen, seen_as, page_seen}
-use Rattle.sb_trace.specs.PlainMemory.{plain, plain_byte, byte_seen, byte_in, is_canonical, fault_at}
+use Rattle.sb_state.specs.declared.page.PageName.{PageName}
+use Rattle.sb_state.specs.declared.page.PageName.TheVariants.{Text, Area, Heap, Pool, Save, Stack, Buffer, HomeTrampoline, ServerTrampoline}
+use Rattle.sb_state.specs.declared.page.Page.{Page}
+use Rattle.sb_state.specs.declared.page.Seen.{Seen}
+use Rattle.sb_state.specs.declared.state.Thread.{Thread}
+use Rattle.sb_state.specs.PageName.{mode_of, permits}
+use Rattle.sb_state.specs.State.{State, find_page, contents, bytes_of}
+use Rattle.sb_state.specs.Windows.{name_if, is_within, stack_name, buffer_name, special_name, name_at, shown, seen, seen_as, page_seen}
+use Rattle.sb_state.specs.PlainMemory.{plain, plain_byte, byte_seen, byte_in, is_canonical, fault_at}
 use Rattle.sb_trace.specs.Code.{fetched_byte, code_byte, HasNoCodePattern}
 use Rattle.sb_trace.specs.Sound.{HasPage, ArePagesSound, switch_address}
-use Rattle.sb_trace.proofs.Cases.{clash, same_found}
-use Rattle.sb_trace.proofs.Names.{number}
+use Rattle.sb_state.proofs.Cases.{clash, same_found}
+use Rattle.sb_state.proofs.Names.{number}
 
 -- ---- the windows of code
 

@@ -8,25 +8,26 @@ use Rattle.sb_exec.specs.Fetching.{Stands, fetch_of}
 use Rattle.sb_scan.specs.Pattern.{pattern}
 use Rattle.sb_trace.specs.declared.event.Event.{Event}
 use Rattle.sb_trace.specs.declared.event.Event.TheVariants.{Turn, Return, WrongKey, PoolEmpty, Entered}
-use Rattle.sb_trace.specs.declared.end.EndKind.{EndKind}
-use Rattle.sb_trace.specs.declared.end.EndKind.TheVariants.{Running, Ended, Faulted}
-use Rattle.sb_trace.specs.declared.state.Binding.{Binding}
-use Rattle.sb_trace.specs.declared.state.Decision.{Decision}
-use Rattle.sb_trace.specs.declared.state.Flight.{Flight}
-use Rattle.sb_trace.specs.declared.state.Thread.{Thread}
-use Rattle.sb_trace.specs.State.{State, thread_at, with_view, flight_at, with_flight}
-use Rattle.sb_trace.specs.PageWords.{with_word}
-use Rattle.sb_trace.specs.State.{with_contents}
-use Rattle.sb_trace.specs.PlainMemory.{plain}
-use Rattle.sb_trace.specs.Registers.{eax, ecx, rsi}
+use Rattle.sb_state.specs.declared.end_kind.EndKind.{EndKind}
+use Rattle.sb_state.specs.declared.end_kind.EndKind.TheVariants.{Running, Ended, Faulted}
+use Rattle.sb_state.specs.declared.state.Binding.{Binding}
+use Rattle.sb_state.specs.declared.state.Decision.{Decision}
+use Rattle.sb_state.specs.declared.state.Flight.{Flight}
+use Rattle.sb_state.specs.declared.state.Thread.{Thread}
+use Rattle.sb_state.specs.State.{State, thread_at, with_view, flight_at, with_flight}
+use Rattle.sb_state.specs.PageWords.{with_word}
+use Rattle.sb_state.specs.State.{with_contents}
+use Rattle.sb_state.specs.PlainMemory.{plain}
+use Rattle.sb_state.specs.Registers.{eax, ecx, rsi}
 use Rattle.sb_trace.specs.Home.{Outcome}
 use Rattle.sb_trace.specs.KernelCall.{binding_in, pool_word, entered, called_through, switched_by, kernel_call, lowest_bit}
 use Rattle.sb_trace.specs.Flight.{flight_binding, is_key, bound_pool, decided_at, phase_after, at_phase, advanced, landed, flown, first_flight, called_binding, switched_into, switched}
 use Rattle.sb_trace.specs.Step.{GoesOn, StepsBy, Steps}
 use Rattle.sb_trace.specs.Sound.{ArePagesSound, StandsAtSwitch, IsUndecided, FollowsDecision, IsDecidedSound, IsFlightSound, IsSound}
-use Rattle.sb_trace.proofs.Names.{number}
-use Rattle.sb_trace.proofs.Cases.{claim_if, none_some}
-use Rattle.sb_trace.proofs.Threads.{set_same, thread_set, thread_other, flight_other, bound_there}
+use Rattle.sb_state.proofs.Names.{number}
+use Rattle.sb_state.proofs.Cases.{claim_if, none_some}
+use Rattle.sb_state.proofs.Threads.{set_same, thread_set, flight_there}
+use Rattle.sb_trace.proofs.Threads.{thread_other, flight_other, bound_there}
 use Rattle.sb_trace.proofs.Kernel.{Did, did_call}
 use Rattle.sb_trace.proofs.Steps.{instruction_claims, did_next, steps_change}
 use Rattle.sb_trace.proofs.Phases.{other_number, some_if, Saw, saw, loads_no_more, follows_on, follows_first, decides_no_more, stays_undecided}
@@ -37,14 +38,6 @@ abbrev KeepsFlight : ℕ → Outcome → Type 0
 KeepsFlight core outcome = IsFlightSound (thread_at outcome.1 core) (flight_at outcome.1 core)
 
 -- ---- flights by number
-
-there_by : {A : Type 0} (found : Option (Option A)) (value : A) → unwrap_or found None ≡ Some value → found ≡ Some (Some value)
-there_by None value is = absurd cc
-there_by (Some one) value is = ap (λ held. Some held) is
-
-flight_there : (state : State) (core : ℕ) (flight : Flight) → flight_at state core ≡ Some flight → slice_get state.flights core ≡ Some (Some flight)
-unfolding flight_at
-flight_there state core flight is = there_by (slice_get state.flights core) flight is
 
 set_there : {A : Type 0} (Claim : A → Type 0) (list : List A) (index : ℕ) (old value default : A) → slice_get list index ≡ Some old → Claim value
     → Claim (unwrap_or (slice_get (slice_set list index value) index) default)

@@ -6,19 +6,20 @@ use Rattle.std.proofs.lemmas.Bool.{cases_lt, cases_eq}
 use Rattle.std.proofs.lemmas.Bool.Decides.{Decides-eqb}
 use Rattle.std.proofs.lemmas.List.{get_or-append-add, get_or_append_left, get_or-take, get_or-drop}
 use Rattle.sb_memory.specs.declared.address.Access.TheVariants.{Fetch}
-use Rattle.sb_trace.specs.declared.page.PageName.{PageName}
-use Rattle.sb_trace.specs.declared.page.PageName.TheVariants.{Text, Area, Heap, HomeTrampoline, ServerTrampoline}
-use Rattle.sb_trace.specs.declared.page.Mode.TheVariants as mode
-use Rattle.sb_trace.specs.declared.page.Page.{Page}
-use Rattle.sb_trace.specs.PageName.{same_name, mode_of, permits}
-use Rattle.sb_trace.specs.State.{State, find_page, bytes_of, contents}
-use Rattle.sb_trace.specs.SystemCall.{with_mode}
-use Rattle.sb_trace.specs.Pattern.{begins_pattern, first_pattern, executable_bytes, bytes_before, bytes_behind, heap_address, heap_pattern, pattern_around}
+use Rattle.sb_state.specs.declared.page.PageName.{PageName}
+use Rattle.sb_state.specs.declared.page.PageName.TheVariants.{Text, Area, Heap, HomeTrampoline, ServerTrampoline}
+use Rattle.sb_state.specs.declared.page.Mode.TheVariants as mode
+use Rattle.sb_state.specs.declared.page.Page.{Page}
+use Rattle.sb_state.specs.PageName.{same_name, mode_of, permits}
+use Rattle.sb_state.specs.State.{State, find_page}
+use Rattle.sb_trace.specs.SyscallProtect.{with_mode}
+use Rattle.sb_state.specs.Pattern.{begins_pattern, first_pattern, executable_bytes, bytes_before, bytes_behind, heap_address, heap_pattern, pattern_around}
 use Rattle.sb_trace.specs.Code.{fetched_byte, code_byte, HasCodePatternAt, HasNoCodePattern}
 use Rattle.sb_trace.specs.Sound.{HasPage, ArePagesSound}
-use Rattle.sb_trace.proofs.Cases.{clash, none_some, same_some}
-use Rattle.sb_trace.proofs.Names.{name_same, name_other}
-use Rattle.sb_trace.proofs.Pages.{with_executable, mode_other, mode_same}
+use Rattle.sb_state.proofs.Cases.{clash, none_some, same_some}
+use Rattle.sb_state.proofs.Names.{name_same, name_other}
+use Rattle.sb_state.proofs.Pages.{with_executable}
+use Rattle.sb_trace.proofs.Modes.{mode_other, mode_same}
 use Rattle.sb_trace.proofs.CodePages.{SameCode, no_pattern_kept, code_where_found}
 
 -- ---- the pattern in bytes

@@ -8,13 +8,14 @@ use Rattle.sb_tramp.specs.declared.record_words.RecordWords.{RecordWords}
 use Rattle.sb_tramp.specs.Record.{words_of}
 use Rattle.sb_trace.specs.declared.event.Event.{Event}
 use Rattle.sb_trace.specs.declared.event.Event.TheVariants.{Step as StepLine, Sys, Entered}
-use Rattle.sb_trace.specs.declared.page.Page.{Page}
-use Rattle.sb_trace.specs.declared.page.PageName.TheVariants.{Pool}
-use Rattle.sb_trace.specs.State.{State, thread_at}
-use Rattle.sb_trace.specs.PageWords.{zeros, words_put}
-use Rattle.sb_trace.specs.Windows.{present_of}
+use Rattle.sb_state.specs.declared.page.Page.{Page}
+use Rattle.sb_state.specs.declared.page.PageName.TheVariants.{Pool}
+use Rattle.sb_state.specs.State.{State, thread_at}
+use Rattle.sb_state.specs.PageWords.{zeros, words_put}
+use Rattle.sb_state.specs.Windows.{present_of}
 use Rattle.sb_trace.specs.Start.{pages_from, record_bytes}
-use Rattle.sb_trace.specs.SystemCall.{stack_bytes, server_stack_page, buffer_page, binding_pages}
+use Rattle.sb_trace.specs.SyscallRegister.{stack_bytes, server_stack_page}
+use Rattle.sb_trace.specs.SyscallBind.{buffer_page, binding_pages}
 use Rattle.sb_trace.specs.Sound.{ArePagesSound}
 use Rattle.sb_trace.specs.Changes.{OnlyPages, CallChanges, LineChanges, with_first_word}
 use Rattle.sb_trace.proofs.CodePages.{EachPage, IsDataPage, written_sound, pool_sound, added_sound}

@@ -1,30 +1,38 @@
 -- What the kernel does in a step: faults, calls through VMFUNC, and system calls, each by its cases.
 use Rattle.std.proofs.Common.{◌≡◌, ◌≢◌, ◌∙◌, sym, subst, ℕ, ◌-◌, ◌*◌, ◌^◌, Bool, true, false, List, [], ◌∷◌, ◌++◌, ◌==◌, refl, arith, inl, inr}
 use Rattle.std.specs.Prelude.{Option, Some, None, if◌then◌else◌, nat_le, nat_lt, not, ◌||◌, length}
-use Rattle.sb_insn.specs.declared.insn.Insn.{Insn}
 use Rattle.sb_insn.specs.declared.registers.Regs.{Regs}
-use Rattle.sb_exec.specs.declared.stop.FaultKind.{FaultKind}
-use Rattle.sb_exec.specs.declared.stop.FaultKind.TheVariants as kind
+use Rattle.sb_bus.specs.declared.stop.FaultKind.{FaultKind}
+use Rattle.sb_bus.specs.declared.stop.FaultKind.TheVariants as kind
 use Rattle.sb_trace.specs.declared.event.Event.{Event}
 use Rattle.sb_trace.specs.declared.event.Event.TheVariants.{Fault, ServerFault, ServerExit, Exit, Printed, Sys, Entered, WrongKey, PoolEmpty, Unbound, BadLeaf, Return, Turn, Landing}
-use Rattle.sb_trace.specs.declared.end.EndKind.{EndKind}
-use Rattle.sb_trace.specs.declared.end.EndKind.TheVariants.{Ended, Faulted}
-use Rattle.sb_trace.specs.declared.page.PageName.TheVariants.{Pool}
-use Rattle.sb_trace.specs.declared.state.Binding.{Binding}
-use Rattle.sb_trace.specs.declared.state.Thread.{Thread}
-use Rattle.sb_trace.specs.State.{State, thread_at, with_thread, with_regs, with_end, with_view, process_at, registration_at, with_contents}
-use Rattle.sb_trace.specs.PageWords.{with_word}
-use Rattle.sb_trace.specs.Registers.{rax, rsi, rdi, eax, ecx}
+use Rattle.sb_state.specs.declared.end_kind.EndKind.{EndKind}
+use Rattle.sb_state.specs.declared.end_kind.EndKind.TheVariants.{Ended, Faulted}
+use Rattle.sb_state.specs.declared.page.PageName.TheVariants.{Pool}
+use Rattle.sb_state.specs.declared.state.Binding.{Binding}
+use Rattle.sb_state.specs.declared.state.Thread.{Thread}
+use Rattle.sb_state.specs.State.{State, thread_at, with_thread, with_regs, with_end, with_view, process_at, registration_at, with_contents}
+use Rattle.sb_state.specs.PageWords.{with_word}
+use Rattle.sb_state.specs.Registers.{rax, rsi, rdi, eax, ecx}
 use Rattle.sb_trace.specs.Home.{Outcome, faulted, faulted_home, home_address}
 use Rattle.sb_trace.specs.KernelCall.{binding_in, pool_word, refused, not_switched, lowest_bit, entered, entered_regs, taken, called_through, switched_by, kernel_call, handler_in}
-use Rattle.sb_trace.specs.Windows.{present_of, server_of}
-use Rattle.sb_trace.specs.Pattern.{heap_pattern}
-use Rattle.sb_trace.specs.SystemCall.{after_syscall, answered, returned, declined, exited, is_registered, is_start, register_refusal, with_server, registered, is_server, is_empty, bind_refusal, new_binding, bound_regs, with_binding, bound_to, bound, heap_count, protected, made_executable, protects, called_by, called, server_words}
+use Rattle.sb_state.specs.Windows.{present_of, server_of}
+use Rattle.sb_state.specs.Pattern.{heap_pattern}
+use Rattle.sb_abi.specs.declared.call.CallRefusal.{CallRefusal}
+use Rattle.sb_abi.specs.declared.call.CallRefusal.TheVariants as refusal
+use Rattle.sb_abi.specs.Numbers.{refusal_number}
+use Rattle.sb_calls.specs.SyscallRegisters.{answered, bound_regs}
+use Rattle.sb_trace.specs.SyscallAnswer.{declined, accepted}
+use Rattle.sb_trace.specs.SyscallRegister.{with_server, registered}
+use Rattle.sb_trace.specs.SyscallBind.{new_binding, with_binding, bound_to, bound, server_words}
+use Rattle.sb_trace.specs.SyscallProtect.{protected, made_executable, protects_by}
+use Rattle.sb_trace.specs.Syscall.{exited, called_by, called}
 use Rattle.sb_trace.specs.Sound.{HasView}
 use Rattle.sb_trace.specs.Changes.{OnlyThreads, LineChanges, StepChanges}
-use Rattle.sb_trace.proofs.Cases.{claim_if}
-use Rattle.sb_trace.proofs.Names.{number}
-use Rattle.sb_trace.proofs.Threads.{thread_set, only_thread, only_both, only_none, bound_there, view_bound}
+use Rattle.sb_state.proofs.Cases.{claim_if}
+use Rattle.sb_state.proofs.Names.{number}
+use Rattle.sb_state.proofs.Threads.{thread_set}
+use Rattle.sb_trace.proofs.Threads.{only_thread, only_both, only_none, bound_there, view_bound}
 
 -- a line of no landing
 abbrev pub IsOwn : Event → Type 0
@@ -170,46 +178,35 @@ did_call state core = did_switched_by state core (eax (thread_at state core).reg
 -- ---- system calls
 
 -- a refusal's number is not 0
-abbrev IsRefusal : Option ℕ → Type 0
-IsRefusal None = Unit {0}
-IsRefusal (Some refusal) = refusal ≢ 0
+refusal_some : (refusal : CallRefusal) → refusal_number refusal ≢ 0
+refusal_some refusal.InServer = λ same. cc
+refusal_some refusal.Already = λ same. cc
+refusal_some refusal.BadHandler = λ same. cc
+refusal_some refusal.BadCount = λ same. cc
+refusal_some refusal.NoFrames = λ same. cc
+refusal_some refusal.NoServer = λ same. cc
+refusal_some refusal.ListFull = λ same. cc
+refusal_some refusal.NoKeys = λ same. cc
+refusal_some refusal.BadPage = λ same. cc
+refusal_some refusal.BadMode = λ same. cc
+refusal_some refusal.Pattern = λ same. cc
+refusal_some refusal.NoCall = λ same. cc
 
-refusal_if : (test : Bool) (refusal : ℕ) (others : Option ℕ) → refusal ≢ 0 → IsRefusal others → IsRefusal (if test then Some refusal else others)
-refusal_if true refusal others one more = one
-refusal_if false refusal others one more = more
-
-register_refused : (state : State) (view process handler stacks : ℕ) → IsRefusal (register_refusal state view process handler stacks)
-unfolding register_refusal
-register_refused state view process handler stacks =
-    refusal_if (not (view == 0)) 10 _ (λ same. omega arith) (
-    refusal_if (is_registered (registration_at state process)) 11 _ (λ same. omega arith) (
-    refusal_if (not (is_start (process_at state process) handler)) 12 _ (λ same. omega arith) (
-    refusal_if ((stacks == 0) || nat_lt 16 stacks) 13 _ (λ same. omega arith) (
-    refusal_if (nat_lt state.free (4 * stacks)) 14 _ (λ same. omega arith) tt))))
-
-bind_refused : (state : State) (thread : Thread) (server : ℕ) → IsRefusal (bind_refusal state thread server)
-unfolding bind_refusal
-bind_refused state thread server =
-    refusal_if (not (thread.view == 0)) 10 _ (λ same. omega arith) (
-    refusal_if (not (is_server state thread.home server)) 15 _ (λ same. omega arith) (
-    refusal_if (nat_le 15 (length thread.bindings)) 16 _ (λ same. omega arith) (
-    refusal_if (is_empty state.keys) 17 _ (λ same. omega arith) (
-    refusal_if (nat_lt state.free 10) 14 _ (λ same. omega arith) tt))))
-
-did_declined : (state : State) (core : ℕ) (insn : Insn) (regs : Regs) (answer second : ℕ) → answer ≢ 0 → Did state core (declined state core insn regs answer second)
-did_declined state core insn regs answer second refused = did_regs state core (Sys (rax regs) answer) _ tt (λ same. inl (refused, same))
+did_declined : (state : State) (core : ℕ) (next : Regs) (refusal : CallRefusal) (second : ℕ) → Did state core (declined state core next refusal second)
+did_declined state core next refusal second =
+    did_regs state core (Sys (rax next) (refusal_number refusal)) _ tt (λ same. inl (refusal_some refusal, same))
 
 -- ---- exit
 
-did_exit : (state : State) (core : ℕ) (insn : Insn) (regs : Regs) → Did state core (exited state core insn regs)
-did_exit state core insn regs =
+did_exit : (state : State) (core : ℕ) (next : Regs) → Did state core (exited state core next)
+did_exit state core next =
     claim_if (Did state core) ((thread_at state core).view == 0) _ _
     (λ home.
-    let first = did_regs state core (Exit (rdi regs)) (after_syscall insn regs) tt (λ same. same) in
-    let last = did_end (with_regs state core (after_syscall insn regs)) core (Exit (rdi regs)) (Ended (rdi regs)) tt (λ same. same) in
+    let first = did_regs state core (Exit (rdi next)) next tt (λ same. same) in
+    let last = did_end (with_regs state core next) core (Exit (rdi next)) (Ended (rdi next)) tt (λ same. same) in
     record {
       changes = record {
-        thread = only_both state core (with_regs state core (after_syscall insn regs)) _ first.changes.thread last.changes.thread;
+        thread = only_both state core (with_regs state core next) _ first.changes.thread last.changes.thread;
         rest = record {
           become = last.changes.rest.become ∙ first.changes.rest.become;
           processes = last.changes.rest.processes ∙ first.changes.rest.processes;
@@ -221,30 +218,30 @@ did_exit state core insn regs =
       own = tt;
       view = λ given. last.view (first.view given);
     })
-    (λ away. did_home state core (ServerExit (rdi regs)) faulted_home tt (λ same. same))
+    (λ away. did_home state core (ServerExit (rdi next)) faulted_home tt (λ same. same))
 
 -- ---- register
 
-did_server : (state : State) (core : ℕ) (insn : Insn) (regs : Regs) → rax regs ≡ 2
-    → Did state core (Sys (rax regs) 0, returned (with_server state (present_of (thread_at state core)) (rdi regs) (rsi regs)) core insn regs 0 0)
+did_server : (state : State) (core : ℕ) (next : Regs) → rax next ≡ 2
+    → Did state core (accepted (with_server state (present_of (thread_at state core)) (rdi next) (rsi next)) core next)
 unfolding with_server with_word with_contents with_regs thread_at
-did_server state core insn regs call =
-    let mid = with_server state (present_of (thread_at state core)) (rdi regs) (rsi regs) in
-    let thread : Thread = record (thread_at state core) { regs = answered (after_syscall insn regs) 0 0 } in
+did_server state core next call =
+    let mid = with_server state (present_of (thread_at state core)) (rdi next) (rsi next) in
+    let thread : Thread = record (thread_at state core) { regs = answered next 0 0 } in
     record {
       changes = record {
         thread = only_both state core mid (with_thread mid core thread) (only_none state core mid refl refl) (only_thread mid core thread refl);
-        rest = inr (inl (refl, call, record { word = 2 ^ rsi regs - 1; stacks = rsi regs; pages = refl; keys = refl }));
+        rest = inr (inl (refl, call, record { word = 2 ^ rsi next - 1; stacks = rsi next; pages = refl; keys = refl }));
       };
       flights = refl;
       own = tt;
       view = λ given. thread_set HasView mid core thread given given;
     }
 
-did_registered : (state : State) (core : ℕ) (insn : Insn) (regs : Regs) (refusal : Option ℕ) → rax regs ≡ 2 → IsRefusal refusal
-    → Did state core (registered state core insn regs (present_of (thread_at state core)) refusal)
-did_registered state core insn regs (Some refusal) call is = did_declined state core insn regs refusal 0 is
-did_registered state core insn regs None call is = did_server state core insn regs call
+did_registered : (state : State) (core : ℕ) (next : Regs) (refusal : Option CallRefusal) → rax next ≡ 2
+    → Did state core (registered state core next (present_of (thread_at state core)) refusal)
+did_registered state core next (Some refusal) call = did_declined state core next refusal 0
+did_registered state core next None call = did_server state core next call
 
 -- ---- bind
 
@@ -277,13 +274,13 @@ unfolding with_binding thread_at
 bound_view state core binding given =
     thread_set HasView state core (binds state core binding) (view_added (thread_at state core) binding (thread_at state core).regs given) given
 
-did_binding : (state : State) (core : ℕ) (insn : Insn) (regs : Regs) (binding : Binding) → rax regs ≡ 3
-    → Did state core (bound_to state core (thread_at state core) insn regs binding)
+did_binding : (state : State) (core : ℕ) (next : Regs) (binding : Binding) → rax next ≡ 3
+    → Did state core (bound_to state core (thread_at state core) next binding)
 unfolding with_binding with_regs
-did_binding state core insn regs binding call =
+did_binding state core next binding call =
     let first : Thread = binds state core binding in
     let mid = with_binding state core (thread_at state core) binding in
-    let last : Thread = record (thread_at mid core) { regs = bound_regs (after_syscall insn regs) core binding } in
+    let last : Thread = record (thread_at mid core) { regs = bound_regs next core binding.index binding.key } in
     record {
       changes = record {
         thread = only_both state core (with_thread state core first) (with_thread mid core last)
@@ -305,20 +302,20 @@ did_binding state core insn regs binding call =
       view = λ given. thread_set HasView mid core last (bound_view state core binding given) (bound_view state core binding given);
     }
 
-did_bound : (state : State) (core : ℕ) (insn : Insn) (regs : Regs) (refusal : Option ℕ) → rax regs ≡ 3 → IsRefusal refusal
-    → Did state core (bound state core (thread_at state core) insn regs refusal)
-did_bound state core insn regs (Some refusal) call is = did_declined state core insn regs refusal 0 is
-did_bound state core insn regs None call is = did_binding state core insn regs (new_binding state (thread_at state core) (rdi regs)) call
+did_bound : (state : State) (core : ℕ) (next : Regs) (refusal : Option CallRefusal) → rax next ≡ 3
+    → Did state core (bound state core (thread_at state core) next refusal)
+did_bound state core next (Some refusal) call = did_declined state core next refusal 0
+did_bound state core next None call = did_binding state core next (new_binding state (thread_at state core) (rdi next)) call
 
 -- ---- protect
 
-did_mode : (state : State) (core : ℕ) (insn : Insn) (regs : Regs) (page : ℕ) (executable : Bool) → rax regs ≡ 4
+did_mode : (state : State) (core : ℕ) (next : Regs) (page : ℕ) (executable : Bool) → rax next ≡ 4
     → (executable ≡ true → heap_pattern state (present_of (thread_at state core)) page ≡ None)
-    → Did state core (Sys (rax regs) 0, returned (protected state (present_of (thread_at state core)) page executable) core insn regs 0 0)
+    → Did state core (accepted (protected state (present_of (thread_at state core)) page executable) core next)
 unfolding protected with_regs thread_at
-did_mode state core insn regs page executable call harmless =
+did_mode state core next page executable call harmless =
     let mid = protected state (present_of (thread_at state core)) page executable in
-    let thread : Thread = record (thread_at state core) { regs = answered (after_syscall insn regs) 0 0 } in
+    let thread : Thread = record (thread_at state core) { regs = answered next 0 0 } in
     record {
       changes = record {
         thread = only_both state core mid (with_thread mid core thread) (only_none state core mid refl refl) (only_thread mid core thread refl);
@@ -338,37 +335,34 @@ did_mode state core insn regs page executable call harmless =
       view = λ given. thread_set HasView mid core thread given given;
     }
 
-did_executable : (state : State) (core : ℕ) (insn : Insn) (regs : Regs) (page : ℕ) (found : Option ℕ) → rax regs ≡ 4
+did_executable : (state : State) (core : ℕ) (next : Regs) (page : ℕ) (found : Option ℕ) → rax next ≡ 4
     → heap_pattern state (present_of (thread_at state core)) page ≡ found
-    → Did state core (made_executable state core insn regs (present_of (thread_at state core)) page found)
-did_executable state core insn regs page (Some address) call is = did_declined state core insn regs 20 address (λ same. omega arith)
-did_executable state core insn regs page None call is = did_mode state core insn regs page true call (λ executable. is)
+    → Did state core (made_executable state core next (present_of (thread_at state core)) page found)
+did_executable state core next page (Some address) call is = did_declined state core next refusal.Pattern address
+did_executable state core next page None call is = did_mode state core next page true call (λ executable. is)
 
-did_protects : (state : State) (core : ℕ) (insn : Insn) (regs : Regs) (page mode : ℕ) → rax regs ≡ 4
-    → Did state core (protects state core insn regs (present_of (thread_at state core)) page mode)
-did_protects state core insn regs page mode call =
-    claim_if (Did state core) (nat_le (heap_count (process_at state (present_of (thread_at state core)))) page) _ _
-    (λ none. did_declined state core insn regs 18 0 (λ same. omega arith))
-    (λ there. claim_if (Did state core) (mode == 0) _ _
-    (λ written. did_mode state core insn regs page false call (λ executable. absurd cc))
-    (λ other. claim_if (Did state core) (mode == 1) _ _
-    (λ executed. did_executable state core insn regs page (heap_pattern state (present_of (thread_at state core)) page) call refl)
-    (λ bad. did_declined state core insn regs 19 0 (λ same. omega arith))))
+did_protects_by : (state : State) (core : ℕ) (next : Regs) (page mode : ℕ) (refusal : Option CallRefusal) → rax next ≡ 4
+    → Did state core (protects_by state core next (present_of (thread_at state core)) page mode refusal)
+did_protects_by state core next page mode (Some refusal) call = did_declined state core next refusal 0
+did_protects_by state core next page mode None call =
+    claim_if (Did state core) (mode == 1) _ _
+    (λ executed. did_executable state core next page (heap_pattern state (present_of (thread_at state core)) page) call refl)
+    (λ written. did_mode state core next page false call (λ executable. absurd cc))
 
 -- ---- by number
 
-did_called_by : (state : State) (core : ℕ) (insn : Insn) (regs : Regs) → Did state core (called_by state core (thread_at state core) insn regs (rax regs))
-did_called_by state core insn regs =
-    claim_if (Did state core) (rax regs == 0) _ _ (λ is. did_exit state core insn regs)
-    (λ more. claim_if (Did state core) (rax regs == 1) _ _ (λ is. did_regs state core (Printed (rdi regs)) _ tt (λ same. same))
-    (λ more. claim_if (Did state core) (rax regs == 2) _ _
-    (λ is. did_registered state core insn regs _ (number (rax regs) 2 is) (register_refused state (thread_at state core).view (present_of (thread_at state core)) (rdi regs) (rsi regs)))
-    (λ more. claim_if (Did state core) (rax regs == 3) _ _
-    (λ is. did_bound state core insn regs _ (number (rax regs) 3 is) (bind_refused state (thread_at state core) (rdi regs)))
-    (λ more. claim_if (Did state core) (rax regs == 4) _ _
-    (λ is. did_protects state core insn regs (rdi regs) (rsi regs) (number (rax regs) 4 is))
-    (λ more. did_declined state core insn regs 21 0 (λ same. omega arith))))))
+did_called_by : (state : State) (core : ℕ) (next : Regs) → Did state core (called_by state core (thread_at state core) next (rax next))
+did_called_by state core next =
+    claim_if (Did state core) (rax next == 0) _ _ (λ is. did_exit state core next)
+    (λ more. claim_if (Did state core) (rax next == 1) _ _ (λ is. did_regs state core (Printed (rdi next)) _ tt (λ same. same))
+    (λ more. claim_if (Did state core) (rax next == 2) _ _
+    (λ is. did_registered state core next _ (number (rax next) 2 is))
+    (λ more. claim_if (Did state core) (rax next == 3) _ _
+    (λ is. did_bound state core next _ (number (rax next) 3 is))
+    (λ more. claim_if (Did state core) (rax next == 4) _ _
+    (λ is. did_protects_by state core next (rdi next) (rsi next) _ (number (rax next) 4 is))
+    (λ more. did_declined state core next refusal.NoCall 0)))))
 
-pub did_syscall : (state : State) (core : ℕ) (insn : Insn) (regs : Regs) → Did state core (called state core insn regs)
+pub did_syscall : (state : State) (core : ℕ) (next : Regs) → Did state core (called state core next)
 unfolding called
-did_syscall state core insn regs = did_called_by state core insn regs
+did_syscall state core next = did_called_by state core next

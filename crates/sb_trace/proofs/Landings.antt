@@ -1,15 +1,15 @@
 -- A run without its landing lines is a run of the machine that calls in one step.
 use Rattle.std.proofs.Common.{◌≡◌, ◌∙◌, sym, ap, subst, ℕ, zero, suc, ◌+◌, ◌/◌, ◌%◌, ◌^◌, Bool, true, false, List, [], ◌∷◌, ◌==◌, refl, inl, inr, ◌⊎◌, Result, Ok, Err}
-use Rattle.std.specs.Prelude.{Option, Some, None, if◌then◌else◌, map, nat_le, slice_get, unwrap_or}
+use Rattle.std.specs.Prelude.{Option, Some, None, if◌then◌else◌, map, slice_get, unwrap_or}
 use Rattle.std.specs.Option.{option_and_then}
 use Rattle.sb_memory.specs.declared.address.Access.{Access}
 use Rattle.sb_insn.specs.declared.insn.Insn.{Insn}
 use Rattle.sb_insn.specs.declared.insn.Op.TheVariants.{Vmfunc}
 use Rattle.sb_insn.specs.declared.registers.Regs.{Regs}
-use Rattle.sb_exec.specs.declared.stop.BusStop.{BusStop}
-use Rattle.sb_exec.specs.declared.stop.BusStop.TheVariants.{Fault as FaultStop, Missing}
-use Rattle.sb_exec.specs.declared.stop.FaultKind.{FaultKind}
-use Rattle.sb_exec.specs.declared.stop.FaultKind.TheVariants as kind
+use Rattle.sb_bus.specs.declared.stop.BusStop.{BusStop}
+use Rattle.sb_bus.specs.declared.stop.BusStop.TheVariants.{Fault as FaultStop, Missing}
+use Rattle.sb_bus.specs.declared.stop.FaultKind.{FaultKind}
+use Rattle.sb_bus.specs.declared.stop.FaultKind.TheVariants as kind
 use Rattle.sb_exec.specs.declared.action.Effect.{Effect}
 use Rattle.sb_exec.specs.declared.action.Effect.TheVariants.{Next, Syscall, Switch, Undefined}
 use Rattle.sb_exec.specs.Rows.{row_of}
@@ -21,28 +21,37 @@ use Rattle.sb_tramp.specs.Forms.{opcode_alone}
 use Rattle.sb_trace.specs.declared.event.Event.{Event}
 use Rattle.sb_trace.specs.declared.event.Event.TheVariants.{Step as StepLine, Idle, Landing}
 use Rattle.sb_trace.specs.declared.event.Line.{Line}
-use Rattle.sb_trace.specs.declared.end.EndKind.{EndKind}
-use Rattle.sb_trace.specs.declared.end.EndKind.TheVariants.{Running, Ended, Faulted}
-use Rattle.sb_trace.specs.declared.state.Binding.{Binding}
-use Rattle.sb_trace.specs.declared.state.Decision.{Decision}
-use Rattle.sb_trace.specs.declared.state.Flight.{Flight}
-use Rattle.sb_trace.specs.declared.state.Thread.{Thread}
-use Rattle.sb_trace.specs.State.{State, contents, with_contents, thread_at, no_thread, with_regs, with_end, with_view, flight_at, with_flight, process_at, registration_at}
-use Rattle.sb_trace.specs.PageWords.{with_word}
-use Rattle.sb_trace.specs.Windows.{shown, shown_by, page_seen, present_of}
-use Rattle.sb_trace.specs.PlainMemory.{Placed, placed, placed_at, put_byte, put_all, plain, plain_byte, plain_stored}
-use Rattle.sb_trace.specs.Registers.{rax, rsi, rdi, eax, ecx}
+use Rattle.sb_state.specs.declared.end_kind.EndKind.{EndKind}
+use Rattle.sb_state.specs.declared.end_kind.EndKind.TheVariants.{Running, Ended, Faulted}
+use Rattle.sb_state.specs.declared.state.Binding.{Binding}
+use Rattle.sb_state.specs.declared.state.Decision.{Decision}
+use Rattle.sb_state.specs.declared.state.Flight.{Flight}
+use Rattle.sb_state.specs.declared.state.Thread.{Thread}
+use Rattle.sb_state.specs.State.{State, contents, with_contents, thread_at, no_thread, with_regs, with_end, with_view, flight_at, with_flight, process_at, registration_at}
+use Rattle.sb_state.specs.PageWords.{with_word}
+use Rattle.sb_state.specs.Windows.{shown, shown_by, page_seen, present_of}
+use Rattle.sb_state.specs.PlainMemory.{Placed, placed, placed_at, put_byte, put_all, plain, plain_byte, plain_stored}
+use Rattle.sb_state.specs.Registers.{rax, rsi, rdi, eax, ecx}
 use Rattle.sb_trace.specs.Home.{Outcome, faulted}
+use Rattle.sb_abi.specs.declared.call.CallRefusal.{CallRefusal}
+use Rattle.sb_abi.specs.declared.call.CallRefusal.TheVariants.{Pattern}
+use Rattle.sb_calls.specs.Refusals.{protect_refusal}
+use Rattle.sb_calls.specs.SyscallRegisters.{after_syscall}
+use Rattle.sb_trace.specs.SyscallAnswer.{declined}
+use Rattle.sb_trace.specs.SyscallRegister.{refuses_register, with_server, registered}
+use Rattle.sb_trace.specs.SyscallBind.{refuses_bind, with_binding, bound}
+use Rattle.sb_trace.specs.SyscallProtect.{heap_count, protected, made_executable, protects_by}
+use Rattle.sb_trace.specs.Syscall.{exited, called_by, called}
 use Rattle.sb_trace.specs.KernelCall.{binding_in, pool_word, refused, not_switched, returned_home, taken, called_through, switched_by, kernel_call}
 use Rattle.sb_trace.specs.Flight.{flight_binding, is_key, bound_pool, decided_at, landed, flown, called_binding, switched_into, switched}
-use Rattle.sb_trace.specs.Pattern.{heap_pattern}
-use Rattle.sb_trace.specs.SystemCall.{declined, exited, register_refusal, with_server, registered, bind_refusal, with_binding, bound, heap_count, protected, made_executable, protects, called_by, called}
+use Rattle.sb_state.specs.Pattern.{heap_pattern}
 use Rattle.sb_trace.specs.Run.{RunBy}
 use Rattle.sb_trace.specs.Step.{StopsWith, PerformsBy, FollowsFetch, Performs, RunsOn, executed, GoesOn, StepsBy}
 use Rattle.sb_trace.specs.OneStep.{StepsOnceBy, StepsOnce, StepsAlike, without_flights, with_line, without_landings, core_of}
 use Rattle.sb_trace.specs.Sound.{HasView, StandsAtSwitch, IsDecidedSound, IsFlightSound, IsSound}
 use Rattle.sb_trace.specs.Laws.{LandingsDrop, StepsDrop}
-use Rattle.sb_trace.proofs.Cases.{none_some}
+use Rattle.sb_state.proofs.Cases.{none_some}
+use Rattle.sb_exec.specs.Operand.{next_rip}
 use Rattle.sb_trace.proofs.Kernel.{IsOwn, did_fault, did_call, did_syscall}
 use Rattle.sb_trace.proofs.Phases.{decides_no_more}
 use Rattle.sb_trace.proofs.Vmfunc.{vmfunc_fetched}
@@ -100,54 +109,53 @@ call_mapped state core = switched_mapped state core (thread_at state core) (eax 
 
 -- ---- system calls
 
-declined_mapped : (state : State) (core : ℕ) (insn : Insn) (regs : Regs) (answer second : ℕ)
-    → mapped (declined state core insn regs answer second) ≡ declined (without_flights state) core insn regs answer second
+declined_mapped : (state : State) (core : ℕ) (next : Regs) (refusal : CallRefusal) (second : ℕ)
+    → mapped (declined state core next refusal second) ≡ declined (without_flights state) core next refusal second
 unfolding thread_at with_regs
-declined_mapped state core insn regs answer second = refl
+declined_mapped state core next refusal second = refl
 
-exit_mapped : (state : State) (core : ℕ) (insn : Insn) (regs : Regs) → mapped (exited state core insn regs) ≡ exited (without_flights state) core insn regs
+exit_mapped : (state : State) (core : ℕ) (next : Regs) → mapped (exited state core next) ≡ exited (without_flights state) core next
 unfolding thread_at with_regs with_end with_view
-exit_mapped state core insn regs = mapped_if ((thread_at state core).view == 0) _ _ _ _ refl refl
+exit_mapped state core next = mapped_if ((thread_at state core).view == 0) _ _ _ _ refl refl
 
-registered_mapped : (state : State) (core : ℕ) (insn : Insn) (regs : Regs) (process : ℕ) (refusal : Option ℕ)
-    → mapped (registered state core insn regs process refusal) ≡ registered (without_flights state) core insn regs process refusal
+registered_mapped : (state : State) (core : ℕ) (next : Regs) (process : ℕ) (refusal : Option CallRefusal)
+    → mapped (registered state core next process refusal) ≡ registered (without_flights state) core next process refusal
 unfolding thread_at with_regs with_server with_word with_contents contents process_at
-registered_mapped state core insn regs process (Some refusal) = declined_mapped state core insn regs refusal 0
-registered_mapped state core insn regs process None = refl
+registered_mapped state core next process (Some refusal) = declined_mapped state core next refusal 0
+registered_mapped state core next process None = refl
 
-bound_mapped : (state : State) (core : ℕ) (thread : Thread) (insn : Insn) (regs : Regs) (refusal : Option ℕ)
-    → mapped (bound state core thread insn regs refusal) ≡ bound (without_flights state) core thread insn regs refusal
+bound_mapped : (state : State) (core : ℕ) (thread : Thread) (next : Regs) (refusal : Option CallRefusal)
+    → mapped (bound state core thread next refusal) ≡ bound (without_flights state) core thread next refusal
 unfolding thread_at with_regs with_binding registration_at process_at
-bound_mapped state core thread insn regs (Some refusal) = declined_mapped state core insn regs refusal 0
-bound_mapped state core thread insn regs None = refl
+bound_mapped state core thread next (Some refusal) = declined_mapped state core next refusal 0
+bound_mapped state core thread next None = refl
 
-executable_mapped : (state : State) (core : ℕ) (insn : Insn) (regs : Regs) (process page : ℕ) (found : Option ℕ)
-    → mapped (made_executable state core insn regs process page found) ≡ made_executable (without_flights state) core insn regs process page found
+executable_mapped : (state : State) (core : ℕ) (next : Regs) (process page : ℕ) (found : Option ℕ)
+    → mapped (made_executable state core next process page found) ≡ made_executable (without_flights state) core next process page found
 unfolding thread_at with_regs protected
-executable_mapped state core insn regs process page (Some address) = declined_mapped state core insn regs 20 address
-executable_mapped state core insn regs process page None = refl
+executable_mapped state core next process page (Some address) = declined_mapped state core next Pattern address
+executable_mapped state core next process page None = refl
 
-protects_mapped : (state : State) (core : ℕ) (insn : Insn) (regs : Regs) (process page mode : ℕ)
-    → mapped (protects state core insn regs process page mode) ≡ protects (without_flights state) core insn regs process page mode
+protects_by_mapped : (state : State) (core : ℕ) (next : Regs) (process page mode : ℕ) (refusal : Option CallRefusal)
+    → mapped (protects_by state core next process page mode refusal) ≡ protects_by (without_flights state) core next process page mode refusal
 unfolding thread_at with_regs protected heap_pattern contents process_at
-protects_mapped state core insn regs process page mode =
-    mapped_if (nat_le (heap_count (process_at state process)) page) _ _ _ _ refl
-    (mapped_if (mode == 0) _ _ _ _ refl
-    (mapped_if (mode == 1) _ _ _ _ (executable_mapped state core insn regs process page (heap_pattern state process page)) refl))
+protects_by_mapped state core next process page mode (Some refusal) = declined_mapped state core next refusal 0
+protects_by_mapped state core next process page mode None =
+    mapped_if (mode == 1) _ _ _ _ (executable_mapped state core next process page (heap_pattern state process page)) refl
 
-called_mapped : (state : State) (core : ℕ) (thread : Thread) (insn : Insn) (regs : Regs) (call : ℕ)
-    → mapped (called_by state core thread insn regs call) ≡ called_by (without_flights state) core thread insn regs call
-unfolding thread_at with_regs register_refusal bind_refusal registration_at process_at
-called_mapped state core thread insn regs call =
-    mapped_if (call == 0) _ _ _ _ (exit_mapped state core insn regs)
+called_mapped : (state : State) (core : ℕ) (thread : Thread) (next : Regs) (call : ℕ)
+    → mapped (called_by state core thread next call) ≡ called_by (without_flights state) core thread next call
+unfolding thread_at with_regs registration_at process_at
+called_mapped state core thread next call =
+    mapped_if (call == 0) _ _ _ _ (exit_mapped state core next)
     (mapped_if (call == 1) _ _ _ _ refl
-    (mapped_if (call == 2) _ _ _ _ (registered_mapped state core insn regs (present_of thread) (register_refusal state thread.view (present_of thread) (rdi regs) (rsi regs)))
-    (mapped_if (call == 3) _ _ _ _ (bound_mapped state core thread insn regs (bind_refusal state thread (rdi regs)))
-    (mapped_if (call == 4) _ _ _ _ (protects_mapped state core insn regs (present_of thread) (rdi regs) (rsi regs)) refl))))
+    (mapped_if (call == 2) _ _ _ _ (registered_mapped state core next (present_of thread) (refuses_register state thread.view (present_of thread) (rdi next) (rsi next)))
+    (mapped_if (call == 3) _ _ _ _ (bound_mapped state core thread next (refuses_bind state thread (rdi next)))
+    (mapped_if (call == 4) _ _ _ _ (protects_by_mapped state core next (present_of thread) (rdi next) (rsi next) (protect_refusal (heap_count (process_at state (present_of thread))) (rdi next) (rsi next))) refl))))
 
-syscall_mapped : (state : State) (core : ℕ) (insn : Insn) (regs : Regs) → mapped (called state core insn regs) ≡ called (without_flights state) core insn regs
+syscall_mapped : (state : State) (core : ℕ) (next : Regs) → mapped (called state core next) ≡ called (without_flights state) core next
 unfolding called thread_at
-syscall_mapped state core insn regs = called_mapped state core (thread_at state core) insn regs (rax regs)
+syscall_mapped state core next = called_mapped state core (thread_at state core) next (rax next)
 
 -- ---- an instruction does the same without flights
 
@@ -244,7 +252,7 @@ performs_alike : (state : State) (core : ℕ) (insn : Insn) (regs : Regs) (answe
 performs_alike state core insn regs (Ok Next) regs' state' outcome is =
     inl (subst (λ (one : Outcome). IsOwn one.0) (sym is) tt, ap mapped is ∙ ap (λ (one : State). (StepLine regs.rip, one)) (next_mapped state' core regs'))
 performs_alike state core insn regs (Ok Syscall) regs' state' outcome is =
-    inl (subst (λ (one : Outcome). IsOwn one.0) (sym is) (did_syscall state core insn regs).own, ap mapped is ∙ syscall_mapped state core insn regs)
+    inl (subst (λ (one : Outcome). IsOwn one.0) (sym is) (did_syscall state core (after_syscall (next_rip insn regs) regs)).own, ap mapped is ∙ syscall_mapped state core (after_syscall (next_rip insn regs) regs))
 performs_alike state core insn regs (Ok Undefined) regs' state' outcome is =
     inl (subst (λ (one : Outcome). IsOwn one.0) (sym is) (did_fault state core kind.Undefined regs.rip).own, ap mapped is ∙ fault_mapped state core kind.Undefined regs.rip)
 performs_alike state core insn regs (Ok Switch) regs' state' outcome is = switch_alike state core outcome is

@@ -2,12 +2,12 @@
 use Rattle.std.proofs.Common.{◌≡◌, ◌≢◌, ◌∙◌, sym, subst, ℕ, ◌+◌, ◌≤◌, Bool, true, false, ◌==◌, ◌||◌, refl, arith, inl, inr, ◌⊎◌}
 use Rattle.std.specs.Prelude.{nat_le, Option, Some, None, if◌then◌else◌}
 use Rattle.std.proofs.lemmas.Bool.Decides.{Decides-eqb}
-use Rattle.sb_trace.specs.declared.state.Decision.{Decision}
-use Rattle.sb_trace.specs.declared.state.Decision.TheVariants as decision
+use Rattle.sb_state.specs.declared.state.Decision.{Decision}
+use Rattle.sb_state.specs.declared.state.Decision.TheVariants as decision
 use Rattle.sb_trace.specs.Flight.{decided_at, is_wrong_key, is_entered, phase_after}
 use Rattle.sb_trace.specs.Sound.{FollowsDecision}
-use Rattle.sb_trace.proofs.Names.{number}
-use Rattle.sb_trace.proofs.Cases.{claim_if, same_some}
+use Rattle.sb_state.proofs.Names.{number}
+use Rattle.sb_state.proofs.Cases.{claim_if, same_some}
 
 -- ---- tests
 

@@ -3,9 +3,9 @@ use Rattle.std.proofs.Common.{◌≡◌, sym, subst, ℕ, refl, List, inl, inr}
 use Rattle.std.specs.Prelude.{Option, Some, None, Result, Ok, Err, slice_get, unwrap_or}
 use Rattle.sb_insn.specs.declared.insn.Insn.{Insn}
 use Rattle.sb_insn.specs.declared.registers.Regs.{Regs}
-use Rattle.sb_exec.specs.declared.stop.BusStop.{BusStop}
-use Rattle.sb_exec.specs.declared.stop.BusStop.TheVariants.{Fault as FaultStop, Missing}
-use Rattle.sb_exec.specs.declared.stop.FaultKind.TheVariants as kind
+use Rattle.sb_bus.specs.declared.stop.BusStop.{BusStop}
+use Rattle.sb_bus.specs.declared.stop.BusStop.TheVariants.{Fault as FaultStop, Missing}
+use Rattle.sb_bus.specs.declared.stop.FaultKind.TheVariants as kind
 use Rattle.sb_exec.specs.declared.action.Effect.{Effect}
 use Rattle.sb_exec.specs.declared.action.Effect.TheVariants.{Next, Syscall, Switch, Undefined}
 use Rattle.sb_exec.specs.Rows.{row_of}
@@ -14,15 +14,15 @@ use Rattle.sb_exec.proofs.Stopping.{switch_ends}
 use Rattle.sb_scan.specs.Pattern.{pattern}
 use Rattle.sb_trace.specs.declared.event.Event.{Event}
 use Rattle.sb_trace.specs.declared.event.Event.TheVariants.{Step as StepLine, Idle, Landing, Sys, Entered}
-use Rattle.sb_trace.specs.declared.page.Page.{Page}
-use Rattle.sb_trace.specs.declared.end.EndKind.{EndKind}
-use Rattle.sb_trace.specs.declared.end.EndKind.TheVariants.{Running, Ended, Faulted}
-use Rattle.sb_trace.specs.declared.state.Binding.{Binding}
-use Rattle.sb_trace.specs.declared.state.Decision.{Decision}
-use Rattle.sb_trace.specs.declared.state.Flight.{Flight}
-use Rattle.sb_trace.specs.declared.state.Thread.{Thread}
-use Rattle.sb_trace.specs.State.{State, thread_at, no_thread, with_thread, with_regs, flight_at, with_flight}
-use Rattle.sb_trace.specs.PlainMemory.{plain}
+use Rattle.sb_state.specs.declared.page.Page.{Page}
+use Rattle.sb_state.specs.declared.end_kind.EndKind.{EndKind}
+use Rattle.sb_state.specs.declared.end_kind.EndKind.TheVariants.{Running, Ended, Faulted}
+use Rattle.sb_state.specs.declared.state.Binding.{Binding}
+use Rattle.sb_state.specs.declared.state.Decision.{Decision}
+use Rattle.sb_state.specs.declared.state.Flight.{Flight}
+use Rattle.sb_state.specs.declared.state.Thread.{Thread}
+use Rattle.sb_state.specs.State.{State, thread_at, no_thread, with_thread, with_regs, flight_at, with_flight}
+use Rattle.sb_state.specs.PlainMemory.{plain}
 use Rattle.sb_trace.specs.Home.{Outcome}
 use Rattle.sb_trace.specs.KernelCall.{kernel_call}
 use Rattle.sb_trace.specs.Flight.{switched, switched_into, called_binding, flown, landed, advanced, first_flight, switch_phase}
@@ -30,9 +30,12 @@ use Rattle.sb_trace.specs.Step.{StopsWith, PerformsBy, FollowsFetch, RunsOn, exe
 use Rattle.sb_trace.specs.Sound.{HasView}
 use Rattle.sb_trace.specs.Changes.{OnlyPages, CallChanges, LineChanges, StepChanges, WritesOpen}
 use Rattle.sb_trace.specs.Laws.{StepsChange}
-use Rattle.sb_trace.proofs.Threads.{thread_set, only_thread, only_flight, only_both, only_none}
+use Rattle.sb_state.proofs.Threads.{thread_set}
+use Rattle.sb_trace.proofs.Threads.{only_thread, only_flight, only_both, only_none}
 use Rattle.sb_trace.proofs.Stores.{execution_written}
 use Rattle.sb_trace.proofs.Vmfunc.{vmfunc_stands}
+use Rattle.sb_exec.specs.Operand.{next_rip}
+use Rattle.sb_calls.specs.SyscallRegisters.{after_syscall}
 use Rattle.sb_trace.proofs.Kernel.{Did, did_fault, did_call, did_syscall}
 
 -- ---- an instruction
@@ -73,7 +76,7 @@ performs_claim : (Claim : Outcome → Type 0) (switch : State → ℕ → Outcom
     → Claim (StepLine regs.rip, with_regs state' core regs') → ((outcome : Outcome) → Did state core outcome → Claim outcome)
     → (answer ≡ Ok Switch → Claim (switch state core)) → (outcome : Outcome) → PerformsBy switch state core insn regs answer regs' state' outcome → Claim outcome
 performs_claim Claim switch state core insn regs (Ok Next) regs' state' next own switches outcome is = subst Claim (sym is) next
-performs_claim Claim switch state core insn regs (Ok Syscall) regs' state' next own switches outcome is = subst Claim (sym is) (own _ (did_syscall state core insn regs))
+performs_claim Claim switch state core insn regs (Ok Syscall) regs' state' next own switches outcome is = subst Claim (sym is) (own _ (did_syscall state core (after_syscall (next_rip insn regs) regs)))
 performs_claim Claim switch state core insn regs (Ok Undefined) regs' state' next own switches outcome is =
     subst Claim (sym is) (own _ (did_fault state core kind.Undefined regs.rip))
 performs_claim Claim switch state core insn regs (Ok Switch) regs' state' next own switches outcome is = subst Claim (sym is) (switches refl)

@@ -6,22 +6,22 @@ use Rattle.std.proofs.lemmas.List.{length-set}
 use Rattle.sb_memory.specs.declared.address.Access.TheVariants.{Write}
 use Rattle.sb_memory.specs.Outcome.{and_then, done}
 use Rattle.sb_insn.specs.declared.registers.Regs.{Regs}
-use Rattle.sb_exec.specs.declared.stop.BusStop.{BusStop}
-use Rattle.sb_exec.specs.declared.stop.FaultKind.TheVariants.{Canon}
+use Rattle.sb_bus.specs.declared.stop.BusStop.{BusStop}
+use Rattle.sb_bus.specs.declared.stop.FaultKind.TheVariants.{Canon}
 use Rattle.sb_exec.specs.Access.{bytes_from, store_answer, byte_for}
 use Rattle.sb_exec.specs.Row.{Row}
 use Rattle.sb_exec.specs.Execution.{execution_of}
 use Rattle.sb_exec.proofs.Simulation.{rows_keep}
-use Rattle.sb_trace.specs.declared.page.PageName.{PageName}
-use Rattle.sb_trace.specs.declared.page.Page.{Page}
-use Rattle.sb_trace.specs.declared.page.Seen.{Seen}
-use Rattle.sb_trace.specs.PageName.{same_name, mode_of, permits}
-use Rattle.sb_trace.specs.State.{State, find_page, contents, with_contents, bytes_of}
-use Rattle.sb_trace.specs.Windows.{page_seen, seen, seen_as, name_at, shown}
-use Rattle.sb_trace.specs.PlainMemory.{Placed, placed, placed_at, put_byte, put_all, plain_stored, plain, plain_byte, byte_seen, is_canonical, fault_at}
+use Rattle.sb_state.specs.declared.page.PageName.{PageName}
+use Rattle.sb_state.specs.declared.page.Page.{Page}
+use Rattle.sb_state.specs.declared.page.Seen.{Seen}
+use Rattle.sb_state.specs.PageName.{same_name, mode_of, permits}
+use Rattle.sb_state.specs.State.{State, find_page, contents, with_contents, bytes_of}
+use Rattle.sb_state.specs.Windows.{page_seen, seen, seen_as, name_at, shown}
+use Rattle.sb_state.specs.PlainMemory.{Placed, placed, placed_at, put_byte, put_all, plain_stored, plain, plain_byte, byte_seen, is_canonical, fault_at}
 use Rattle.sb_trace.specs.Changes.{IsClosed, Shape, shape_of}
-use Rattle.sb_trace.proofs.Names.{name_same, name_other}
-use Rattle.sb_trace.proofs.Pages.{with_bytes, found_other, found_same}
+use Rattle.sb_state.proofs.Names.{name_same, name_other}
+use Rattle.sb_state.proofs.Pages.{with_bytes, found_other, found_same}
 
 -- ---- one byte
 

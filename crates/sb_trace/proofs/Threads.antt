@@ -1,38 +1,18 @@
 -- Threads and flights by number, where one is set.
-use Rattle.std.proofs.Common.{◌≡◌, ◌≢◌, ◌∙◌, ap, subst, ℕ, zero, suc, Bool, true, false, List, [], ◌∷◌, ◌==◌, refl, slice_set}
+use Rattle.std.proofs.Common.{◌≡◌, ◌≢◌, ◌∙◌, ap, subst, ℕ, Bool, true, false, List, [], ◌∷◌, ◌==◌, refl}
 use Rattle.std.specs.Prelude.{Option, Some, None, slice_get, unwrap_or, if◌then◌else◌}
-use Rattle.sb_trace.specs.declared.state.Binding.{Binding}
-use Rattle.sb_trace.specs.declared.state.Flight.{Flight}
-use Rattle.sb_trace.specs.declared.state.Thread.{Thread}
-use Rattle.sb_trace.specs.State.{State, thread_at, with_thread, no_thread, flight_at, with_flight}
-use Rattle.sb_trace.specs.Windows.{server_of}
+use Rattle.sb_state.specs.declared.state.Binding.{Binding}
+use Rattle.sb_state.specs.declared.state.Flight.{Flight}
+use Rattle.sb_state.specs.declared.state.Thread.{Thread}
+use Rattle.sb_state.specs.State.{State, thread_at, with_thread, no_thread, flight_at, with_flight}
+use Rattle.sb_state.specs.Windows.{server_of}
+use Rattle.sb_state.proofs.Names.{number}
+use Rattle.sb_state.proofs.Threads.{set_other, thread_set}
 use Rattle.sb_trace.specs.KernelCall.{binding_in}
 use Rattle.sb_trace.specs.Sound.{HasView}
 use Rattle.sb_trace.specs.Changes.{OnlyThread}
-use Rattle.sb_trace.proofs.Names.{number}
-
--- ---- lists
-
-set_other : {A : Type 0} (list : List A) (index other : ℕ) (value : A) → other ≢ index → slice_get (slice_set list index value) other ≡ slice_get list other
-set_other [] index other value apart = refl
-set_other (first ∷ list) zero zero value apart = absurd (apart refl)
-set_other (first ∷ list) zero (suc other) value apart = refl
-set_other (first ∷ list) (suc index) zero value apart = refl
-set_other (first ∷ list) (suc index) (suc other) value apart = set_other list index other value (λ same. apart (ap suc same))
-
--- what is said of the value that is set, and of the one that was there, is said of the one that is there
-pub set_same : {A : Type 0} (Claim : A → Type 0) (list : List A) (index : ℕ) (value default : A) → Claim value → Claim (unwrap_or (slice_get list index) default)
-    → Claim (unwrap_or (slice_get (slice_set list index value) index) default)
-set_same Claim [] index value default new old = old
-set_same Claim (first ∷ list) zero value default new old = new
-set_same Claim (first ∷ list) (suc index) value default new old = set_same Claim list index value default new old
 
 -- ---- a thread
-
-pub thread_set : (Claim : Thread → Type 0) (state : State) (number : ℕ) (thread : Thread) → Claim thread → Claim (thread_at state number)
-    → Claim (thread_at (with_thread state number thread) number)
-unfolding thread_at
-thread_set Claim state number thread new old = set_same Claim state.threads number thread no_thread new old
 
 pub only_thread : (state : State) (number : ℕ) (thread : Thread) → thread.home ≡ (thread_at state number).home → OnlyThread state number (with_thread state number thread)
 only_thread state number thread home = record {

@@ -8,15 +8,15 @@ use Rattle.sb_scan.specs.Pattern.{pattern}
 use Rattle.sb_tramp.specs.Home.{home_page}
 use Rattle.sb_tramp.specs.Server.{server_page}
 use Rattle.sb_tramp.proofs.Switches.{home_switches, server_switches}
-use Rattle.sb_trace.specs.declared.page.PageName.{PageName}
-use Rattle.sb_trace.specs.declared.page.PageName.TheVariants.{HomeTrampoline, ServerTrampoline}
-use Rattle.sb_trace.specs.declared.page.Mode.TheVariants as mode
-use Rattle.sb_trace.specs.declared.page.Page.{Page}
-use Rattle.sb_trace.specs.declared.page.Seen.{Seen}
-use Rattle.sb_trace.specs.PageName.{mode_of}
-use Rattle.sb_trace.specs.State.{State, contents, bytes_of}
-use Rattle.sb_trace.specs.Windows.{name_at, shown, seen, seen_as, page_seen}
-use Rattle.sb_trace.specs.PlainMemory.{plain, plain_byte, is_canonical}
+use Rattle.sb_state.specs.declared.page.PageName.{PageName}
+use Rattle.sb_state.specs.declared.page.PageName.TheVariants.{HomeTrampoline, ServerTrampoline}
+use Rattle.sb_state.specs.declared.page.Mode.TheVariants as mode
+use Rattle.sb_state.specs.declared.page.Page.{Page}
+use Rattle.sb_state.specs.declared.page.Seen.{Seen}
+use Rattle.sb_state.specs.PageName.{mode_of}
+use Rattle.sb_state.specs.State.{State, contents, bytes_of}
+use Rattle.sb_state.specs.Windows.{name_at, shown, seen, seen_as, page_seen}
+use Rattle.sb_state.specs.PlainMemory.{plain, plain_byte, is_canonical}
 use Rattle.sb_trace.specs.Sound.{ArePagesSound, switch_address}
 use Rattle.sb_trace.proofs.Fetchable.{trampoline_name, trampoline_bytes, trampoline_there}
 
@@ -38,7 +38,8 @@ trampoline_found pages view sound =
     ap (λ found. option_map (seen_as (trampoline_name view)) found) there.1
     ∙ ap (λ how. Some (record { name = trampoline_name view; mode = how })) (trampoline_mode (view == 0) there.0.executable)
 
-trampoline_seen : (state : State) (thread view process : ℕ) → ArePagesSound state.pages → shown state.threads thread view ≡ Some process
+-- every view that shows a process sees its trampoline page
+pub trampoline_seen : (state : State) (thread view process : ℕ) → ArePagesSound state.pages → shown state.threads thread view ≡ Some process
     → page_seen state thread view 0x70000 ≡ Some (code_seen (trampoline_name view))
 unfolding page_seen
 trampoline_seen state thread view process sound shows =
@@ -46,7 +47,7 @@ trampoline_seen state thread view process sound shows =
     ∙ (ap (λ name. option_and_then (seen state.pages) name) (trampoline_named state thread view process) ∙ trampoline_found state.pages view sound)
 
 -- a byte of the trampoline, where it may be fetched
-trampoline_fetched : (state : State) (thread view process address offset : ℕ) → ArePagesSound state.pages → shown state.threads thread view ≡ Some process
+pub trampoline_fetched : (state : State) (thread view process address offset : ℕ) → ArePagesSound state.pages → shown state.threads thread view ≡ Some process
     → is_canonical address ≡ true → address / 4096 ≡ 0x70000 → address % 4096 ≡ offset
     → plain_byte thread view state address Fetch ≡ Ok (get_or (trampoline_bytes view) offset 0)
 unfolding plain_byte contents

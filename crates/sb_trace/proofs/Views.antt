@@ -3,12 +3,12 @@ use Rattle.std.proofs.Common.{sym, subst, ℕ, inl, inr, refl}
 use Rattle.std.specs.Prelude.{Option, Some, None}
 use Rattle.std.proofs.lemmas.Bool.{cases_eq}
 use Rattle.sb_trace.specs.declared.event.Event.{Event}
-use Rattle.sb_trace.specs.declared.end.EndKind.{EndKind}
-use Rattle.sb_trace.specs.declared.end.EndKind.TheVariants.{Running, Ended, Faulted}
-use Rattle.sb_trace.specs.declared.state.Binding.{Binding}
-use Rattle.sb_trace.specs.declared.state.Decision.{Decision}
-use Rattle.sb_trace.specs.declared.state.Flight.{Flight}
-use Rattle.sb_trace.specs.State.{State, thread_at, flight_at, with_flight}
+use Rattle.sb_state.specs.declared.end_kind.EndKind.{EndKind}
+use Rattle.sb_state.specs.declared.end_kind.EndKind.TheVariants.{Running, Ended, Faulted}
+use Rattle.sb_state.specs.declared.state.Binding.{Binding}
+use Rattle.sb_state.specs.declared.state.Decision.{Decision}
+use Rattle.sb_state.specs.declared.state.Flight.{Flight}
+use Rattle.sb_state.specs.State.{State, thread_at, flight_at, with_flight}
 use Rattle.sb_trace.specs.Home.{Outcome}
 use Rattle.sb_trace.specs.Flight.{switched, switched_into, called_binding, flown, landed}
 use Rattle.sb_trace.specs.Step.{GoesOn, StepsBy, Steps}

@@ -15,7 +15,7 @@ use Rattle.sb_insn.specs.Fields.{is_modrm_field, is_sib_field, disp_kind_of, kin
 use Rattle.sb_insn.specs.Spelling.{spelling, front_bytes, disp_bytes, imm_bytes}
 use Rattle.sb_insn.specs.Grammar.{IsValid}
 use Rattle.sb_decode.proofs.Exact.{none_begins_another}
-use Rattle.sb_exec.specs.declared.stop.BusStop.{BusStop}
+use Rattle.sb_bus.specs.declared.stop.BusStop.{BusStop}
 use Rattle.sb_exec.specs.Fetching.{Stands, HasShortFronts, Fetches}
 use Rattle.sb_scan.specs.Pattern.{pattern}
 use Rattle.sb_tramp.specs.Forms.{opcode_alone}

@@ -6,16 +6,18 @@ use Rattle.sb_memory.specs.Words.{put_word}
 use Rattle.sb_tramp.specs.declared.record_words.RecordWords.{RecordWords}
 use Rattle.sb_trace.specs.declared.event.Event.{Event}
 use Rattle.sb_trace.specs.declared.event.Event.TheVariants.{Step as StepLine, Sys, Entered}
-use Rattle.sb_trace.specs.declared.page.PageName.{PageName}
-use Rattle.sb_trace.specs.declared.page.PageName.TheVariants.{Heap, Pool}
-use Rattle.sb_trace.specs.declared.page.Page.{Page}
-use Rattle.sb_trace.specs.declared.page.Seen.{Seen}
-use Rattle.sb_trace.specs.PageName.{permits}
-use Rattle.sb_trace.specs.State.{State, find_page, contents, replaced, thread_at}
-use Rattle.sb_trace.specs.Windows.{page_seen, present_of, server_of}
+use Rattle.sb_state.specs.declared.page.PageName.{PageName}
+use Rattle.sb_state.specs.declared.page.PageName.TheVariants.{Heap, Pool}
+use Rattle.sb_state.specs.declared.page.Page.{Page}
+use Rattle.sb_state.specs.declared.page.Seen.{Seen}
+use Rattle.sb_state.specs.PageName.{permits}
+use Rattle.sb_state.specs.State.{State, find_page, contents, replaced, thread_at}
+use Rattle.sb_state.specs.Windows.{page_seen, present_of, server_of}
 use Rattle.sb_trace.specs.Start.{pages_from}
-use Rattle.sb_trace.specs.Pattern.{heap_pattern}
-use Rattle.sb_trace.specs.SystemCall.{server_stack_page, binding_pages, with_mode}
+use Rattle.sb_state.specs.Pattern.{heap_pattern}
+use Rattle.sb_trace.specs.SyscallRegister.{server_stack_page}
+use Rattle.sb_trace.specs.SyscallBind.{binding_pages}
+use Rattle.sb_trace.specs.SyscallProtect.{with_mode}
 
 -- ---- threads
 

@@ -1,10 +1,10 @@
 -- The bytes that may be fetched, by place in pages that lie one behind another, and where VMFUNC's stand among them.
 use Rattle.std.specs.Prelude.{◌≡◌, ℕ, ◌+◌, ◌/◌, ◌%◌, List, Option, Some, None, slice_index, if◌then◌else◌}
 use Rattle.sb_memory.specs.declared.address.Access.TheVariants.{Fetch}
-use Rattle.sb_trace.specs.declared.page.PageName.{PageName}
-use Rattle.sb_trace.specs.declared.page.Page.{Page}
-use Rattle.sb_trace.specs.PageName.{mode_of, permits}
-use Rattle.sb_trace.specs.State.{find_page}
+use Rattle.sb_state.specs.declared.page.PageName.{PageName}
+use Rattle.sb_state.specs.declared.page.Page.{Page}
+use Rattle.sb_state.specs.PageName.{mode_of, permits}
+use Rattle.sb_state.specs.State.{find_page}
 
 -- the byte at an offset of a page, where the page is there and may be fetched
 abbrev pub fetched_byte : PageName → Option Page → ℕ → Option ℕ

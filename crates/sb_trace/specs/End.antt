@@ -3,10 +3,10 @@ use Rattle.std.specs.Prelude.{ℕ, ◌+◌, List, [], ◌∷◌, length, Option}
 use Rattle.std.specs.Option.{option_map}
 use Rattle.sb_trace.specs.declared.end.ThreadEnd.{ThreadEnd}
 use Rattle.sb_trace.specs.declared.end.EndState.{EndState}
-use Rattle.sb_trace.specs.declared.state.Flight.{Flight}
-use Rattle.sb_trace.specs.declared.state.Thread.{Thread}
-use Rattle.sb_trace.specs.State.{State, flight_at}
-use Rattle.sb_trace.specs.Windows.{present_of}
+use Rattle.sb_state.specs.declared.state.Flight.{Flight}
+use Rattle.sb_state.specs.declared.state.Thread.{Thread}
+use Rattle.sb_state.specs.State.{State, flight_at}
+use Rattle.sb_state.specs.Windows.{present_of}
 
 abbrev pub phase_of : Flight → ℕ
 phase_of flight = flight.phase

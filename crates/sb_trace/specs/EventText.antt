@@ -1,15 +1,12 @@
 -- The text of one line: the core, and what happened there.
-use Rattle.std.specs.Prelude.{ℕ, ◌==◌, if◌then◌else◌, List, ◌++◌, codes, false}
-use Rattle.std.specs.Fmt.{digits, decimal}
-use Rattle.sb_exec.specs.declared.stop.FaultKind.{FaultKind}
+use Rattle.std.specs.Prelude.{ℕ, ◌==◌, if◌then◌else◌, List, ◌++◌, codes}
+use Rattle.std.specs.Fmt.{decimal}
+use Rattle.sb_bus.specs.declared.stop.FaultKind.{FaultKind}
 use Rattle.sb_exec.specs.Stop.{fault_kind_text}
+use Rattle.sb_state.specs.EndText.{hex}
 use Rattle.sb_trace.specs.declared.event.Event.{Event}
 use Rattle.sb_trace.specs.declared.event.Event.TheVariants.{Step, Extra, Stray, Printed, Sys, Exit, Fault, ServerFault, ServerExit, Entered, WrongKey, PoolEmpty, Unbound, BadLeaf, Return, Turn, Landing, Idle}
 use Rattle.sb_trace.specs.declared.event.Line.{Line}
-
--- hexadecimal, in lower case and without leading zeros
-abbrev pub hex : ℕ → List ℕ
-hex value = digits 16 false value
 
 abbrev pub fault_text : FaultKind → ℕ → List ℕ
 fault_text kind at = codes "fault " ++ (fault_kind_text kind ++ (codes " " ++ hex at))

@@ -1,12 +1,12 @@
 -- How a thread comes home, and what a fault does.
-use Rattle.std.specs.Prelude.{ℕ, ◌==◌, if◌then◌else◌, replicate, slice_set}
-use Rattle.sb_exec.specs.declared.stop.FaultKind.{FaultKind}
-use Rattle.sb_insn.specs.declared.registers.Regs.{Regs}
+use Rattle.std.specs.Prelude.{ℕ, ◌==◌, if◌then◌else◌}
+use Rattle.sb_bus.specs.declared.stop.FaultKind.{FaultKind}
+use Rattle.sb_abi.specs.declared.trampoline.TheConstants.{RETURN_ADDRESS}
+pub use Rattle.sb_calls.specs.SyscallRegisters.{faulted_home}
 use Rattle.sb_trace.specs.declared.event.Event.{Event}
 use Rattle.sb_trace.specs.declared.event.Event.TheVariants.{Fault, ServerFault}
-use Rattle.sb_trace.specs.declared.end.EndKind.TheVariants.{Faulted}
-use Rattle.sb_trace.specs.State.{State, thread_at, with_view, with_end}
-use Rattle.sb_trace.specs.Registers.{no_flags}
+use Rattle.sb_state.specs.declared.end_kind.EndKind.TheVariants.{Faulted}
+use Rattle.sb_state.specs.State.{State, thread_at, with_view, with_end}
 
 -- what a step does: its line, and the state after it
 abbrev pub Outcome : Type 0
@@ -14,11 +14,7 @@ Outcome = Event × State
 
 -- the address behind the VMFUNC of the home page, where a thread goes on that came home
 abbrev pub home_address : ℕ
-home_address = 0x70000043
-
--- R9 has the status 4, server fault, and all else is 0
-unfoldable pub faulted_home : Regs
-faulted_home = record { general = slice_set (replicate 16 0) 9 4; rip = home_address; flags = no_flags }
+home_address = RETURN_ADDRESS
 
 -- the thread of this number is sent home; the stack that it has of a server stays taken
 abbrev pub sent_home : State → ℕ → State

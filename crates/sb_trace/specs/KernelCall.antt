@@ -2,16 +2,19 @@
 use Rattle.std.specs.Prelude.{ℕ, ◌+◌, ◌-◌, ◌*◌, ◌^◌, ◌==◌, List, [], ◌∷◌, Option, Some, None, if◌then◌else◌, slice_set}
 use Rattle.std.specs.Int.{w64, trailing_zeros}
 use Rattle.sb_insn.specs.declared.registers.Regs.{Regs}
-use Rattle.sb_exec.specs.declared.stop.FaultKind.TheVariants as kind
+use Rattle.sb_abi.specs.declared.call.CallStatus.TheVariants as status
+use Rattle.sb_abi.specs.declared.space.TheConstants.{FIRST_STACK_TOP, STACK_DISTANCE}
+use Rattle.sb_abi.specs.Numbers.{status_number}
+use Rattle.sb_bus.specs.declared.stop.FaultKind.TheVariants as kind
 use Rattle.sb_trace.specs.declared.event.Event.{Event}
 use Rattle.sb_trace.specs.declared.event.Event.TheVariants.{Entered, WrongKey, PoolEmpty, Unbound, BadLeaf, Return, Turn}
-use Rattle.sb_trace.specs.declared.page.PageName.TheVariants.{Pool}
-use Rattle.sb_trace.specs.declared.state.Binding.{Binding}
-use Rattle.sb_trace.specs.declared.state.Registration.{Registration}
-use Rattle.sb_trace.specs.declared.state.Thread.{Thread}
-use Rattle.sb_trace.specs.State.{State, thread_at, with_view, registration_at}
-use Rattle.sb_trace.specs.PageWords.{word_in, with_word}
-use Rattle.sb_trace.specs.Registers.{eax, ecx, rsi, zero_flags}
+use Rattle.sb_state.specs.declared.page.PageName.TheVariants.{Pool}
+use Rattle.sb_state.specs.declared.state.Binding.{Binding}
+use Rattle.sb_state.specs.declared.state.Registration.{Registration}
+use Rattle.sb_state.specs.declared.state.Thread.{Thread}
+use Rattle.sb_state.specs.State.{State, thread_at, with_view, registration_at}
+use Rattle.sb_state.specs.PageWords.{word_in, with_word}
+use Rattle.sb_state.specs.Registers.{eax, ecx, rsi, zero_flags}
 use Rattle.sb_trace.specs.Home.{Outcome, home_address, faulted}
 
 -- ---- what a call looks at
@@ -62,7 +65,7 @@ lowest_bit word = trailing_zeros w64 word
 -- RSP is the top word of the server stack of this number, and RAX, RCX and R10 are 0
 unfoldable pub entered_regs : Regs → ℕ → ℕ → Regs
 entered_regs regs stack handler = record {
-  general = slice_set (slice_set (slice_set (slice_set regs.general 4 (0x4003FF8 + stack * 0x4000)) 0 0) 1 0) 10 0;
+  general = slice_set (slice_set (slice_set (slice_set regs.general 4 (FIRST_STACK_TOP + stack * STACK_DISTANCE)) 0 0) 1 0) 10 0;
   rip = handler;
   flags = zero_flags;
 }
@@ -76,24 +79,24 @@ entered state number thread binding word =
 -- with the pool word of the server
 abbrev pub taken : State → ℕ → Thread → Binding → ℕ → Outcome
 taken state number thread binding word =
-    if word == 0 then refused state number thread (PoolEmpty binding.index) 2
+    if word == 0 then refused state number thread (PoolEmpty binding.index) (status_number status.PoolEmpty)
     else (Entered binding.index (lowest_bit word), entered state number thread binding word)
 
 -- ---- the call
 
 -- through the binding of this index, if there is one
 abbrev pub called_through : State → ℕ → Thread → ℕ → Option Binding → Outcome
-called_through state number thread index None = not_switched state number thread (Unbound index) 3
+called_through state number thread index None = not_switched state number thread (Unbound index) (status_number status.Unbound)
 called_through state number thread index (Some binding) =
     if rsi thread.regs == binding.key then taken state number thread binding (pool_word state binding.server)
-    else refused state number thread (WrongKey binding.index) 1
+    else refused state number thread (WrongKey binding.index) (status_number status.WrongKey)
 
 abbrev pub switched_by : State → ℕ → Thread → ℕ → ℕ → Outcome
 switched_by state number thread leaf index =
     if leaf == 0
     then if index == 0 then returned_home state number thread
     else called_through state number thread index (binding_in thread.bindings index)
-    else not_switched state number thread (BadLeaf index) 5
+    else not_switched state number thread (BadLeaf index) (status_number status.BadLeaf)
 
 -- VMFUNC of the thread of this number, with the leaf in EAX, the index in ECX and the key in RSI
 unfoldable pub kernel_call : State → ℕ → Outcome

@@ -6,14 +6,14 @@ use Rattle.sb_exec.specs.Fetching.{Stands, fetch_of}
 use Rattle.sb_trace.specs.declared.event.Event.{Event}
 use Rattle.sb_trace.specs.declared.event.Event.TheVariants.{Landing, WrongKey, PoolEmpty, Entered}
 use Rattle.sb_trace.specs.declared.event.Line.{Line}
-use Rattle.sb_trace.specs.declared.state.Decision.{Decision}
-use Rattle.sb_trace.specs.declared.state.Decision.TheVariants as decision
-use Rattle.sb_trace.specs.declared.state.Flight.{Flight}
-use Rattle.sb_trace.specs.State.{State, thread_at, flight_at}
-use Rattle.sb_trace.specs.Registers.{rsi}
+use Rattle.sb_state.specs.declared.state.Decision.{Decision}
+use Rattle.sb_state.specs.declared.state.Decision.TheVariants as decision
+use Rattle.sb_state.specs.declared.state.Flight.{Flight}
+use Rattle.sb_state.specs.State.{State, thread_at, flight_at}
+use Rattle.sb_state.specs.Registers.{rsi}
 use Rattle.sb_trace.specs.Flight.{flight_binding, is_key, bound_pool, decided_at}
-use Rattle.sb_trace.specs.Windows.{shown}
-use Rattle.sb_trace.specs.PlainMemory.{plain}
+use Rattle.sb_state.specs.Windows.{shown}
+use Rattle.sb_state.specs.PlainMemory.{plain}
 use Rattle.sb_trace.specs.Start.{ProcessImage, ThreadEntry, start_state}
 use Rattle.sb_trace.specs.Run.{RunBy}
 use Rattle.sb_trace.specs.Step.{Steps}

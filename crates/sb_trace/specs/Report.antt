@@ -3,13 +3,11 @@ use Rattle.std.specs.Prelude.{ℕ, ◌+◌, List, [], ◌∷◌, ◌++◌, Optio
 use Rattle.std.specs.Fmt.{decimal}
 use Rattle.sb_insn.specs.declared.registers.Regs.{Regs}
 use Rattle.sb_insn.specs.Registers.{flags_image}
-use Rattle.sb_exec.specs.Stop.{fault_kind_text}
-use Rattle.sb_trace.specs.declared.end.EndKind.{EndKind}
-use Rattle.sb_trace.specs.declared.end.EndKind.TheVariants.{Running, Ended, Faulted}
 use Rattle.sb_trace.specs.declared.end.ThreadEnd.{ThreadEnd}
 use Rattle.sb_trace.specs.declared.end.EndState.{EndState}
 use Rattle.sb_trace.specs.declared.event.Line.{Line}
-use Rattle.sb_trace.specs.EventText.{hex, line_text}
+use Rattle.sb_state.specs.EndText.{hex, state_text}
+use Rattle.sb_trace.specs.EventText.{line_text}
 
 abbrev pub line_feed : List ℕ
 line_feed = 10 ∷ []
@@ -23,11 +21,6 @@ abbrev pub lines_text : List Line → List ℕ
 lines_text lines = flat_map whole_line lines
 
 -- ---- the threads at the end
-
-abbrev pub state_text : EndKind → List ℕ
-state_text Running = codes "running"
-state_text (Ended status) = codes "ended " ++ decimal status
-state_text (Faulted kind at) = codes "faulted " ++ (fault_kind_text kind ++ (codes " " ++ hex at))
 
 abbrev pub thread_line : ℕ → ThreadEnd → List ℕ
 thread_line number thread =

@@ -2,18 +2,18 @@
 use Rattle.std.specs.Prelude.{◌≡◌, ◌≢◌, ◌⊎◌, ℕ, ◌%◌, ◌^◌, ◌≤◌, List, length, Option, Some, None}
 use Rattle.sb_tramp.specs.Home.{home_page}
 use Rattle.sb_tramp.specs.Server.{server_page}
-use Rattle.sb_trace.specs.declared.end.EndKind.TheVariants.{Running}
-use Rattle.sb_trace.specs.declared.page.PageName.{PageName}
-use Rattle.sb_trace.specs.declared.page.PageName.TheVariants.{Text, Area, Heap, HomeTrampoline, ServerTrampoline}
-use Rattle.sb_trace.specs.declared.page.Page.{Page}
-use Rattle.sb_trace.specs.declared.state.Binding.{Binding}
-use Rattle.sb_trace.specs.declared.state.Decision.{Decision}
-use Rattle.sb_trace.specs.declared.state.Decision.TheVariants as decision
-use Rattle.sb_trace.specs.declared.state.Flight.{Flight}
-use Rattle.sb_trace.specs.declared.state.Thread.{Thread}
-use Rattle.sb_trace.specs.State.{State, find_page, thread_at, flight_at}
-use Rattle.sb_trace.specs.Windows.{shown_by}
-use Rattle.sb_trace.specs.Registers.{eax, ecx, rsi}
+use Rattle.sb_state.specs.declared.end_kind.EndKind.TheVariants.{Running}
+use Rattle.sb_state.specs.declared.page.PageName.{PageName}
+use Rattle.sb_state.specs.declared.page.PageName.TheVariants.{Text, Area, Heap, HomeTrampoline, ServerTrampoline}
+use Rattle.sb_state.specs.declared.page.Page.{Page}
+use Rattle.sb_state.specs.declared.state.Binding.{Binding}
+use Rattle.sb_state.specs.declared.state.Decision.{Decision}
+use Rattle.sb_state.specs.declared.state.Decision.TheVariants as decision
+use Rattle.sb_state.specs.declared.state.Flight.{Flight}
+use Rattle.sb_state.specs.declared.state.Thread.{Thread}
+use Rattle.sb_state.specs.State.{State, find_page, thread_at, flight_at}
+use Rattle.sb_state.specs.Windows.{shown_by}
+use Rattle.sb_state.specs.Registers.{eax, ecx, rsi}
 use Rattle.sb_trace.specs.KernelCall.{binding_in}
 use Rattle.sb_trace.specs.Code.{code_byte, HasNoCodePattern}
 

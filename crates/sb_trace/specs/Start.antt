@@ -1,18 +1,18 @@
 -- The state of the plain machine at its start (docs/FORMATS.md, "The start").
 use Rattle.std.specs.Prelude.{ℕ, zero, suc, ◌+◌, ◌-◌, ◌*◌, ◌/◌, false, List, [], ◌∷◌, ◌++◌, length, take, drop, map, replicate, slice_set, None}
 use Rattle.sb_insn.specs.declared.registers.Regs.{Regs}
-use Rattle.sb_trace.specs.declared.end.EndKind.TheVariants.{Running}
-use Rattle.sb_trace.specs.declared.page.PageName.{PageName}
-use Rattle.sb_trace.specs.declared.page.PageName.TheVariants.{Text, Area, Data, Heap, Pool, Save, Stack, Record, Scratch, HomeTrampoline, ServerTrampoline}
-use Rattle.sb_trace.specs.declared.page.Page.{Page}
-use Rattle.sb_trace.specs.declared.state.Thread.{Thread}
+use Rattle.sb_state.specs.declared.end_kind.EndKind.TheVariants.{Running}
+use Rattle.sb_state.specs.declared.page.PageName.{PageName}
+use Rattle.sb_state.specs.declared.page.PageName.TheVariants.{Text, Area, Data, Heap, Pool, Save, Stack, Record, Scratch, HomeTrampoline, ServerTrampoline}
+use Rattle.sb_state.specs.declared.page.Page.{Page}
+use Rattle.sb_state.specs.declared.state.Thread.{Thread}
 use Rattle.sb_tramp.specs.declared.record_words.RecordWords.{RecordWords}
 use Rattle.sb_tramp.specs.Record.{words_of}
 use Rattle.sb_tramp.specs.Home.{home_page}
 use Rattle.sb_tramp.specs.Server.{server_page}
-use Rattle.sb_trace.specs.State.{State, Process}
-use Rattle.sb_trace.specs.PageWords.{zeros, words_put}
-use Rattle.sb_trace.specs.Registers.{no_flags}
+use Rattle.sb_state.specs.State.{State, Process}
+use Rattle.sb_state.specs.PageWords.{zeros, words_put}
+use Rattle.sb_state.specs.Registers.{no_flags}
 
 -- what a process is made of: its rewritten text and its rewrite area, the starts of its text's instructions, its initial
 -- data, and its number of heap pages

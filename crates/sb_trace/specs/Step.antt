@@ -2,25 +2,27 @@
 use Rattle.std.specs.Prelude.{◌≡◌, ℕ, Option, Some, None, Result, Ok, Err}
 use Rattle.sb_insn.specs.declared.insn.Insn.{Insn}
 use Rattle.sb_insn.specs.declared.registers.Regs.{Regs}
-use Rattle.sb_exec.specs.declared.stop.BusStop.{BusStop}
-use Rattle.sb_exec.specs.declared.stop.BusStop.TheVariants.{Fault as FaultStop, Missing}
-use Rattle.sb_exec.specs.declared.stop.FaultKind.TheVariants as kind
+use Rattle.sb_bus.specs.declared.stop.BusStop.{BusStop}
+use Rattle.sb_bus.specs.declared.stop.BusStop.TheVariants.{Fault as FaultStop, Missing}
+use Rattle.sb_bus.specs.declared.stop.FaultKind.TheVariants as kind
 use Rattle.sb_exec.specs.declared.action.Effect.{Effect}
 use Rattle.sb_exec.specs.declared.action.Effect.TheVariants.{Next, Syscall, Switch, Undefined}
 use Rattle.sb_exec.specs.Execution.{Execution, execution_of}
+use Rattle.sb_exec.specs.Operand.{next_rip}
 use Rattle.sb_exec.specs.Rows.{row_of}
 use Rattle.sb_exec.specs.Fetching.{FetchesOn}
 use Rattle.sb_trace.specs.declared.event.Event.{Event}
 use Rattle.sb_trace.specs.declared.event.Event.TheVariants.{Step as StepLine, Idle}
-use Rattle.sb_trace.specs.declared.end.EndKind.{EndKind}
-use Rattle.sb_trace.specs.declared.end.EndKind.TheVariants.{Running, Ended, Faulted}
-use Rattle.sb_trace.specs.declared.state.Flight.{Flight}
-use Rattle.sb_trace.specs.declared.state.Thread.{Thread}
-use Rattle.sb_trace.specs.State.{State, thread_at, with_regs, flight_at}
-use Rattle.sb_trace.specs.PlainMemory.{plain}
+use Rattle.sb_state.specs.declared.end_kind.EndKind.{EndKind}
+use Rattle.sb_state.specs.declared.end_kind.EndKind.TheVariants.{Running, Ended, Faulted}
+use Rattle.sb_state.specs.declared.state.Flight.{Flight}
+use Rattle.sb_state.specs.declared.state.Thread.{Thread}
+use Rattle.sb_state.specs.State.{State, thread_at, with_regs, flight_at}
+use Rattle.sb_state.specs.PlainMemory.{plain}
 use Rattle.sb_trace.specs.Home.{Outcome, faulted}
 use Rattle.sb_trace.specs.Flight.{switched, flown}
-use Rattle.sb_trace.specs.SystemCall.{called}
+use Rattle.sb_calls.specs.SyscallRegisters.{after_syscall}
+use Rattle.sb_trace.specs.Syscall.{called}
 
 -- ---- an ordinary step
 
@@ -33,7 +35,7 @@ StopsWith state number (Missing frame) outcome = ⊥
 -- VMFUNC does
 abbrev pub done : (State → ℕ → Outcome) → State → ℕ → Insn → Regs → Effect → Regs → State → Outcome
 done switch state number insn regs Next regs' state' = (StepLine regs.rip, with_regs state' number regs')
-done switch state number insn regs Syscall regs' state' = called state number insn regs
+done switch state number insn regs Syscall regs' state' = called state number (after_syscall (next_rip insn regs) regs)
 done switch state number insn regs Undefined regs' state' = faulted state number kind.Undefined regs.rip
 done switch state number insn regs Switch regs' state' = switch state number
 

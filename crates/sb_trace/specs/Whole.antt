@@ -1,13 +1,13 @@
 -- Which pages are there: exactly those that the processes, the threads, their views and the servers of a state have.
 use Rattle.std.specs.Prelude.{◌≡◌, ◌≢◌, ℕ, ◌*◌, ◌<◌, ◌≤◌, List, Option, Some, None, length, slice_get}
-use Rattle.sb_trace.specs.declared.page.PageName.{PageName}
-use Rattle.sb_trace.specs.declared.page.PageName.TheVariants.{Text, Area, Data, Heap, Pool, ServerStack, Save, Stack, Buffer, Record, Scratch, HomeTrampoline, ServerTrampoline}
-use Rattle.sb_trace.specs.declared.page.Page.{Page}
-use Rattle.sb_trace.specs.declared.state.Registration.{Registration}
-use Rattle.sb_trace.specs.declared.state.Thread.{Thread}
-use Rattle.sb_trace.specs.State.{State, find_page, process_at, registration_at}
-use Rattle.sb_trace.specs.Windows.{shown}
-use Rattle.sb_trace.specs.SystemCall.{heap_count}
+use Rattle.sb_state.specs.declared.page.PageName.{PageName}
+use Rattle.sb_state.specs.declared.page.PageName.TheVariants.{Text, Area, Data, Heap, Pool, ServerStack, Save, Stack, Buffer, Record, Scratch, HomeTrampoline, ServerTrampoline}
+use Rattle.sb_state.specs.declared.page.Page.{Page}
+use Rattle.sb_state.specs.declared.state.Registration.{Registration}
+use Rattle.sb_state.specs.declared.state.Thread.{Thread}
+use Rattle.sb_state.specs.State.{State, find_page, process_at, registration_at}
+use Rattle.sb_state.specs.Windows.{shown}
+use Rattle.sb_trace.specs.SyscallProtect.{heap_count}
 
 -- a page of this name is there
 abbrev pub IsPresent : List Page → PageName → Type 0

@@ -1,19 +1,8 @@
 //! The last state of a run, as the report shows it.
 
-use sb_exec::FaultKind;
 use sb_insn::Regs;
 use sb_list::Listed;
-use std::fmt;
-
-/// Whether a thread goes on.
-#[derive(Clone, Copy, Debug, PartialEq, Eq)]
-pub enum EndKind {
-    Running,
-    /// It ended itself, with this status.
-    Ended(u64),
-    /// A fault ended it, at this address.
-    Faulted(FaultKind, u64),
-}
+use sb_state::EndKind;
 
 /// A thread at the end of a run.
 #[derive(Clone, Copy, Debug, PartialEq, Eq)]
@@ -41,19 +30,4 @@ pub struct EndState {
     pub free: u32,
     /// The number of key words that are left.
     pub keys: u32,
-}
-
-impl fmt::Display for EndKind {
-    ghost use Rattle.std.specs.Prelude.{Some};
-    ghost use Rattle.sb_trace.specs.Report.{state_text};
-
-    ghost output = { λ state. Some (state_text state) };
-
-    fn fmt<W: fmt::Write>(&self, f: &mut fmt::Formatter<W>) -> fmt::Result {
-        match self {
-            EndKind::Running => write!(f, "running"),
-            EndKind::Ended(status) => write!(f, "ended {status}"),
-            EndKind::Faulted(kind, at) => write!(f, "faulted {kind} {at:x}"),
-        }
-    }
 }

@@ -2,33 +2,29 @@
 //!
 //! Inside: `Line` and `Event`, one line for each entry of a schedule; `EndState`, what each thread is at the end;
 //! `report_text`, the bytes of the report; and the definitions of a run over any machine (`specs/Run.antt`) and of the
-//! plain machine, which has a separate memory for each process: its pages by name and which page a thread sees where
-//! (`specs/`: PageName, State, Windows, PlainMemory), its start and its step (Start, Step), and what the kernel does in a
-//! step: calls and returns in one step (KernelCall), the landing that stands for them (Flight), and system calls
-//! (SystemCall); and the laws of its runs, each the contract of a function of `laws` (docs/LAWS.md). Not inside: code that
-//! steps.
+//! plain machine over the states of `sb_state` (`specs/`): its start and its step (Start, Step), and what the kernel does in
+//! a step: calls and returns in one step (KernelCall), the landing that stands for them (Flight), and system calls
+//! (Syscall, and SyscallRegister, SyscallBind and SyscallProtect); and the laws of its runs, each the contract of a
+//! function of `laws` (docs/LAWS.md). Not inside: the state and its memory (`sb_state`), what decides a call (`sb_calls`),
+//! and code that steps (`sb_plain`).
 //!
 //! A line is the core and what happened there, as in `0 step 400000`. Addresses are hexadecimal, all other numbers
 //! decimal (docs/FORMATS.md, "The report").
 #![tactic(auto)]
 
-mod bindings;
 mod end;
 mod event;
 mod laws;
-mod page;
 mod report;
-mod state;
-#[cfg(test)]
-mod tests;
 
-pub use bindings::{Bindings, MAX_BINDINGS};
-pub use end::{EndKind, EndState, ThreadEnd, ThreadEnds};
+pub use end::{EndState, ThreadEnd, ThreadEnds};
 pub use event::{Event, Line, Lines, VMFUNC_PHASE, is_landing};
 pub use laws::{
     flights_decide, landings_can_be_dropped, one_pattern, start_is_sound, steps_change,
     steps_keep_sound,
 };
-pub use page::{Mode, Page, PageBytes, PageName, Seen};
 pub use report::report_text;
-pub use state::{Binding, Decision, Flight, Registration, Thread};
+pub use sb_state::{
+    Binding, Bindings, Decision, EndKind, Flight, MAX_BINDINGS, Mode, Page, PageBytes, PageName,
+    Registration, Seen, Thread,
+};

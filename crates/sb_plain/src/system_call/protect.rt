@@ -5,23 +5,19 @@ ghost use Rattle.sb_trace.specs.State.{thread_at, process_at};
 ghost use Rattle.sb_trace.specs.Registers.{rdi, rsi};
 ghost use Rattle.sb_trace.specs.Windows.{present_of as shown_now};
 ghost use Rattle.sb_trace.specs.Pattern.{heap_pattern as pattern_by};
-ghost use Rattle.sb_trace.specs.SystemCall.{heap_count as pages_of_heap, protected, made_executable, protects};
+ghost use Rattle.sb_trace.specs.SyscallProtect.{heap_count as pages_of_heap, protected, made_executable, protects};
 
 use super::{accept, decline};
 use crate::pattern::heap_pattern;
-use crate::refusal::Refusal;
 use crate::registers::{RDI, RSI};
 use crate::state::Plain;
 use crate::windows::present_of;
-use sb_insn::{Insn, Regs};
+use sb_abi::CallRefusal;
+use sb_calls::{EXECUTE_MODE, protect_refusal};
+use sb_insn::Regs;
 use sb_trace::{Event, PageName};
 
-// The modes of a heap page.
-const WRITE: u64 = 0;
-
-const EXECUTE: u64 = 1;
-
-#[tactic(auto, unfolding(sb_trace::specs::State::process_at))]
+#[tactic(auto, unfolding(sb_state::specs::State::process_at))]
 fn heap_count(state: &Plain, process: u32) -> u32
     ensures { result ≡ pages_of_heap (process_at state.now process) }
 {
@@ -31,7 +27,7 @@ fn heap_count(state: &Plain, process: u32) -> u32
     }
 }
 
-#[tactic(auto, unfolding(sb_trace::specs::SystemCall::protected))]
+#[tactic(auto, unfolding(sb_trace::specs::SyscallProtect::protected))]
 fn set_executable(state: &mut Plain, process: u32, page: u32, executable: bool)
     ensures protected { state.new ≡ protected state.old process page executable }
     ensures threads { state.new.threads ≡ state.old.threads }
@@ -41,46 +37,36 @@ fn set_executable(state: &mut Plain, process: u32, page: u32, executable: bool)
 }
 
 // Executable only where the bytes of VMFUNC stand neither in the page nor across its borders with executable ones.
-fn make_executable(
-    state: &mut Plain,
-    core: u8,
-    insn: &Insn,
-    regs: &Regs,
-    process: u32,
-    page: u32,
-) -> Event
+fn make_executable(state: &mut Plain, core: u8, next: &Regs, process: u32, page: u32) -> Event
     requires inside { core < length state.old.threads }
     requires behind { page + 1 < 2 ^ 32 }
-    ensures made { (result, state.new) ≡ made_executable state.old core insn.now regs.now process page (pattern_by state.old process page) }
+    ensures made { (result, state.new) ≡ made_executable state.old core next.now process page (pattern_by state.old process page) }
     ensures count { length state.new.threads ≡ length state.old.threads }
 {
     if let Some(address) = heap_pattern(state, process, page) {
-        return decline(state, core, insn, regs, Refusal::Pattern, address);
+        return decline(state, core, next, CallRefusal::Pattern, address);
     }
     set_executable(state, process, page, true);
-    accept(state, core, insn, regs)
+    accept(state, core, next)
 }
 
 /// Gives a heap page of the process that the view shows a mode: the page is in RDI, the mode in RSI.
 ///
 /// Where the bytes of VMFUNC refuse it, RDX has the lowest address at which they stand.
-pub fn protect(state: &mut Plain, core: u8, insn: &Insn, regs: &Regs) -> Event
+pub fn protect(state: &mut Plain, core: u8, next: &Regs) -> Event
     requires { core < length state.old.threads }
-    ensures protected { (result, state.new) ≡ protects state.old core insn.now regs.now (shown_now (thread_at state.old core)) (rdi regs.now) (rsi regs.now) }
+    ensures protected { (result, state.new) ≡ protects state.old core next.now (shown_now (thread_at state.old core)) (rdi next.now) (rsi next.now) }
     ensures count { length state.new.threads ≡ length state.old.threads }
 {
     let process = present_of(state.thread(core));
-    let page = regs.general[RDI];
-    if page >= u64::from(heap_count(state, process)) {
-        return decline(state, core, insn, regs, Refusal::BadPage, 0);
+    let (page, mode) = (next.general[RDI], next.general[RSI]);
+    if let Some(refusal) = protect_refusal(heap_count(state, process), page, mode) {
+        return decline(state, core, next, refusal, 0);
     }
     let page = page as u32;
-    match regs.general[RSI] {
-        WRITE => {
-            set_executable(state, process, page, false);
-            accept(state, core, insn, regs)
-        }
-        EXECUTE => make_executable(state, core, insn, regs, process, page),
-        _ => decline(state, core, insn, regs, Refusal::BadMode, 0),
+    if mode == EXECUTE_MODE {
+        return make_executable(state, core, next, process, page);
     }
+    set_executable(state, process, page, false);
+    accept(state, core, next)
 }

@@ -1,41 +1,31 @@
 //! System call 2: the process becomes a server.
 
 ghost use Rattle.std.specs.Prelude.{◌≡◌, ◌<◌, ◌≤◌, ◌-◌, ◌*◌, ◌++◌, None, length, slice_get};
-ghost use Rattle.std.specs.Option.{option_map};
 ghost use Rattle.sb_trace.specs.State.{thread_at, process_at};
 ghost use Rattle.sb_trace.specs.Registers.{rdi, rsi};
 ghost use Rattle.sb_trace.specs.Windows.{present_of as shown_now};
 ghost use Rattle.sb_trace.specs.Start.{pages_from};
-ghost use Rattle.sb_trace.specs.SystemCall.{is_start as is_start_of, register_refusal, server_stack_page, with_registration, with_server, registered};
-ghost use Rattle.sb_plain.specs.Refusal.{number_of};
+ghost use Rattle.sb_trace.specs.SyscallRegister.{is_start as is_start_of, refuses_register, server_stack_page, with_registration, with_server, registered};
 ghost use Rattle.sb_plain.specs.Store.{added};
 
 use super::{accept, decline};
 use crate::pages::Pages;
 use crate::pool::{registration_of, set_pool_word};
 use crate::process::Process;
-use crate::refusal::Refusal;
 use crate::registers::{RDI, RSI};
 use crate::state::Plain;
 use crate::windows::present_of;
-use sb_insn::{Insn, Regs};
+use sb_abi::{CallRefusal, EXIT_STUB, STACK_PAGES, TOP_WORD};
+use sb_calls::register_refusal;
+use sb_insn::Regs;
 use sb_trace::{Event, PageName, Registration};
 
-/// How many stacks a server has at most.
-const MAX_STACKS: u64 = 16;
-
-/// The pages of a server stack.
-const STACK_PAGES: u32 = 4;
-
-/// Where the top word of a stack is in its last page.
-const TOP_WORD: usize = 0xFF8;
-
-/// The address of the exit stub, at the beginning of the server page: there a handler returns to.
-const EXIT_STUB: u64 = 0x7000_0000;
+/// The pages of a server stack, as numbers of pages are counted here.
+const PAGES: u32 = STACK_PAGES as u32;
 
 // ---- refusals
 
-#[tactic(auto, unfolding(sb_trace::specs::State::process_at))]
+#[tactic(auto, unfolding(sb_state::specs::State::process_at))]
 fn is_start(state: &Plain, process: u32, address: u64) -> bool
     ensures { result ≡ is_start_of (process_at state.now process) address }
 {
@@ -45,38 +35,28 @@ fn is_start(state: &Plain, process: u32, address: u64) -> bool
     }
 }
 
-#[tactic(auto, unfolding(sb_trace::specs::SystemCall::register_refusal))]
-fn refusal_of(state: &Plain, view: u16, process: u32, handler: u64, stacks: u64) -> Option<Refusal>
-    ensures refusal { option_map number_of result ≡ register_refusal state.now view process handler stacks }
+// Why the process that a view shows does not become a server.
+fn refusal_of(state: &Plain, view: u16, process: u32, handler: u64, stacks: u64) -> Option<CallRefusal>
+    ensures refusal { result ≡ refuses_register state.now view process handler stacks }
     ensures stacks { result ≡ None → stacks ≤ 16 }
     ensures frames { result ≡ None → 4 * stacks ≤ state.now.free }
 {
-    if view != 0 {
-        Some(Refusal::InServer)
-    } else if registration_of(state, process as usize).is_some() {
-        Some(Refusal::Already)
-    } else if !is_start(state, process, handler) {
-        Some(Refusal::BadHandler)
-    } else if stacks == 0 || stacks > MAX_STACKS {
-        Some(Refusal::BadCount)
-    } else if u64::from(state.free) < u64::from(STACK_PAGES) * stacks {
-        Some(Refusal::NoFrames)
-    } else {
-        None
-    }
+    let registered = registration_of(state, process as usize).is_some();
+    let start = is_start(state, process, handler);
+    register_refusal(view, registered, start, stacks, state.free)
 }
 
 // ---- the server
 
 // A page of a server stack. The last page of a stack has the address of the exit stub in its top word.
-#[tactic(auto, unfolding(sb_trace::specs::SystemCall::stack_bytes))]
+#[tactic(auto, unfolding(sb_trace::specs::SyscallRegister::stack_bytes))]
 fn add_stack_page(pages: &mut Pages, process: u32, page: u32)
     requires { 0 < pages.old.room }
     ensures { pages.new ≡ added pages.old (server_stack_page process page) }
 {
     let name = PageName::ServerStack(process, page);
-    if page % STACK_PAGES == STACK_PAGES - 1 {
-        pages.add(name, TOP_WORD, &[EXIT_STUB]);
+    if page % PAGES == PAGES - 1 {
+        pages.add(name, TOP_WORD as usize, &[EXIT_STUB]);
     } else {
         pages.add(name, 0, &[]);
     }
@@ -110,7 +90,7 @@ fn note_registration(processes: &mut [Process], process: u32, registration: Regi
     }
 }
 
-#[tactic(auto, unfolding(sb_trace::specs::State::process_at))]
+#[tactic(auto, unfolding(sb_state::specs::State::process_at))]
 fn set_registration(state: &mut Plain, process: u32, registration: Registration)
     ensures { state.new ≡ record state.old { processes = with_registration (process_at state.old process) state.old.processes process registration } }
 {
@@ -118,7 +98,7 @@ fn set_registration(state: &mut Plain, process: u32, registration: Registration)
 }
 
 // The process has so many stacks, all of them free.
-#[tactic(auto, unfolding(sb_trace::specs::SystemCall::with_server, sb_trace::specs::State::process_at, sb_trace::specs::PageWords::with_word, sb_trace::specs::State::with_contents))]
+#[tactic(auto, unfolding(sb_trace::specs::SyscallRegister::with_server, sb_state::specs::State::process_at, sb_state::specs::PageWords::with_word, sb_state::specs::State::with_contents))]
 fn make_server(state: &mut Plain, process: u32, handler: u64, stacks: u32)
     requires count { stacks ≤ 16 }
     requires frames { 4 * stacks ≤ state.old.free }
@@ -126,22 +106,22 @@ fn make_server(state: &mut Plain, process: u32, handler: u64, stacks: u32)
     ensures count { length state.new.threads ≡ length state.old.threads }
 {
     set_pool_word(state, process, (1 << stacks) - 1);
-    take_stacks(state, process, STACK_PAGES * stacks);
+    take_stacks(state, process, PAGES * stacks);
     set_registration(state, process, Registration { handler, stacks });
 }
 
 /// Makes the process that the view shows a server: its handler is in RDI, its number of stacks in RSI.
-pub fn register(state: &mut Plain, core: u8, insn: &Insn, regs: &Regs) -> Event
+pub fn register(state: &mut Plain, core: u8, next: &Regs) -> Event
     requires { core < length state.old.threads }
-    ensures registered { (result, state.new) ≡ registered state.old core insn.now regs.now (shown_now (thread_at state.old core)) (register_refusal state.old (thread_at state.old core).view (shown_now (thread_at state.old core)) (rdi regs.now) (rsi regs.now)) }
+    ensures registered { (result, state.new) ≡ registered state.old core next.now (shown_now (thread_at state.old core)) (refuses_register state.old (thread_at state.old core).view (shown_now (thread_at state.old core)) (rdi next.now) (rsi next.now)) }
     ensures count { length state.new.threads ≡ length state.old.threads }
 {
     let thread = state.thread(core);
     let (view, process) = (thread.view, present_of(thread));
-    let (handler, stacks) = (regs.general[RDI], regs.general[RSI]);
+    let (handler, stacks) = (next.general[RDI], next.general[RSI]);
     if let Some(refusal) = refusal_of(state, view, process, handler, stacks) {
-        return decline(state, core, insn, regs, refusal, 0);
+        return decline(state, core, next, refusal, 0);
     }
     make_server(state, process, handler, stacks as u32);
-    accept(state, core, insn, regs)
+    accept(state, core, next)
 }

@@ -1,5 +1,5 @@
 use Rattle.std.proofs.Common.{◌<◌, ◌^◌, ◌-◌, arith}
-use Rattle.sb_exec.proofs.Loads.{number_below}
+use Rattle.sb_bus.proofs.Loads.{number_below}
 use Rattle.sb_plain.proofs.load.+load_bytes.Goals as goal
 
 pub overflow_mul-result : goal.overflow_mul-result

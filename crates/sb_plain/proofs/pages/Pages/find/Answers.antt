@@ -1,5 +1,5 @@
 use Rattle.std.proofs.Common.{◌≡◌, ◌∙◌, sym, ap, List, Some, ◌<◌, length, subst}
-use Rattle.sb_trace.specs.declared.page.Page.{Page}
+use Rattle.sb_state.specs.declared.page.Page.{Page}
 use Rattle.sb_plain.specs.Places.{place_of}
 use Rattle.sb_plain.specs.Store.{Store}
 use Rattle.sb_plain.proofs.Places.{found_at, whole_at}

@@ -1,6 +1,6 @@
 use Rattle.std.proofs.Common.{◌≡◌, rules, Some, ap, List}
 use Rattle.std.specs.List.{Contains}
-use Rattle.sb_trace.specs.declared.page.Page.{Page}
+use Rattle.sb_state.specs.declared.page.Page.{Page}
 use Rattle.sb_plain.specs.Places.{place_of, known_at}
 use Rattle.sb_plain.specs.Store.{Store}
 use Rattle.sb_plain.proofs.Places.{place_below, place_within}

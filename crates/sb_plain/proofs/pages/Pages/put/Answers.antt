@@ -1,6 +1,6 @@
 use Rattle.std.proofs.Common.{◌≡◌, ◌∙◌, sym, ap, List, Some, ◌<◌, length, length-set, refl, subst}
 use Rattle.std.specs.Prelude.{slice_set}
-use Rattle.sb_trace.specs.declared.page.Page.{Page}
+use Rattle.sb_state.specs.declared.page.Page.{Page}
 use Rattle.sb_plain.specs.Places.{place_of}
 use Rattle.sb_plain.specs.Store.{Store, with_pages}
 use Rattle.sb_plain.proofs.Places.{found_none, replaced_none, bytes_changed, put_past, sound_set}

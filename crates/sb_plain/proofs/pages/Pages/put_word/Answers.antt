@@ -1,6 +1,6 @@
 use Rattle.std.proofs.Common.{◌≡◌, ◌∙◌, sym, ap, List, Some, ◌<◌, length, refl, subst}
 use Rattle.sb_memory.specs.Words.{put_word}
-use Rattle.sb_trace.specs.declared.page.Page.{Page}
+use Rattle.sb_state.specs.declared.page.Page.{Page}
 use Rattle.sb_plain.specs.Places.{place_of}
 use Rattle.sb_plain.specs.Store.{Store, with_pages}
 use Rattle.sb_plain.proofs.Places.{found_none, replaced_none, bytes_changed, whole_at, sound_set}

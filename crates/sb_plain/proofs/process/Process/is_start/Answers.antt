@@ -2,7 +2,7 @@
 use Rattle.std.proofs.Common.{ap, ◌∙◌}
 use Rattle.sb_rewrite.proofs.Search.{found_start}
 use Rattle.sb_trace.specs.State.{Process}
-use Rattle.sb_trace.specs.SystemCall.{is_listed}
+use Rattle.sb_trace.specs.SyscallRegister.{is_listed}
 use Rattle.sb_plain.proofs.Listed.{same_as_listed}
 use Rattle.sb_plain.proofs.process.Process.is_start.Goals as goal
 

@@ -1,6 +1,6 @@
 use Rattle.std.proofs.Common.{◌≡◌, ◌∙◌, ℕ, suc, ◌+◌, ◌-◌, ◌<◌, Bool, true, List, refl, sym, ap, arith, if◌then◌else◌}
-use Rattle.sb_trace.specs.declared.state.Binding.{Binding}
-use Rattle.sb_trace.specs.SystemCall.{has_index, free_index_from, free_index}
+use Rattle.sb_state.specs.declared.state.Binding.{Binding}
+use Rattle.sb_trace.specs.SyscallBind.{has_index, free_index_from, free_index}
 use Rattle.sb_plain.proofs.system_call.bind.free_index.Goals as goal
 
 -- at an index below the last one, the next ones are looked at where a binding has it

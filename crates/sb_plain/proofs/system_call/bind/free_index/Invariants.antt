@@ -1,6 +1,6 @@
 -- The lowest free index is the lowest one from here on.
 use Rattle.std.proofs.Common.{◌≡◌, ◌≤◌, ◌-◌}
-use Rattle.sb_trace.specs.SystemCall.{free_index_from, free_index}
+use Rattle.sb_trace.specs.SyscallBind.{free_index_from, free_index}
 use Rattle.sb_plain.proofs.system_call.bind.free_index.Given as goal
 
 abbrev pub invariant-loop-index : goal.invariant-loop-index

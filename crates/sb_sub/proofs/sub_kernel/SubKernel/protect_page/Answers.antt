@@ -1,6 +1,7 @@
 use Rattle.std.proofs.Common.{◌≡◌, ◌≤◌, ℕ, length, rules}
 use Rattle.std.specs.Prelude.{Option, Some, None, IfSome}
 use Rattle.std.proofs.lemmas.Option.{slice_get_past}
+use Rattle.sb_abi.specs.declared.call.CallRefusal.{CallRefusal}
 use Rattle.sb_sub.proofs.Finding.{finds_heap}
 use Rattle.sb_sub.proofs.Protected.{tables_stand, table_apart, protects_by, absent_protects}
 use Rattle.sb_sub.proofs.sub_kernel.SubKernel.protect_page.Goals as goal
@@ -14,7 +15,7 @@ protect-requires-clause-tables c = tables_stand _ _ _ _ _ c.requires.stands.2 c.
 pub protect-requires-clause-apart : goal.protect-requires-clause-apart
 protect-requires-clause-apart c = table_apart _ _ _ _ _ c.requires.stands.2 c.args.process c.process.result.now c.process.ensures
 
-if_some : (found : Option (ℕ × ℕ)) (Claim : Type 0) (answer : ℕ × ℕ) → found ≡ Some answer → IfSome found (λ _. Claim) → Claim
+if_some : (found : Option (CallRefusal × ℕ)) (Claim : Type 0) (answer : CallRefusal × ℕ) → found ≡ Some answer → IfSome found (λ _. Claim) → Claim
 if_some None Claim answer is holds = absurd (let e = is in cc)
 if_some (Some one) Claim answer is holds = holds
 

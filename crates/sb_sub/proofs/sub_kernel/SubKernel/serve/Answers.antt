@@ -1,40 +1,43 @@
-use Rattle.std.proofs.Common.{◌≡◌, ◌≢◌, ◌∙◌, sym, ap, subst, rules}
-use Rattle.sb_insn.specs.declared.registers.Regs.{Regs}
+use Rattle.std.proofs.Common.{◌≡◌, ◌≢◌, ◌∙◌, sym, ap, subst, rules, ℕ}
 use Rattle.sb_trace.specs.Registers.{rax, rdi}
 use Rattle.sb_trace.specs.declared.event.Event.TheVariants as event
-use Rattle.sb_sub.specs.Serving.{Serves}
+use Rattle.sb_sub.specs.Serving.{Serves, entered}
 use Rattle.sb_sub.specs.declared.answer.Answer.TheVariants.{Back, Printed}
-use Rattle.sb_sub.proofs.Calling.{called_print, called_none, exit_served, goes_on, protect_served, shown_same}
+use Rattle.sb_sub.proofs.Calling.{called_print, called_none, exit_served, goes_on, protect_served, rax_entered, rdi_entered, shown_same}
 use Rattle.sb_sub.proofs.sub_kernel.SubKernel.serve.Goals as goal
 
 pub returns-in-1-clause-served : goal.returns-in-1-clause-served
-returns-in-1-clause-served c = λ state insn start stands view began.
-    let same : rax start ≡ 1 = sym (ap rax began) ∙ c.in-1.is in
-    subst (Serves c.args.self.now c.args.root.now c.args.book.now c.args.memory.now c.args.thread (Printed (rdi c.args.regs.now)) c.go_on.new.regs) (sym (called_print state c.args.thread insn start same))
-    (goes_on _ _ _ _ state c.args.thread insn start c.args.regs.now c.go_on.new.regs 0 0 stands c.requires.thread began c.go_on.ensures (Printed (rdi c.args.regs.now)) _
-    (ap (λ (regs : Regs). event.Printed (rdi regs)) began))
+returns-in-1-clause-served c = λ state stands view.
+    subst (Serves c.args.self.now c.args.root.now c.args.book.now c.args.memory.now c.args.thread (Printed (rdi c.args.regs.now)) c.go_on.new.regs)
+    (sym (called_print state c.args.thread (entered c.args.regs.now) (rax_entered c.args.regs.now ∙ c.in-1.is)))
+    (goes_on _ _ _ _ state c.args.thread (entered c.args.regs.now) c.go_on.new.regs 0 0 stands c.requires.thread c.go_on.ensures
+    (Printed (rdi c.args.regs.now)) _ (ap event.Printed (sym (rdi_entered c.args.regs.now))))
 
 pub returns-in-4-clause-served : goal.returns-in-4-clause-served
-returns-in-4-clause-served c = λ state insn start stands view began.
-    let by = c.protect_page.ensures.served c.args.book.now state stands in
-    let shows = c.shown-process.ensures ∙ shown_same c.args.self.now c.args.root.now c.args.book.now c.args.memory.now state c.args.thread c.args.view stands view in
-    let now = rw c.unwrap_or-answer.ensures at c.go_on-in-4.ensures in
-    rw (c.protect_page.ensures.root, c.unwrap_or-answer.ensures)
-    (protect_served c.protect_page.result c.args.self.now c.args.root.now c.args.book.now c.protect_page.new.memory state c.args.thread c.args.view insn start c.args.regs.now c.go_on-in-4.new.regs
-    c.shown-process.result by c.requires.thread shows began c.in-4.is now)
+returns-in-4-clause-served c = λ state stands view.
+    let by = c.protect_page-refusal.ensures.served c.args.book.now state stands in
+    let shows = c.shown-process.ensures
+        ∙ shown_same c.args.self.now c.args.root.now c.args.book.now c.args.memory.now state c.args.thread c.args.view stands view in
+    let now = rw c.answer_of-answer.ensures at c.go_on-in-4.ensures in
+    rw (c.protect_page-refusal.ensures.root, c.answer_of-answer.ensures)
+    (protect_served c.protect_page-refusal.result c.args.self.now c.args.root.now c.args.book.now c.protect_page-refusal.new.memory state c.args.thread
+    c.args.regs.now c.go_on-in-4.new.regs c.shown-process.result by c.requires.thread shows c.in-4.is now)
 
 pub returns-in_default-clause-served : goal.returns-in_default-clause-served
-returns-in_default-clause-served c = λ state insn start stands view began.
-    let same = ap rax began in
+returns-in_default-clause-served c = λ state stands view.
+    let same = rax_entered c.args.regs.now in
     let zeroth : rax c.args.regs.now ≢ 0 = search rules in
     let first : rax c.args.regs.now ≢ 1 = search rules in
     let fourth : rax c.args.regs.now ≢ 4 = search rules in
-    subst (Serves c.args.self.now c.args.root.now c.args.book.now c.args.memory.now c.args.thread (Back (rax c.args.regs.now) 21) c.go_on-in_default.new.regs)
-    (sym (called_none state c.args.thread insn start (λ is. zeroth (same ∙ is)) (λ is. first (same ∙ is)) (λ is. c.requires.built.0 (same ∙ is)) (λ is. c.requires.built.1 (same ∙ is)) (λ is. fourth (same ∙ is))))
-    (goes_on _ _ _ _ state c.args.thread insn start c.args.regs.now c.go_on-in_default.new.regs 21 0 stands c.requires.thread began c.go_on-in_default.ensures (Back (rax c.args.regs.now) 21) _
-    (ap (λ (regs : Regs). event.Sys (rax regs) 21) began))
+    let now = rw c.number-answer.ensures at c.go_on-in_default.ensures in
+    rw c.number-answer.ensures
+    (subst (Serves c.args.self.now c.args.root.now c.args.book.now c.args.memory.now c.args.thread (Back (rax c.args.regs.now) 21) c.go_on-in_default.new.regs)
+    (sym (called_none state c.args.thread (entered c.args.regs.now) (λ is. zeroth (sym same ∙ is)) (λ is. first (sym same ∙ is))
+    (λ is. c.requires.built.0 (sym same ∙ is)) (λ is. c.requires.built.1 (sym same ∙ is)) (λ is. fourth (sym same ∙ is))))
+    (goes_on _ _ _ _ state c.args.thread (entered c.args.regs.now) c.go_on-in_default.new.regs 21 0 stands c.requires.thread
+    now (Back (rax c.args.regs.now) 21) _ (ap (λ (call : ℕ). event.Sys call 21) (sym same))))
 
 pub returns-in-0-clause-served : goal.returns-in-0-clause-served
-returns-in-0-clause-served c = λ state insn start stands view began.
-    rw c.exit.ensures.answer (exit_served c.args.self.now c.args.root.now c.args.book.now c.args.memory.now state c.args.thread insn start c.args.regs.now c.exit.new.regs stands c.requires.thread began
-    c.args.view view c.in-0.is c.exit.ensures.regs)
+returns-in-0-clause-served c = λ state stands view.
+    rw c.exit.ensures.answer (exit_served c.args.self.now c.args.root.now c.args.book.now c.args.memory.now state c.args.thread c.args.regs.now
+    c.exit.new.regs stands c.requires.thread c.args.view view c.in-0.is c.exit.ensures.regs)

@@ -1,0 +1,39 @@
+-- The sizes of operands.
+use Rattle.std.specs.Prelude.{ℕ, ◌%◌, ◌^◌}
+use Rattle.std.specs.Int.{Width, w8, w32, w64}
+use Rattle.sb_alu.specs.declared.size.Size.{Size}
+use Rattle.sb_alu.specs.declared.size.Size.TheVariants.{Byte, Double, Quad}
+
+-- how many bytes a number of a size has
+abbrev pub size_bytes : Size → ℕ
+size_bytes Byte = 1
+size_bytes Double = 4
+size_bytes Quad = 8
+
+-- how many bits it has
+abbrev pub size_bits : Size → ℕ
+size_bits Byte = 8
+size_bits Double = 32
+size_bits Quad = 64
+
+-- the width of the integers that have this size
+abbrev pub width : Size → Width
+width Byte = w8
+width Double = w32
+width Quad = w64
+
+-- how many numbers there are of a size
+abbrev pub modulus : Size → ℕ
+modulus Byte = 2 ^ 8
+modulus Double = 2 ^ 32
+modulus Quad = 2 ^ 64
+
+-- the number of which only the top bit is set
+abbrev pub half : Size → ℕ
+half Byte = 2 ^ 7
+half Double = 2 ^ 31
+half Quad = 2 ^ 63
+
+-- the lowest bits of a number
+unfoldable pub low : Size → ℕ → ℕ
+low size value = value % modulus size

@@ -1,0 +1,28 @@
+//! Numbers at a size, and what each operation gives on two of them.
+//!
+//! Promised: `operate` gives the number and the flags that the SDM gives for the operation, for every operation, size, pair
+//! of numbers and flags before it (`specs/Operated.antt`).
+//!
+//! Inside: the sizes of operands; sums, differences, products and logic with their flags; shifts by any count; and the
+//! operations by name. Not inside: where the numbers come from, and where the result goes.
+//!
+//! Where the SDM leaves a value open, these choose. IMUL keeps ZF and PF. A shift by more than 1 clears OF. BSF changes no
+//! flag but ZF, and of 0 gives no number. AF is not kept. A shift's count is modulo the number of bits, which is the SDM's
+//! rule at 32 and 64 bits; no instruction of the opcode maps shifts a byte.
+//!
+//! ```text
+//! added(Size::Byte, 0xFF, 1)                                       // 0, with CF and ZF set
+//! operate(Operation::ShiftRight, Size::Double, 0x81, 33, flags)    // 0x40, with CF set: the count is 33 modulo 32
+//! ```
+#![tactic(auto)]
+
+mod arithmetic;
+mod operated;
+mod operation;
+mod shift;
+mod size;
+
+pub use arithmetic::{added, subtracted, sum};
+pub use operated::operate;
+pub use operation::{Operation, Outcome};
+pub use size::Size;

@@ -1,0 +1,3 @@
+pub mod SyscallRegisters
+pub mod Refusals
+pub mod Views

@@ -1,0 +1,5 @@
+pub mod Cases
+pub mod Names
+pub mod Pages
+pub mod Pattern
+pub mod Threads

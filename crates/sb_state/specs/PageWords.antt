@@ -1,0 +1,22 @@
+-- Words of 8 bytes in pages, the lowest byte first.
+use Rattle.std.specs.Prelude.{ℕ, ◌+◌, List, [], ◌∷◌, replicate}
+use Rattle.sb_memory.specs.Words.{word_at, put_word}
+use Rattle.sb_state.specs.declared.page.PageName.{PageName}
+use Rattle.sb_state.specs.State.{State, contents, with_contents}
+
+-- a page of zeros
+unfoldable pub zeros : List ℕ
+zeros = replicate 4096 0
+
+-- the word at an offset of a page
+abbrev pub word_in : State → PageName → ℕ → ℕ
+word_in state name offset = word_at (contents state name) offset
+
+-- the state with a word put at an offset of a page
+unfoldable pub with_word : State → PageName → ℕ → ℕ → State
+with_word state name offset word = with_contents state name (put_word (contents state name) offset word)
+
+-- bytes with words put one after another, from a place on
+abbrev pub words_put : List ℕ → ℕ → List ℕ → List ℕ
+words_put bytes place [] = bytes
+words_put bytes place (word ∷ words) = words_put (put_word bytes place word) (place + 8) words

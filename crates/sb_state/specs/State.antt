@@ -1,0 +1,106 @@
+-- The state of the plain machine: pages by name, processes, threads, and what is left to be given out.
+use Rattle.std.specs.Prelude.{ℕ, false, List, [], ◌∷◌, Option, Some, None, slice_get, slice_set, unwrap_or, if◌then◌else◌}
+use Rattle.sb_insn.specs.declared.registers.Regs.{Regs}
+use Rattle.sb_state.specs.declared.end_kind.EndKind.{EndKind}
+use Rattle.sb_state.specs.declared.end_kind.EndKind.TheVariants.{Ended}
+use Rattle.sb_state.specs.declared.page.PageName.{PageName}
+use Rattle.sb_state.specs.declared.page.Page.{Page}
+use Rattle.sb_state.specs.declared.state.Registration.{Registration}
+use Rattle.sb_state.specs.declared.state.Flight.{Flight}
+use Rattle.sb_state.specs.declared.state.Thread.{Thread}
+use Rattle.sb_state.specs.PageName.{same_name}
+
+-- a process: the starts of its text's instructions, the number of its heap pages, and what it told as a server
+pub record Process : Type 0 where
+  pub starts : List ℕ
+  pub heap_pages : ℕ
+  pub registration : Option Registration
+
+-- Pages of every kind are in one list, so a law over pages needs no case for each kind.
+pub record State : Type 0 where
+  pub pages : List Page
+  pub processes : List Process
+  pub threads : List Thread
+  -- the flight of each thread, by its number, where it is in flight
+  pub flights : List (Option Flight)
+  -- the number of free frames
+  pub free : ℕ
+  -- the key words that are left
+  pub keys : List ℕ
+
+-- ---- pages by name
+
+-- the first page of this name
+abbrev pub find_page : List Page → PageName → Option Page
+find_page [] name = None
+find_page (page ∷ pages) name = if same_name page.name name then Some page else find_page pages name
+
+-- the pages with the first of this name given these bytes
+abbrev pub replaced : List Page → PageName → List ℕ → List Page
+replaced [] name bytes = []
+replaced (page ∷ pages) name bytes =
+    if same_name page.name name then (record page { bytes = bytes }) ∷ pages else page ∷ replaced pages name bytes
+
+abbrev pub bytes_of : Option Page → List ℕ
+bytes_of None = []
+bytes_of (Some page) = page.bytes
+
+-- the bytes of the page of this name; none if there is no such page
+unfoldable pub contents : State → PageName → List ℕ
+contents state name = bytes_of (find_page state.pages name)
+
+unfoldable pub with_contents : State → PageName → List ℕ → State
+with_contents state name bytes = record state { pages = replaced state.pages name bytes }
+
+-- ---- threads by number
+
+-- in place of a thread that is not there: one that has ended
+unfoldable pub no_thread : Thread
+no_thread = record {
+  home = 0;
+  regs = record { general = []; rip = 0; flags = record { cf = false; pf = false; zf = false; sf = false; of = false } };
+  view = 0;
+  bindings = [];
+  state = Ended 0;
+}
+
+unfoldable pub thread_at : State → ℕ → Thread
+thread_at state number = unwrap_or (slice_get state.threads number) no_thread
+
+abbrev pub with_thread : State → ℕ → Thread → State
+with_thread state number thread = record state { threads = slice_set state.threads number thread }
+
+-- the thread of this number has these registers
+unfoldable pub with_regs : State → ℕ → Regs → State
+with_regs state number regs = with_thread state number (record (thread_at state number) { regs = regs })
+
+-- the thread of this number goes on, or has ended so
+unfoldable pub with_end : State → ℕ → EndKind → State
+with_end state number end = with_thread state number (record (thread_at state number) { state = end })
+
+-- the thread of this number has these registers, in this view
+unfoldable pub with_view : State → ℕ → ℕ → Regs → State
+with_view state number view regs = with_thread state number (record (thread_at state number) { view = view; regs = regs })
+
+-- ---- flights by number
+
+-- Flights stand beside the threads, so that a machine without flights is the state without this list.
+unfoldable pub flight_at : State → ℕ → Option Flight
+flight_at state number = unwrap_or (slice_get state.flights number) None
+
+-- the thread of this number is in this flight, or in none
+unfoldable pub with_flight : State → ℕ → Option Flight → State
+with_flight state number flight = record state { flights = slice_set state.flights number flight }
+
+-- ---- processes by number
+
+unfoldable pub process_at : State → ℕ → Option Process
+process_at state number = slice_get state.processes number
+
+-- what the process told as a server, if it did
+abbrev pub registration_of : Option Process → Option Registration
+registration_of None = None
+registration_of (Some process) = process.registration
+
+unfoldable pub registration_at : State → ℕ → Option Registration
+registration_at state process = registration_of (process_at state process)

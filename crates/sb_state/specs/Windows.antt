@@ -1,0 +1,89 @@
+-- Which page a thread sees at each linear address (docs/FORMATS.md, "The memory of a thread").
+use Rattle.std.specs.Prelude.{ℕ, ◌+◌, ◌-◌, ◌/◌, ◌%◌, ◌==◌, ◌&&◌, ◌||◌, Bool, false, nat_lt, nat_le, List, [], ◌∷◌, Option, Some, None, slice_get, unwrap_or, if◌then◌else◌}
+use Rattle.std.specs.Option.{option_map, option_and_then}
+use Rattle.sb_state.specs.declared.page.PageName.{PageName}
+use Rattle.sb_state.specs.declared.page.PageName.TheVariants.{Text, Area, Data, Heap, Pool, ServerStack, Save, Stack, Buffer, Record, Scratch, HomeTrampoline, ServerTrampoline}
+use Rattle.sb_state.specs.PageName.{mode_of}
+use Rattle.sb_state.specs.declared.page.Page.{Page}
+use Rattle.sb_state.specs.declared.page.Seen.{Seen}
+use Rattle.sb_state.specs.declared.state.Thread.{Thread}
+use Rattle.sb_state.specs.declared.state.Binding.{Binding}
+use Rattle.sb_state.specs.State.{State, find_page}
+
+-- ---- the process that a view shows
+
+-- the server of the binding with this index
+abbrev pub server_of : List Binding → ℕ → Option ℕ
+server_of [] index = None
+server_of (binding ∷ bindings) index = if binding.index == index then Some binding.server else server_of bindings index
+
+-- view 0 shows a thread's home, each other view the server of that binding
+abbrev pub shown_by : ℕ → Thread → Option ℕ
+shown_by view thread = if view == 0 then Some thread.home else server_of thread.bindings view
+
+-- the process that a thread's present view shows: each view of a thread is its home or a binding
+abbrev pub present_of : Thread → ℕ
+present_of thread = unwrap_or (shown_by thread.view thread) thread.home
+
+unfoldable pub shown : List Thread → ℕ → ℕ → Option ℕ
+shown threads thread view = option_and_then (shown_by view) (slice_get threads thread)
+
+abbrev pub is_process : Option ℕ → ℕ → Bool
+is_process None process = false
+is_process (Some one) process = one == process
+
+-- ---- the windows: page numbers are linear addresses without their lowest twelve bits
+
+-- a name, where a condition holds
+abbrev pub name_if : Bool → PageName → Option PageName
+name_if test name = if test then Some name else None
+
+-- a page number in the window of 512 pages, which are 2 MiB, from a first one
+abbrev pub is_within : ℕ → ℕ → Bool
+is_within first page = nat_le first page && nat_lt page (first + 512)
+
+-- Eight pages a thread, of which the first is its save page and the last four are its stack; of the threads at home in the process.
+abbrev pub stack_name : List Thread → ℕ → ℕ → Option PageName
+stack_name threads process page =
+    if page % 8 == 0 then name_if (is_process (shown threads (page / 8) 0) process) (Save (page / 8))
+    else name_if (is_process (shown threads (page / 8) 0) process && nat_le 4 (page % 8)) (Stack (page / 8) (page % 8 - 4))
+
+-- Four pages a binding, sixteen bindings a thread; of those whose thread is at home in the process, or whose server it is.
+abbrev pub buffer_name : List Thread → ℕ → ℕ → Option PageName
+buffer_name threads process page =
+    name_if (is_process (shown threads (page / 64) 0) process || is_process (shown threads (page / 64) (page / 4 % 16)) process)
+    (Buffer (page / 64) (page / 4 % 16) (page % 4))
+
+-- the trampoline, record and scratch page of the view, and the pool page of the process
+abbrev pub special_name : ℕ → ℕ → ℕ → ℕ → Option PageName
+special_name thread view process page =
+    if page == 0x70000 then Some (if view == 0 then HomeTrampoline else ServerTrampoline)
+    else if page == 0x70002 then Some (Record thread view)
+    else if page == 0x70004 then Some (Scratch thread view)
+    else name_if (page == 0x70006) (Pool process)
+
+-- the name at a page number, where the view of the thread shows this process
+unfoldable pub name_at : List Thread → ℕ → ℕ → ℕ → ℕ → Option PageName
+name_at threads thread view page process =
+    if nat_le 1 page && nat_lt page 17 then Some (Area process (page - 1))
+    else if is_within 0x400 page then Some (Text process (page - 0x400))
+    else if is_within 0x800 page then Some (Data process (page - 0x800))
+    else if is_within 0xC00 page then Some (Heap process (page - 0xC00))
+    else if is_within 0x2000 page then buffer_name threads process (page - 0x2000)
+    else if is_within 0x3000 page then stack_name threads process (page - 0x3000)
+    else if is_within 0x4000 page then Some (ServerStack process (page - 0x4000))
+    else special_name thread view process page
+
+-- ---- what is seen
+
+abbrev pub seen_as : PageName → Page → Seen
+seen_as name page = record { name = name; mode = mode_of name page.executable }
+
+-- the page of this name, if it is there
+abbrev pub seen : List Page → PageName → Option Seen
+seen pages name = option_map (seen_as name) (find_page pages name)
+
+-- The page that a thread sees at a page number in a view, and how it may be accessed: the table of plain memory.
+unfoldable pub page_seen : State → ℕ → ℕ → ℕ → Option Seen
+page_seen state thread view page =
+    option_and_then (seen state.pages) (option_and_then (name_at state.threads thread view page) (shown state.threads thread view))

@@ -1,0 +1,85 @@
+-- System call 3, bind: a thread gets a view of a server.
+use Rattle.std.specs.Prelude.{ℕ, suc, zero, ◌+◌, ◌-◌, ◌==◌, ◌||◌, Bool, false, List, [], ◌∷◌, ◌++◌, length, drop, Option, Some, None, if◌then◌else◌, slice_index}
+use Rattle.sb_insn.specs.declared.registers.Regs.{Regs}
+use Rattle.sb_abi.specs.declared.call.CallRefusal.{CallRefusal}
+use Rattle.sb_calls.specs.Refusals.{bind_refusal}
+use Rattle.sb_calls.specs.SyscallRegisters.{bound_regs}
+use Rattle.sb_calls.specs.Views.{server_record}
+use Rattle.sb_tramp.specs.declared.record_words.RecordWords.{RecordWords}
+use Rattle.sb_trace.specs.declared.event.Event.TheVariants.{Sys}
+use Rattle.sb_state.specs.declared.page.Page.{Page}
+use Rattle.sb_state.specs.declared.page.PageName.TheVariants.{Buffer, Record, Scratch}
+use Rattle.sb_state.specs.declared.state.Binding.{Binding}
+use Rattle.sb_state.specs.declared.state.Thread.{Thread}
+use Rattle.sb_state.specs.State.{State, with_thread, with_regs, registration_at}
+use Rattle.sb_state.specs.PageWords.{zeros}
+use Rattle.sb_state.specs.Registers.{rax, rdi}
+use Rattle.sb_trace.specs.Home.{Outcome}
+use Rattle.sb_trace.specs.KernelCall.{handler_in}
+use Rattle.sb_trace.specs.Start.{named, pages_from, record_bytes}
+use Rattle.sb_trace.specs.SyscallAnswer.{declined}
+use Rattle.sb_trace.specs.SyscallRegister.{is_registered}
+
+-- why a thread does not get a view of a process
+abbrev pub refuses_bind : State → Thread → ℕ → Option CallRefusal
+refuses_bind state thread server =
+    bind_refusal thread.view thread.home server (is_registered (registration_at state server)) (length thread.bindings) (length state.keys) state.free
+
+-- ---- the binding
+
+-- whether a binding has this index
+abbrev pub has_index : List Binding → ℕ → Bool
+has_index [] index = false
+has_index (binding ∷ bindings) index = (binding.index == index) || has_index bindings index
+
+-- the lowest of so many indices, from a first one on, that no binding has
+abbrev pub free_index_from : List Binding → ℕ → ℕ → ℕ
+free_index_from bindings index zero = index
+free_index_from bindings index (suc count) = if has_index bindings index then free_index_from bindings (index + 1) count else index
+
+-- the lowest index from 1 to 15 that no binding has
+unfoldable pub free_index : List Binding → ℕ
+free_index bindings = free_index_from bindings 1 14
+
+-- the key word that is drawn next
+abbrev pub first_key : List ℕ → ℕ
+first_key keys = slice_index keys 0
+
+-- the binding that is made
+abbrev pub new_binding : State → Thread → ℕ → Binding
+new_binding state thread server = record { index = free_index thread.bindings; server = server; key = first_key state.keys }
+
+-- ---- its pages
+
+-- what the record page of a server's view says
+abbrev pub server_words : ℕ → Thread → Binding → ℕ → RecordWords
+server_words number thread binding handler = server_record number thread.home binding.key handler
+
+-- a page of a binding's buffer
+abbrev pub buffer_page : ℕ → ℕ → ℕ → Page
+buffer_page thread index page = named (Buffer thread index page) zeros
+
+-- the pages of a binding's view, and its buffer
+unfoldable pub binding_pages : ℕ → ℕ → RecordWords → List Page
+binding_pages thread index words =
+    named (Record thread index) (record_bytes words) ∷ named (Scratch thread index) zeros ∷ pages_from (buffer_page thread index) 0 4
+
+-- the view is there, its key is drawn, and its frames are taken
+unfoldable pub with_binding : State → ℕ → Thread → Binding → State
+with_binding state number thread binding = record (with_thread state number (record thread { bindings = thread.bindings ++ binding ∷ [] })) {
+  pages = state.pages ++ binding_pages number binding.index (server_words number thread binding (handler_in (registration_at state binding.server)));
+  free = state.free - 10;
+  keys = drop 1 state.keys;
+}
+
+-- ---- the call
+
+-- the thread has this binding, and its registers tell it
+abbrev pub bound_to : State → ℕ → Thread → Regs → Binding → Outcome
+bound_to state number thread next binding =
+    (Sys (rax next) 0, with_regs (with_binding state number thread binding) number (bound_regs next number binding.index binding.key))
+
+-- bind of a thread by its refusal: the server is in RDI
+abbrev pub bound : State → ℕ → Thread → Regs → Option CallRefusal → Outcome
+bound state number thread next (Some refusal) = declined state number next refusal 0
+bound state number thread next None = bound_to state number thread next (new_binding state thread (rdi next))

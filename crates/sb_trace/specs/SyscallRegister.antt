@@ -1,0 +1,68 @@
+-- System call 2, register: the process becomes a server.
+use Rattle.std.specs.Prelude.{ℕ, ◌+◌, ◌-◌, ◌*◌, ◌%◌, ◌^◌, ◌==◌, ◌||◌, Bool, true, false, List, [], ◌∷◌, ◌++◌, Option, Some, None, if◌then◌else◌, slice_set}
+use Rattle.sb_insn.specs.declared.registers.Regs.{Regs}
+use Rattle.sb_abi.specs.declared.call.CallRefusal.{CallRefusal}
+use Rattle.sb_abi.specs.declared.space.TheConstants.{TOP_WORD}
+use Rattle.sb_abi.specs.declared.trampoline.TheConstants.{EXIT_STUB}
+use Rattle.sb_calls.specs.Refusals.{register_refusal}
+use Rattle.sb_memory.specs.Words.{put_word}
+use Rattle.sb_state.specs.declared.page.Page.{Page}
+use Rattle.sb_state.specs.declared.page.PageName.TheVariants.{Pool, ServerStack}
+use Rattle.sb_state.specs.declared.state.Registration.{Registration}
+use Rattle.sb_state.specs.State.{State, Process, process_at, registration_at}
+use Rattle.sb_state.specs.PageWords.{zeros, with_word}
+use Rattle.sb_state.specs.Registers.{rsi, rdi}
+use Rattle.sb_trace.specs.Home.{Outcome}
+use Rattle.sb_trace.specs.Start.{named, pages_from}
+use Rattle.sb_trace.specs.SyscallAnswer.{declined, accepted}
+
+-- ---- refusals
+
+-- whether an address is one of these
+abbrev pub is_listed : List ℕ → ℕ → Bool
+is_listed [] address = false
+is_listed (start ∷ starts) address = (start == address) || is_listed starts address
+
+-- whether an instruction of the process's text starts at an address
+abbrev pub is_start : Option Process → ℕ → Bool
+is_start None address = false
+is_start (Some process) address = is_listed process.starts address
+
+-- whether a process is a server, by what it told
+abbrev pub is_registered : Option Registration → Bool
+is_registered None = false
+is_registered (Some registration) = true
+
+-- why the process that a view shows does not become a server with this handler and so many stacks
+abbrev pub refuses_register : State → ℕ → ℕ → ℕ → ℕ → Option CallRefusal
+refuses_register state view process handler stacks =
+    register_refusal view (is_registered (registration_at state process)) (is_start (process_at state process) handler) stacks state.free
+
+-- ---- the server
+
+-- the bytes of a page of a server stack: the last page of a stack has the address of the exit stub in its top word
+unfoldable pub stack_bytes : ℕ → List ℕ
+stack_bytes page = if page % 4 == 3 then put_word zeros TOP_WORD EXIT_STUB else zeros
+
+-- a page of a server stack
+abbrev pub server_stack_page : ℕ → ℕ → Page
+server_stack_page process page = named (ServerStack process page) (stack_bytes page)
+
+-- the processes with what the one of this number, which is there, told
+abbrev pub with_registration : Option Process → List Process → ℕ → Registration → List Process
+with_registration None processes number registration = processes
+with_registration (Some process) processes number registration =
+    slice_set processes number (record process { registration = Some registration })
+
+-- the pages of the stacks are there, all of them are free, and their frames are taken
+unfoldable pub with_server : State → ℕ → ℕ → ℕ → State
+with_server state process handler stacks = record (with_word state (Pool process) 0 (2 ^ stacks - 1)) {
+  pages = (with_word state (Pool process) 0 (2 ^ stacks - 1)).pages ++ pages_from (server_stack_page process) 0 (4 * stacks);
+  processes = with_registration (process_at state process) state.processes process (record { handler = handler; stacks = stacks });
+  free = state.free - 4 * stacks;
+}
+
+-- register of a thread by its refusal: the handler is in RDI, the number of stacks in RSI
+abbrev pub registered : State → ℕ → Regs → ℕ → Option CallRefusal → Outcome
+registered state number next process (Some refusal) = declined state number next refusal 0
+registered state number next process None = accepted (with_server state process (rdi next) (rsi next)) number next
