@@ -1,8 +1,9 @@
 //! What guests and the kernels agree on: each number once.
 //!
-//! Inside: the size of a page and the windows of linear addresses (`space`), the trampoline and the phases of a landing
-//! (`trampoline`), system calls with their refusals and the statuses of calls (`call`), how many frames a thing takes
-//! (`frames`), and where things lie in physical memory (`layout`). Definitions cite these constants by their names.
+//! Inside: the size of a page and the windows of linear addresses (`space`), how many pages bytes take (`pages`), the
+//! trampoline and the phases of a landing (`trampoline`), system calls with their refusals and the statuses of calls
+//! (`call`), how many frames a thing takes (`frames`), and where things lie in physical memory (`layout`). Definitions cite
+//! these constants by their names.
 //!
 //! Not inside: what is done with them.
 //!
@@ -14,6 +15,7 @@
 mod call;
 mod frames;
 mod layout;
+mod pages;
 mod space;
 mod trampoline;
 
@@ -22,6 +24,7 @@ pub use frames::{BIND_FRAMES, KEPT_FRAMES, PROCESS_FRAMES, THREAD_FRAMES, VIEW_F
 pub use layout::{
     FIRST_REGION_TABLE, FIRST_ROOT, HOME_TRAMPOLINE_FRAME, LAST_ROOT, SERVER_TRAMPOLINE_FRAME,
 };
+pub use pages::page_count;
 pub use space::{
     AREA_ADDRESS, AREA_PAGE, AREA_PAGES, BUFFER_DISTANCE, BUFFER_PAGES, BUFFERS_ADDRESS,
     BUFFERS_PAGE, BUFFERS_PER_THREAD, DATA_ADDRESS, DATA_PAGE, FIRST_STACK_TOP, HEAP_ADDRESS,

@@ -28,6 +28,3 @@ pub use limits::{CORES, FRAMES, HEAP, INITIAL, KEYS, Limits, PROCESSES, SCHEDULE
 pub use reading::{one_spelling, read_bundle};
 pub use refusal::BundleRefusal;
 pub use writing::write_bundle;
-
-#[cfg(test)]
-mod tests;

@@ -25,8 +25,6 @@ mod places;
 mod rex;
 mod slots;
 mod table;
-#[cfg(test)]
-mod tests;
 
 pub use answer::Form;
 pub use code::Code;

@@ -23,6 +23,3 @@ mod refusal;
 pub use loaded::Loaded;
 pub use loading::{load, one_answer};
 pub use refusal::LoadRefusal;
-
-#[cfg(test)]
-mod tests;

@@ -6,7 +6,7 @@ ghost use Rattle.sb_bundle.specs.Limits.{IsBundle};
 ghost use Rattle.sb_load.specs.Loading.{IsLoadable, rewritten_of};
 ghost use Rattle.sb_load.specs.Need.{need_of, have_of};
 
-use crate::need::KEPT_FRAMES;
+use sb_abi::KEPT_FRAMES;
 use sb_bundle::Bundle;
 use sb_list::Listed;
 use sb_rewrite::Rewritten;

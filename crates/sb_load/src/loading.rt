@@ -8,8 +8,9 @@ ghost use Rattle.sb_load.specs.Checks.{refusal_of, RewritesTexts, ChecksFrames, 
 
 use crate::entries::check_entries;
 use crate::loaded::{Loaded, RewrittenTexts};
-use crate::need::{KEPT_FRAMES, need_of};
+use crate::need::need_of;
 use crate::refusal::LoadRefusal;
+use sb_abi::KEPT_FRAMES;
 use sb_bundle::{Bundle, Image};
 use sb_rewrite::{RewriteRefusal, Rewritten, rewrite};
 use std::alloc::Global;

@@ -6,25 +6,17 @@ ghost use Rattle.sb_bundle.specs.Limits.{IsBundle, IsImage};
 ghost use Rattle.sb_load.specs.Need.{page_count, process_need, area_need, need_of};
 ghost use Rattle.sb_load.specs.Checks.{HasSmallArea, AllSmallAreas};
 
+use sb_abi::{PROCESS_FRAMES, THREAD_FRAMES, page_count};
 use sb_bundle::{Bundle, Image};
 use sb_rewrite::Rewritten;
 
-/// The frames that the machine keeps.
-pub const KEPT_FRAMES: u32 = 512;
-
-/// Of a process beside its text, rewrite area, data and heap: 11 page tables and 1 pool page.
-const PROCESS_FRAMES: u32 = 12;
-
-/// Of a thread: its EPTP list, 6 frames of its home view, 4 stack pages, and its save page.
-const THREAD_FRAMES: u32 = 12;
-
-/// The pages of 4,096 bytes that bytes take.
-fn page_count(bytes: &[u8]) -> u32
+/// The pages that the bytes of a text, of initial data or of a rewrite area take.
+fn pages_of(bytes: &[u8]) -> u32
     requires { length bytes.now ≤ 2097152 }
     ensures value { result ≡ page_count (length bytes.now) }
     ensures bound { result ≤ 512 }
 {
-    bytes.len().div_ceil(4096) as u32
+    page_count(bytes.len()) as u32
 }
 
 fn process_need(image: &Image) -> u32
@@ -33,8 +25,8 @@ fn process_need(image: &Image) -> u32
     ensures bound { result ≤ 1548 }
 {
     PROCESS_FRAMES
-        + page_count(image.text.items())
-        + page_count(image.initial.items())
+        + pages_of(image.text.items())
+        + pages_of(image.initial.items())
         + image.heap_pages
 }
 
@@ -56,7 +48,7 @@ fn area_need(made: &Rewritten) -> u32
     ensures value { result ≡ area_need made.now }
     ensures bound { result ≤ 512 }
 {
-    page_count(made.area())
+    pages_of(made.area())
 }
 
 fn areas_need(rewritten: &[Rewritten]) -> u32

@@ -2,22 +2,13 @@
 use Rattle.std.proofs.Common.{◌≡◌, ℕ, ◌+◌, ◌%◌, ◌^◌, ◌<◌, ◌≤◌, if◌then◌else◌, List, [], ◌∷◌, length, Option, Some, None, refl, ap, subst, arith, inl, inr, ⊎_elim, zero, suc, length-append}
 use Rattle.std.specs.List.{Contains}
 use Rattle.sb_insn.specs.declared.insn.Insn.{Insn}
-use Rattle.sb_insn.specs.declared.insn.Imm.{Imm}
-use Rattle.sb_insn.specs.declared.insn.Imm.TheVariants as imm
 use Rattle.sb_insn.specs.Spelling.{spelling}
 use Rattle.sb_insn.specs.Grammar.{IsValid}
-use Rattle.sb_forms.specs.Places.{IsPermitted, HasForm, NotInJumps, target, distance as place_distance}
+use Rattle.sb_forms.specs.Places.{IsPermitted, HasForm, NotInJumps, target}
 use Rattle.sb_rewrite.specs.Listing.{spelled, starts_from}
-use Rattle.sb_rewrite.specs.Target.{is_direct, distance, direct_target, MayLeadTo, IsBadTarget}
+use Rattle.sb_rewrite.specs.Target.{direct_target, MayLeadTo, IsBadTarget}
 use Rattle.sb_rewrite.specs.Turns.{IsFar}
 use Rattle.sb_rewrite.proofs.OneListing.{some_spelling}
-use Rattle.sb_rewrite.proofs.Direct.{has_distance}
-
-same_distance : (value : Imm) → distance value ≡ place_distance value
-same_distance imm.None = refl
-same_distance (imm.I8 value) = refl
-same_distance (imm.I32 value) = refl
-same_distance (imm.I64 value) = refl
 
 -- starts are in the text
 pub starts_within : (at : ℕ) (insns : List Insn) (start : ℕ) → Contains (starts_from at insns) start → (at ≤ start) × (start < at + length (spelled insns))
@@ -44,10 +35,7 @@ far_is_bad starts (Some address) in_text far = λ may. far (permitted starts add
 pub near_free : NotInJumps → (insn : Insn) (at : ℕ) → IsValid insn → 0x400000 ≤ at → at < 0x600000 → ¬ IsFar (direct_target insn at) → HasForm insn
 unfolding direct_target
 near_free law insn at valid low high near direct place stands =
-    let same : (at + length (spelling insn) + distance insn.imm) % 2 ^ 64 ≡ target insn at =
-    ap (λ (far : ℕ). (at + length (spelling insn) + far) % 2 ^ 64) (same_distance insn.imm) in
-    let target_is : (if is_direct insn.op then Some ((at + length (spelling insn) + distance insn.imm) % 2 ^ 64) else None) ≡ Some (target insn at) =
-    rw (has_distance insn direct) (ap (λ (far : ℕ). Some far) same) in
+    let target_is : direct_target insn at ≡ Some (target insn at) = rw direct refl in
     let leads_near : ¬ IsFar (Some (target insn at)) = subst (λ (leads_to : Option ℕ). ¬ IsFar leads_to) target_is near in
     leads_near (λ permitted. law insn at valid direct low high permitted place stands)
 

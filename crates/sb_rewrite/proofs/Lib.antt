@@ -1,6 +1,5 @@
 pub mod Around
 pub mod Checked
-pub mod Direct
 pub mod FirstAt
 pub mod Jumps
 pub mod Putting

@@ -1,5 +1,6 @@
 -- What stands in place of each instruction of a text, and where its slot in the rewrite area begins.
-use Rattle.std.specs.Prelude.{ℕ, ◌+◌, ◌-◌, Bool, ◌&&◌, ◌==◌, nat_lt, List, [], ◌∷◌, ◌++◌, length, slice_index}
+use Rattle.std.specs.Prelude.{ℕ, ◌+◌, ◌-◌, ◌*◌, Bool, ◌&&◌, ◌==◌, nat_lt, List, [], ◌∷◌, ◌++◌, length, slice_index}
+use Rattle.sb_abi.specs.declared.space.TheConstants.{AREA_ADDRESS, AREA_PAGES, PAGE_SIZE}
 use Rattle.sb_insn.specs.declared.insn.Insn.{Insn}
 use Rattle.sb_insn.specs.Spelling.{spelling}
 use Rattle.sb_forms.specs.declared.answer.Form.{Form}
@@ -9,11 +10,11 @@ use Rattle.sb_rewrite.specs.Listing.{text_address}
 
 -- where the rewrite area begins
 abbrev pub area_address : ℕ
-area_address = 0x1000
+area_address = AREA_ADDRESS
 
 -- the first address behind it
 abbrev pub area_end : ℕ
-area_end = 0x11000
+area_end = AREA_ADDRESS + AREA_PAGES * PAGE_SIZE
 
 -- an instruction of a text, its address, where the next slot begins, and what stands in its place
 pub record Place : Type 0 where

@@ -10,19 +10,17 @@ ghost use Rattle.sb_rewrite.specs.Turns.{IsFrontOfText, started, keep, moved, in
 
 use crate::edit::{Edit, Move};
 use crate::front::Front;
-use crate::listing::{Starts, TEXT_ADDRESS};
+use crate::listing::Starts;
 use crate::refusal::RewriteRefusal;
 use crate::rewritten::Rewritten;
+use sb_abi::{AREA_ADDRESS, AREA_PAGES, PAGE_SIZE, TEXT_ADDRESS};
 use sb_forms::{Code, Form};
 use sb_scan::find_pattern;
 use std::alloc::{AllocError, Global};
 use std::marker::Model;
 
-/// The address of the rewrite area.
-pub const AREA_ADDRESS: u64 = 0x1000;
-
 /// The number of bytes of the rewrite area.
-pub const AREA_SIZE: usize = 0x1_0000;
+pub const AREA_SIZE: usize = (AREA_PAGES * PAGE_SIZE) as usize;
 
 /// What was made of the instructions so far: to contracts, bytes and lists.
 #[derive(Debug, Drop)]

@@ -3,8 +3,8 @@
 ghost use Rattle.std.specs.Prelude.{◌≤◌, ◌<◌, ◌≡◌, ◌+◌, ℕ, length};
 ghost use Rattle.sb_rewrite.specs.Turns.{DecodesFront};
 
-use crate::listing::TEXT_ADDRESS;
 use crate::refusal::RewriteRefusal;
+use sb_abi::TEXT_ADDRESS;
 use sb_decode::decode;
 use sb_insn::Insn;
 

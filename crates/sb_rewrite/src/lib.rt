@@ -22,13 +22,11 @@ mod refusal;
 mod rewriting;
 mod rewritten;
 mod target;
-#[cfg(test)]
-mod tests;
 
-pub use draft::{AREA_ADDRESS, AREA_SIZE};
+pub use draft::AREA_SIZE;
 pub use edit::{Edit, Edits, Move};
-pub use listing::{Listing, Starts, TEXT_ADDRESS, list, one_listing};
+pub use listing::{Listing, Starts, list, one_listing};
 pub use refusal::{ListRefusal, RewriteRefusal};
 pub use rewriting::{one_rewriting, rewrite};
 pub use rewritten::Rewritten;
-pub use target::direct_target;
+pub use sb_abi::{AREA_ADDRESS, TEXT_ADDRESS};

@@ -4,13 +4,11 @@ ghost use Rattle.std.specs.Prelude.{◌≡◌, ◌↔◌, IsTrue, IfOk, Contains
 ghost use Rattle.sb_rewrite.specs.Listing.{Lists, OneListing, OnePlace, ListedApart, StartsRise};
 
 use crate::refusal::ListRefusal;
+use sb_abi::TEXT_ADDRESS;
 use sb_decode::decode;
 use sb_list::Listed;
 use std::alloc::{AllocError, Global};
 use std::marker::Model;
-
-/// The address of a text's first byte.
-pub const TEXT_ADDRESS: u64 = 0x40_0000;
 
 /// Addresses at which instructions start, in order.
 pub type Starts = Listed<u64>;

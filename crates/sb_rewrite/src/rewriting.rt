@@ -8,12 +8,13 @@ ghost use Rattle.sb_rewrite.specs.Placing.{place, area_address, is_after_0f as i
 ghost use Rattle.sb_rewrite.specs.Turns.{IsFrontOfText, JumpsLeadWell, ChecksTargets, ChecksMovable, with_start, Puts, IsPutRefusal, PutsAll};
 ghost use Rattle.sb_rewrite.specs.Rewriting.{Rewrites, OneRewriting, OneOriginal};
 
-use crate::draft::{AREA_ADDRESS, Draft};
+use crate::draft::Draft;
 use crate::front::{Front, decode_front};
-use crate::listing::{Listing, TEXT_ADDRESS, list};
+use crate::listing::{Listing, list};
 use crate::refusal::RewriteRefusal;
 use crate::rewritten::Rewritten;
-use crate::target::{check_jumps, direct_target, is_bad_target, remember_jump};
+use crate::target::{check_jumps, is_bad_target, remember_jump};
+use sb_abi::{AREA_ADDRESS, TEXT_ADDRESS};
 use sb_forms::{Form, form};
 use std::alloc::Global;
 
@@ -33,7 +34,7 @@ fn check_targets(text: &[u8], listing: &Listing) -> Result<(), RewriteRefusal>
     let mut rest = text;
     while !rest.is_empty() {
         let front = decode_front(text, rest)?;
-        if is_bad_target(listing, direct_target(&front.insn, front.at)) {
+        if is_bad_target(listing, front.insn.direct_target(front.at)) {
             return Err(RewriteRefusal::BadTarget { at: front.at });
         }
         rest = front.rest;

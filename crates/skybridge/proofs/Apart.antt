@@ -9,8 +9,8 @@ use Rattle.sb_load.specs.declared.refusal.LoadRefusal.{LoadRefusal}
 use Rattle.sb_load.specs.declared.refusal.LoadRefusal.TheVariants.{Memory}
 use Rattle.sb_load.specs.Loading.{Load, Loads}
 use Rattle.sb_load.proofs.OneAnswer.{one_answer}
-use Rattle.skybridge.specs.declared.replay.Refusal.{Refusal}
-use Rattle.skybridge.specs.declared.replay.Refusal.TheVariants as variant
+use Rattle.skybridge.specs.declared.bundle_commands.Refusal.{Refusal}
+use Rattle.skybridge.specs.declared.bundle_commands.Refusal.TheVariants as variant
 use Rattle.skybridge.specs.Input.{input_limit, IsNotLoadable, SomeNoBundle, SomeNotLoadable, SomeAccepted}
 use Rattle.skybridge.specs.declared.words.BundleCommand.{BundleCommand}
 use Rattle.skybridge.specs.Output.{IsOutput, IsTold, WhereTold, WasRefused}
@@ -30,10 +30,11 @@ one_bundle : (bytes : List ℕ) (first second : Bundle) → SpellsBundle bytes f
 one_bundle bytes first second (good, parts) (good', parts') = same_spelling first second good good' (sym parts ∙ parts')
 
 -- an answer of the loader
-abbrev Answer : Type 0
+abbrev pub Answer : Type 0
 Answer = Result Load LoadRefusal
 
-not_loaded : (load : Load) (why : LoadRefusal) (answer : Answer) → answer ≡ Ok load → ¬ (answer ≡ Err why)
+-- an answer that is a loaded bundle is no refusal
+pub not_loaded : (load : Load) (why : LoadRefusal) (answer : Answer) → answer ≡ Ok load → ¬ (answer ≡ Err why)
 not_loaded load why (Ok other) is refused = absurd cc
 not_loaded load why (Err other) is refused = absurd cc
 

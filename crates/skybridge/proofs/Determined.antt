@@ -12,7 +12,7 @@ use Rattle.sb_trace.proofs.OneOutcome.{steps_run_once}
 use Rattle.sb_plain.specs.Start.{first_state}
 use Rattle.skybridge.specs.declared.words.BundleCommand.{BundleCommand}
 use Rattle.skybridge.specs.declared.words.BundleCommand.TheVariants.{Replay, Plain, Check, Rewrite}
-use Rattle.skybridge.specs.Listings.{check_text, rewrite_text, IsListing}
+use Rattle.skybridge.specs.CommandText.{check_text, rewrite_text, IsCommandText}
 use Rattle.skybridge.specs.Runs.{Runs, IsTextOfRun}
 use Rattle.skybridge.specs.Generator.{generated}
 use Rattle.skybridge.specs.Summary.{summary_text, IsSummary}
@@ -25,7 +25,7 @@ one_text text_of bundle text other (load, lines, end, loads, runs, is) (load', l
     let same = steps_run_once (first_state load') end end' load'.bundle.schedule lines lines' first runs' in
     is ∙ ap (λ (lines : List Line). text_of lines (end_of end)) same.0 ∙ ap (λ (end : State). text_of lines' (end_of end)) same.1 ∙ sym is'
 
-one_listing : (list : Load → List ℕ) (bundle : Bundle) (text other : List ℕ) → IsListing list bundle text → IsListing list bundle other → text ≡ other
+one_listing : (list : Load → List ℕ) (bundle : Bundle) (text other : List ℕ) → IsCommandText list bundle text → IsCommandText list bundle other → text ≡ other
 one_listing list bundle text other (load, loads, is) (load', loads', is') = is ∙ ap list (same_load bundle load load' loads loads') ∙ sym is'
 
 pub one_output : (command : BundleCommand) (bundle : Bundle) (text other : List ℕ) → IsOutput command bundle text → IsOutput command bundle other → text ≡ other

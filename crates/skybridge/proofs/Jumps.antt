@@ -1,16 +1,18 @@
 -- Whether each jump of a text leads to a start or into the trampoline, as a test.
-use Rattle.std.specs.Prelude.{◌≡◌, ℕ, Bool, true, ◌&&◌, ◌||◌, ◌==◌, nat_le, List, [], ◌∷◌, Option, Some, None}
+use Rattle.std.specs.Prelude.{◌≡◌, ℕ, ◌+◌, Bool, true, ◌&&◌, ◌||◌, ◌==◌, nat_le, nat_lt, List, [], ◌∷◌, Option, Some, None}
 use Rattle.std.specs.List.{list_any}
 use Rattle.std.proofs.Common.{⊎_elim, inl, inr}
-use Rattle.std.proofs.lemmas.Bool.{and_parts, or_cases, eqb-true, leb-true}
+use Rattle.std.proofs.lemmas.Bool.{and_parts, or_cases, eqb-true, leb-true, ltb-true}
 use Rattle.std.proofs.lemmas.Map.Views.{Contains-from_any}
+use Rattle.sb_abi.specs.declared.space.TheConstants.{PAGE_SIZE}
+use Rattle.sb_abi.specs.declared.trampoline.TheConstants.{TRAMPOLINE_ADDRESS}
 use Rattle.sb_rewrite.specs.Target.{direct_target, MayLeadTo, IsBadTarget}
 use Rattle.sb_rewrite.specs.Placing.{Place}
 use Rattle.sb_rewrite.specs.Rewriting.{NoneOf, HasBadTarget}
 
 -- the target is in the trampoline or a start
 abbrev pub may_lead_to : List ℕ → ℕ → Bool
-may_lead_to starts target = (nat_le 0x70000000 target && nat_le target 0x70000FFF) || list_any (λ start. target == start) starts
+may_lead_to starts target = (nat_le TRAMPOLINE_ADDRESS target && nat_lt target (TRAMPOLINE_ADDRESS + PAGE_SIZE)) || list_any (λ start. target == start) starts
 
 -- and so is that of a jump; other instructions have none
 abbrev pub is_good_target : List ℕ → Option ℕ → Bool
@@ -27,10 +29,10 @@ all_lead_well starts (place ∷ places) = is_good_target starts (direct_target p
 may_lead : (starts : List ℕ) (target : ℕ) → may_lead_to starts target ≡ true → MayLeadTo starts target
 may_lead starts target e =
     ⊎_elim
-    (λ inside. let parts = and_parts (nat_le 0x70000000 target) (nat_le target 0x70000FFF) inside in
-    inl (leb-true 0x70000000 target parts.0, leb-true target 0x70000FFF parts.1))
+    (λ inside. let parts = and_parts (nat_le TRAMPOLINE_ADDRESS target) (nat_lt target (TRAMPOLINE_ADDRESS + PAGE_SIZE)) inside in
+    inl (leb-true TRAMPOLINE_ADDRESS target parts.0, ltb-true target (TRAMPOLINE_ADDRESS + PAGE_SIZE) parts.1))
     (λ listed. inr (Contains-from_any (λ x y same. eqb-true x y same) target starts listed))
-    (or_cases (nat_le 0x70000000 target && nat_le target 0x70000FFF) (list_any (λ start. target == start) starts) e)
+    (or_cases (nat_le TRAMPOLINE_ADDRESS target && nat_lt target (TRAMPOLINE_ADDRESS + PAGE_SIZE)) (list_any (λ start. target == start) starts) e)
 
 not_bad : (starts : List ℕ) (target : Option ℕ) → is_good_target starts target ≡ true → ¬ IsBadTarget starts target
 not_bad starts None e = λ bad. bad

@@ -1,6 +1,9 @@
 -- The generated texts are rewritten to themselves.
 use Rattle.std.specs.Prelude.{ℕ, ◌<◌, Ok}
 use Rattle.std.proofs.Common.{refl, arith}
+use Rattle.sb_insn.specs.OpcodeMap.{one_byte, two_byte}
+use Rattle.sb_insn.specs.Groups.{group_operand}
+use Rattle.sb_insn.specs.Listing.{instruction_of}
 use Rattle.sb_forms.specs.Holding.{holds_pattern}
 use Rattle.sb_forms.proofs.QuietPieces.{small_holds}
 use Rattle.sb_rewrite.specs.Target.{direct_target}
@@ -26,12 +29,12 @@ client_plain server calls below few = let a = small_holds server below in let b 
 
 -- there are none
 server_leads : LeadsWell (kept server_insns)
-unfolding direct_target
+unfolding direct_target instruction_of one_byte two_byte group_operand
 server_leads = none_bad (starts_of (kept server_insns)) (kept server_insns) refl
 
 -- two jumps back, and the call
 client_leads : (server calls : ℕ) → LeadsWell (kept (client_insns server calls))
-unfolding direct_target
+unfolding direct_target instruction_of one_byte two_byte group_operand
 client_leads server calls = none_bad (starts_of (kept (client_insns server calls))) (kept (client_insns server calls)) refl
 
 -- ---- what the texts become

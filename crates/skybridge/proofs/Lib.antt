@@ -10,4 +10,4 @@ pub mod Jumps
 pub mod KeptTexts
 pub mod Loadable
 pub mod Drawn
-pub mod Generated
+pub mod GeneratedBundle

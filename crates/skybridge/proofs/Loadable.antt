@@ -1,5 +1,5 @@
 -- A generated bundle may be loaded.
-use Rattle.std.specs.Prelude.{◌≡◌, ◌≢◌, ℕ, zero, suc, List, [], ◌∷◌, ◌++◌, length, map, replicate, sum_by, Contains, Result, Ok, Err}
+use Rattle.std.specs.Prelude.{◌≡◌, ◌≢◌, ℕ, zero, suc, List, [], ◌∷◌, ◌++◌, length, map, replicate, sum_by, Contains, Ok, Err}
 use Rattle.std.specs.List.{AllByRecursion, range_with_len}
 use Rattle.std.proofs.Common.{refl, arith}
 use Rattle.sb_bundle.specs.declared.bundle.Image.{Image}
@@ -13,6 +13,7 @@ use Rattle.sb_load.specs.declared.refusal.LoadRefusal.{LoadRefusal}
 use Rattle.sb_load.specs.declared.refusal.LoadRefusal.TheVariants.{Process, BadEntry, NoFrames, Memory}
 use Rattle.sb_load.proofs.OneAnswer.{one_answer}
 use Rattle.skybridge.specs.Generator.{server_image, server_of, calls_of, client_image, clients_of, cores_of, state_after, generated}
+use Rattle.skybridge.proofs.Apart.{Answer, not_loaded}
 use Rattle.skybridge.proofs.KeptTexts.{server_made, client_made, server_rewrites, client_rewrites}
 
 -- what the texts of clients become, and of all processes
@@ -91,21 +92,13 @@ is_loadable number grammar =
 
 -- ---- refusals
 
--- an answer of the loader
-abbrev Answer : Type 0
-Answer = Result Load LoadRefusal
-
-apart : (load : Load) (why : LoadRefusal) (answer : Answer) → answer ≡ Ok load → ¬ (answer ≡ Err why)
-apart load why (Ok other) is refused = absurd cc
-apart load why (Err other) is refused = absurd cc
-
 never : (number : ℕ) (why : LoadRefusal) → IsBundle (generated number) → why ≢ Memory → ¬ Loads (generated number) (Err why)
 never number why grammar some refused =
     let (load, loads) = is_loadable number grammar in
     let loaded : Answer = Ok load in
     let failed : Answer = Err why in
-    let one = one_answer (generated number) loaded failed (apart load Memory loaded refl) (λ lack. some cc) loads refused in
-    apart load why loaded refl one
+    let one = one_answer (generated number) loaded failed (not_loaded load Memory loaded refl) (λ lack. some cc) loads refused in
+    not_loaded load why loaded refl one
 
 -- the loader refuses it for want of memory alone
 pub only_memory : (number : ℕ) (why : LoadRefusal) → IsBundle (generated number) → Loads (generated number) (Err why) → why ≡ Memory

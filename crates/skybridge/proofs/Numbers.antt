@@ -3,6 +3,7 @@ use Rattle.std.proofs.Common.{◌≡◌, ℕ, zero, suc, ◌<◌, ◌^◌, Bool,
 use Rattle.std.specs.Fmt.{decimal}
 use Rattle.std.specs.Str.Parse.{AllDigits, IsNumeral, digits_value, without_leading_plus, ParsesUnsigned}
 use Rattle.std.proofs.lemmas.Str.Parse.{IsNumeralModel}
+use Rattle.std.proofs.lemmas.Bool.{and_parts}
 use Rattle.std.proofs.lemmas.Fmt.{parse-decimal, decimal_digit, first_decimal, digits_decimal, decimal-digits_value}
 use Rattle.skybridge.specs.Words.{is_plain}
 
@@ -12,23 +13,19 @@ own = record { to = λ ds all. all; from = λ ds all. all; same = λ ds all. ref
 not_true : (b : Bool) → not b ≡ true → b ≡ false
 not_true b false_is = search (rules, false_is)
 
-and_true : (a b : Bool) → (a && b) ≡ true → (a ≡ true) × (b ≡ true)
-and_true true b both = (refl, both)
-and_true false b both = absurd cc
-
 -- ---- what is plain is read as it stands
 
 no_plus : (bs : List ℕ) → is_plain bs ≡ true → without_leading_plus bs ≡ bs
 no_plus [] plain = refl
 no_plus (digit ∷ []) plain = ap (λ (plus : Bool). drop (cond plus 1 0) (digit ∷ [])) (not_true (digit == 43) plain)
 no_plus (digit ∷ next ∷ digits) plain =
-    ap (λ (plus : Bool). drop (cond plus 1 0) (digit ∷ next ∷ digits)) (not_true (digit == 43) (and_true _ _ plain).0)
+    ap (λ (plus : Bool). drop (cond plus 1 0) (digit ∷ next ∷ digits)) (not_true (digit == 43) (and_parts _ _ plain).0)
 
 no_zero : (bs : List ℕ) → is_plain bs ≡ true → 0 < length bs → get_or bs 0 0 ≡ 48 → length bs ≡ 1
 no_zero [] plain some leading = absurd (omega arith)
 no_zero (digit ∷ []) plain some leading = refl
 no_zero (digit ∷ next ∷ digits) plain some leading =
-    absurd (search (rules, not_true (digit == 48) (and_true (not (digit == 43)) (not (digit == 48)) plain).1, leading))
+    absurd (search (rules, not_true (digit == 48) (and_parts (not (digit == 43)) (not (digit == 48)) plain).1, leading))
 
 -- a plain text that is a number is what the number's digits are
 pub plain_number : (bs : List ℕ) (number : ℕ) → (IsNumeral 10 (without_leading_plus bs) × (digits_value 10 (without_leading_plus bs) < 2 ^ 64)) × (number ≡ digits_value 10 (without_leading_plus bs))

@@ -6,8 +6,8 @@ use Rattle.sb_bundle.specs.Spelling.{spelling}
 use Rattle.sb_bundle.specs.Reading.{reading}
 use Rattle.sb_load.specs.declared.refusal.LoadRefusal.TheVariants as load_refusal
 use Rattle.sb_load.specs.Loading.{Load, IsLoadable, Loads}
-use Rattle.skybridge.specs.declared.replay.Refusal.{Refusal}
-use Rattle.skybridge.specs.declared.replay.Refusal.TheVariants as refusal
+use Rattle.skybridge.specs.declared.bundle_commands.Refusal.{Refusal}
+use Rattle.skybridge.specs.declared.bundle_commands.Refusal.TheVariants as refusal
 use Rattle.skybridge.specs.declared.words.BundleCommand.{BundleCommand}
 use Rattle.skybridge.specs.Output.{IsOutput}
 

@@ -1,7 +1,7 @@
 pub mod Words
 pub mod Lines
 pub mod Input
-pub mod Listings
+pub mod CommandText
 pub mod Runs
 pub mod Generator
 pub mod Summary

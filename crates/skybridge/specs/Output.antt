@@ -14,7 +14,7 @@ use Rattle.skybridge.specs.Words.{AreWordsOf}
 use Rattle.skybridge.specs.Runs.{IsTextOfRun}
 use Rattle.skybridge.specs.Generator.{generated}
 use Rattle.skybridge.specs.Summary.{IsSummary}
-use Rattle.skybridge.specs.Listings.{check_text, rewrite_text, IsListing}
+use Rattle.skybridge.specs.CommandText.{check_text, rewrite_text, IsCommandText}
 use Rattle.skybridge.specs.Lines.{bundle_line, load_line}
 use Rattle.skybridge.specs.Input.{IsAccepted, IsNoBundle, IsNotLoadable}
 
@@ -59,8 +59,8 @@ ReportedAs IsText left left' held held' =
 abbrev pub IsOutput : BundleCommand → Bundle → List ℕ → Type 0
 IsOutput Replay bundle text = IsReport bundle text
 IsOutput Plain bundle text = IsReport bundle text
-IsOutput Check bundle text = IsListing check_text bundle text
-IsOutput Rewrite bundle text = IsListing rewrite_text bundle text
+IsOutput Check bundle text = IsCommandText check_text bundle text
+IsOutput Rewrite bundle text = IsCommandText rewrite_text bundle text
 
 -- what the other commands write; the help text is free
 abbrev pub IsMade : Command → List ℕ → Type 0

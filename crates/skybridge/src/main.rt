@@ -3,10 +3,10 @@
 //! `bridge` is the top call: it takes the words of the command line, a source and a sink, and its contract says what is
 //! written and when each status comes. `main` hands it the standard streams.
 //!
-//! The way through: `words` (which command), `top` (reading, writing and statuses), `replay` (from the bytes of an input
-//! to what the command writes), `listings` (the text of `check` and `rewrite`), `lines` (the lines of the refusals). For
-//! commands that read nothing: `generator` (the generated bundle), `made` (what is written of it), `summary` (the text of
-//! `gen`), `help` (that of `--help`). What they call: `sb_bundle` reads and writes bundles, `sb_load` rewrites a bundle's
+//! The way through: `words` (which command), `top` (reading, writing and statuses), `bundle_commands` (from the bytes of an
+//! input to what the command writes), `command_text` (the text of `check` and `rewrite`), `refusal_lines` (the lines of the
+//! refusals). For commands that read nothing: `generator` (the generated bundle), `generated` (what is written of it),
+//! `summary` (the text of `gen`), `help` (that of `--help`). What they call: `sb_bundle` reads and writes bundles, `sb_load` rewrites a bundle's
 //! texts and says whether it can be loaded, `sb_plain` runs it, and `sb_trace` writes the report.
 //!
 //! ```text
@@ -15,20 +15,20 @@
 //! ```
 #![tactic(auto)]
 
+mod bundle_commands;
+mod command_text;
+mod generated;
 mod generator;
 mod help;
-mod lines;
-mod listings;
-mod made;
-mod replay;
+mod refusal_lines;
 mod summary;
 #[cfg(test)]
 mod tests;
 mod top;
 mod words;
 
+pub use bundle_commands::{Refusal, output_of};
 pub use generator::{gen_bundle, generated_is_loadable};
-pub use replay::{Refusal, output_of};
 use sb_port::{ReadSource, WriteSink};
 use std::alloc::{AllocError, Global};
 use std::io::ErrorKind;

@@ -159,49 +159,22 @@ fn quiet_outcome(alloc: Global, words: &str, bytes: Vec<u8>) -> Result<(Status, 
 #[test]
 fn threads_run_to_their_report(rt: HostRuntime) -> Result<(), Fail> {
     let alloc = rt.alloc();
+    #[rattlefmt::skip]
     let rows: [(&str, &[u8], u32, &str); 7] = [
-        (
-            "prints 7 and ends with status 7",
-            &FIVE,
-            5,
-            "0 step 400000\n0 step 400005\n0 print 7\n0 step 40000c\n0 exit 7\nthread 0 home 0 view 0 at 0 ended 7\nregs 0 rip 400010 flags 44 0 400010 0 0 3008000 0 0 7 0 0 0 246 0 0 0 0\n",
-        ),
-        (
-            "a thread that has ended is idle",
-            &FIVE,
-            7,
-            "0 step 400000\n0 step 400005\n0 print 7\n0 step 40000c\n0 exit 7\n0 idle\n0 idle\nthread 0 home 0 view 0 at 0 ended 7\nregs 0 rip 400010 flags 44 0 400010 0 0 3008000 0 0 7 0 0 0 246 0 0 0 0\n",
-        ),
-        (
-            "no entry of the schedule, no step",
-            &FIVE,
-            0,
-            "thread 0 home 0 view 0 at 0 running\nregs 0 rip 400000 flags 0 0 0 0 0 3008000 0 0 0 0 0 0 0 0 0 0 0\n",
-        ),
-        (
-            "ends with status 0",
-            &[0x31, 0xC0, 0x0F, 5],
-            2,
-            "0 step 400000\n0 exit 0\nthread 0 home 0 view 0 at 0 ended 0\nregs 0 rip 400004 flags 44 0 400004 0 0 3008000 0 0 0 0 0 0 246 0 0 0 0\n",
-        ),
-        (
-            "runs into the filler behind its text",
-            &EIGHT_XORS,
-            9,
-            "0 step 400000\n0 step 400002\n0 step 400004\n0 step 400006\n0 step 400008\n0 step 40000a\n0 step 40000c\n0 step 40000e\n0 fault undefined 400010\nthread 0 home 0 view 0 at 0 faulted undefined 400010\nregs 0 rip 400010 flags 44 0 0 0 0 3008000 0 0 0 0 0 0 0 0 0 0 0\n",
-        ),
-        (
-            "a number that is no call is answered 21",
-            &[0xB8, 5, 0, 0, 0, 0x0F, 5],
-            2,
-            "0 step 400000\n0 sys 5 21\nthread 0 home 0 view 0 at 0 running\nregs 0 rip 400007 flags 0 15 400007 0 0 3008000 0 0 0 0 0 0 202 0 0 0 0\n",
-        ),
-        (
-            "no instruction starts at the handler of a register call",
-            &[0xB8, 2, 0, 0, 0, 0x0F, 5],
-            2,
-            "0 step 400000\n0 sys 2 12\nthread 0 home 0 view 0 at 0 running\nregs 0 rip 400007 flags 0 c 400007 0 0 3008000 0 0 0 0 0 0 202 0 0 0 0\n",
-        ),
+        ("prints 7 and ends with status 7", &FIVE, 5,
+            "0 step 400000\n0 step 400005\n0 print 7\n0 step 40000c\n0 exit 7\nthread 0 home 0 view 0 at 0 ended 7\nregs 0 rip 400010 flags 44 0 400010 0 0 3008000 0 0 7 0 0 0 246 0 0 0 0\n"),
+        ("a thread that has ended is idle", &FIVE, 7,
+            "0 step 400000\n0 step 400005\n0 print 7\n0 step 40000c\n0 exit 7\n0 idle\n0 idle\nthread 0 home 0 view 0 at 0 ended 7\nregs 0 rip 400010 flags 44 0 400010 0 0 3008000 0 0 7 0 0 0 246 0 0 0 0\n"),
+        ("no entry of the schedule, no step", &FIVE, 0,
+            "thread 0 home 0 view 0 at 0 running\nregs 0 rip 400000 flags 0 0 0 0 0 3008000 0 0 0 0 0 0 0 0 0 0 0\n"),
+        ("ends with status 0", &[0x31, 0xC0, 0x0F, 5], 2,
+            "0 step 400000\n0 exit 0\nthread 0 home 0 view 0 at 0 ended 0\nregs 0 rip 400004 flags 44 0 400004 0 0 3008000 0 0 0 0 0 0 246 0 0 0 0\n"),
+        ("runs into the filler behind its text", &EIGHT_XORS, 9,
+            "0 step 400000\n0 step 400002\n0 step 400004\n0 step 400006\n0 step 400008\n0 step 40000a\n0 step 40000c\n0 step 40000e\n0 fault undefined 400010\nthread 0 home 0 view 0 at 0 faulted undefined 400010\nregs 0 rip 400010 flags 44 0 0 0 0 3008000 0 0 0 0 0 0 0 0 0 0 0\n"),
+        ("a number that is no call is answered 21", &[0xB8, 5, 0, 0, 0, 0x0F, 5], 2,
+            "0 step 400000\n0 sys 5 21\nthread 0 home 0 view 0 at 0 running\nregs 0 rip 400007 flags 0 15 400007 0 0 3008000 0 0 0 0 0 0 202 0 0 0 0\n"),
+        ("no instruction starts at the handler of a register call", &[0xB8, 2, 0, 0, 0, 0x0F, 5], 2,
+            "0 step 400000\n0 sys 2 12\nthread 0 home 0 view 0 at 0 running\nregs 0 rip 400007 flags 0 c 400007 0 0 3008000 0 0 0 0 0 0 202 0 0 0 0\n"),
     ];
     for (name, text, steps, lines) in rows {
         let report = format!(in alloc; "skybridge report 1\n{lines}free 39\nkeys 0\nend\n")?;
@@ -227,84 +200,22 @@ fn each_process_has_its_own_memory(rt: HostRuntime) -> Result<(), Fail> {
 fn refusals_write_one_line(rt: HostRuntime) -> Result<(), Fail> {
     let alloc = rt.alloc();
     let five = bundle(alloc, 576, &FIVE, 0, 5)?;
+    #[rattlefmt::skip]
     let rows: [(&str, &str, Vec<u8>, Status, &str); 11] = [
-        (
-            "another word",
-            "run",
-            Vec::from_slice(alloc, &five)?,
-            Status::BadWords,
-            "usage: skybridge --help\n",
-        ),
-        (
-            "a number with a leading zero",
-            "gen 042",
-            Vec::new(alloc),
-            Status::BadWords,
-            "usage: skybridge --help\n",
-        ),
-        (
-            "a number with a sign",
-            "gen +42",
-            Vec::new(alloc),
-            Status::BadWords,
-            "usage: skybridge --help\n",
-        ),
-        (
-            "2^64",
-            "gen 18446744073709551616 --bundle",
-            Vec::new(alloc),
-            Status::BadWords,
-            "usage: skybridge --help\n",
-        ),
-        (
-            "a word too many",
-            "gen 42 --bundle check",
-            Vec::new(alloc),
-            Status::BadWords,
-            "usage: skybridge --help\n",
-        ),
-        (
-            "no bytes",
-            "replay",
-            Vec::new(alloc),
-            Status::BundleRefused,
-            "bundle Short 0\n",
-        ),
-        (
-            "no schedule",
-            "replay",
-            Vec::from_slice(alloc, &five[..five.len().saturating_sub(5)])?,
-            Status::BundleRefused,
-            "bundle Short 60\n",
-        ),
-        (
-            "the bytes of VMFUNC in a call through memory",
-            "replay",
-            bundle(alloc, 576, &[0xFF, 0x94, 0x24, 0x0F, 1, 0xD4, 0], 0, 0)?,
-            Status::LoadRefused,
-            "process 0 Unmovable 400000\n",
-        ),
-        (
-            "an entry inside an instruction",
-            "replay",
-            bundle(alloc, 576, &FIVE, 1, 5)?,
-            Status::LoadRefused,
-            "entry 0 400001\n",
-        ),
-        (
-            "one frame too few",
-            "replay",
-            bundle(alloc, 536, &FIVE, 0, 5)?,
-            Status::LoadRefused,
-            "frames 25 24\n",
-        ),
-        (
-            "the same for the other word",
-            "plain",
-            bundle(alloc, 536, &FIVE, 0, 5)?,
-            Status::LoadRefused,
-            "frames 25 24\n",
-        ),
+        ("another word", "run", Vec::from_slice(alloc, &five)?, Status::BadWords, "usage: skybridge --help\n"),
+        ("a number with a leading zero", "gen 042", Vec::new(alloc), Status::BadWords, "usage: skybridge --help\n"),
+        ("a number with a sign", "gen +42", Vec::new(alloc), Status::BadWords, "usage: skybridge --help\n"),
+        ("2^64", "gen 18446744073709551616 --bundle", Vec::new(alloc), Status::BadWords, "usage: skybridge --help\n"),
+        ("a word too many", "gen 42 --bundle check", Vec::new(alloc), Status::BadWords, "usage: skybridge --help\n"),
+        ("no bytes", "replay", Vec::new(alloc), Status::BundleRefused, "bundle Short 0\n"),
+        ("no schedule", "replay", Vec::from_slice(alloc, &five[..five.len().saturating_sub(5)])?, Status::BundleRefused,
+            "bundle Short 60\n"),
+        ("the bytes of VMFUNC in a call through memory", "replay",
+            bundle(alloc, 576, &[0xFF, 0x94, 0x24, 0x0F, 1, 0xD4, 0], 0, 0)?, Status::LoadRefused,
+            "process 0 Unmovable 400000\n"),
+        ("an entry inside an instruction", "replay", bundle(alloc, 576, &FIVE, 1, 5)?, Status::LoadRefused, "entry 0 400001\n"),
+        ("one frame too few", "replay", bundle(alloc, 536, &FIVE, 0, 5)?, Status::LoadRefused, "frames 25 24\n"),
+        ("the same for the other word", "plain", bundle(alloc, 536, &FIVE, 0, 5)?, Status::LoadRefused, "frames 25 24\n"),
     ];
     for (name, word, bytes, wanted, line) in rows {
         let (status, held) = quiet_outcome(alloc, word, bytes)?;
@@ -317,32 +228,14 @@ fn refusals_write_one_line(rt: HostRuntime) -> Result<(), Fail> {
 #[test]
 fn texts_are_checked_and_rewritten(rt: HostRuntime) -> Result<(), Fail> {
     let alloc = rt.alloc();
+    #[rattlefmt::skip]
     let rows: [(&str, &str, &[u8], &str); 5] = [
-        (
-            "the frames that a bundle takes and has",
-            "check",
-            &FIVE,
-            "ok 25 64\n",
-        ),
+        ("the frames that a bundle takes and has", "check", &FIVE, "ok 25 64\n"),
         ("no edit", "rewrite", &FIVE, "process 0\nend\n"),
-        (
-            "VMFUNC",
-            "rewrite",
-            &[0x0F, 1, 0xD4],
-            "process 0\nedit 400000 0f01d4 909090\nend\n",
-        ),
-        (
-            "in place",
-            "rewrite",
-            &[0x6A, 0x0F, 1, 0xD4],
-            "process 0\nedit 400002 01d4 03e2\nend\n",
-        ),
-        (
-            "moved",
-            "rewrite",
-            &[5, 0x0F, 1, 0xD4, 0],
-            "process 0\nedit 400000 050f01d400 e9fb0fc0ff\nslot 1000 48890c250040007048c7c10f00d400488d890001000001c8488b0c2500400070e9e0ef3f00\nend\n",
-        ),
+        ("VMFUNC", "rewrite", &[0x0F, 1, 0xD4], "process 0\nedit 400000 0f01d4 909090\nend\n"),
+        ("in place", "rewrite", &[0x6A, 0x0F, 1, 0xD4], "process 0\nedit 400002 01d4 03e2\nend\n"),
+        ("moved", "rewrite", &[5, 0x0F, 1, 0xD4, 0],
+            "process 0\nedit 400000 050f01d400 e9fb0fc0ff\nslot 1000 48890c250040007048c7c10f00d400488d890001000001c8488b0c2500400070e9e0ef3f00\nend\n"),
     ];
     for (name, word, text, wanted) in rows {
         let (status, held) = quiet_outcome(alloc, word, bundle(alloc, 576, text, 0, 0)?)?;
@@ -393,6 +286,7 @@ fn the_help_text_names_each_command(rt: HostRuntime) -> Result<(), Fail> {
 #[test]
 fn the_help_text_describes_the_words(rt: HostRuntime) -> Result<(), Fail> {
     let alloc = rt.alloc();
+    #[rattlefmt::skip]
     let rows: [(&[&str], bool); 10] = [
         (&["replay"], true),
         (&["plain"], true),

@@ -12,10 +12,10 @@ ghost use Rattle.skybridge.specs.Status.{IsOwn};
 ghost use Rattle.skybridge.specs.Summary.{IsSummary};
 ghost use Rattle.skybridge.specs.Lines.{usage_line, read_fault_line, too_long_line};
 
+use crate::bundle_commands::{Refusal, output_of};
+use crate::generated::{generated_bytes, summary};
 use crate::help::help_text;
-use crate::lines::{bundle_line, load_line};
-use crate::made::{generated_bytes, summary};
-use crate::replay::{Refusal, output_of};
+use crate::refusal_lines::{READ_FAULT_LINE, TOO_LONG_LINE, USAGE_LINE, bundle_line, load_line};
 use crate::words::{BundleCommand, Command, command_of};
 use sb_port::{ReadAll, Sink, Source, read_all, write_all};
 use std::alloc::{AllocError, Global};
@@ -44,12 +44,14 @@ pub enum Status {
 // The most bytes of an input.
 const INPUT_LIMIT: usize = 67_108_864;
 
-// Writes the line of a refusal, as far as the sink takes it.
-fn refuse<K: Sink>(sink: &mut K, line: &str)
+// Writes the line of a refusal, as far as the sink takes it. The status is the refusal's.
+fn refuse<K: Sink>(sink: &mut K, line: &str, status: Status) -> Status
+    ensures same { result ≡ status }
     ensures written { WritesLine (K.held sink.old) (K.held sink.new) (K.faults sink.old) (K.faults sink.new) line.now }
     ensures later { K.faults sink.old ≤ K.faults sink.new }
 {
     let _ = write_all(sink, line.as_bytes());
+    status
 }
 
 // Writes the line of a refusal with this status, if there is memory for the line.
@@ -60,10 +62,7 @@ fn refuse_by<K: Sink>(sink: &mut K, line: Result<String, AllocError>, status: St
     ensures later { K.faults sink.old ≤ K.faults sink.new }
 {
     match line {
-        Ok(text) => {
-            refuse(sink, text.as_str());
-            status
-        }
+        Ok(text) => refuse(sink, text.as_str(), status),
         Err(AllocError) => Status::NoMemory,
     }
 }
@@ -142,14 +141,8 @@ fn run_on_bundle<S: Source, K: Sink>(
 {
     let bytes = match read_all(alloc, source, INPUT_LIMIT) {
         Ok(bytes) => bytes,
-        Err(ReadAll::ReadFault) => {
-            refuse(sink, "read fault\n");
-            return Status::ReadFault;
-        }
-        Err(ReadAll::TooLong) => {
-            refuse(sink, "input too long\n");
-            return Status::TooLong;
-        }
+        Err(ReadAll::ReadFault) => return refuse(sink, READ_FAULT_LINE, Status::ReadFault),
+        Err(ReadAll::TooLong) => return refuse(sink, TOO_LONG_LINE, Status::TooLong),
         Err(ReadAll::Memory) => return Status::NoMemory,
     };
     match output_of(alloc, command, &bytes) {
@@ -236,10 +229,7 @@ pub fn bridge<S: Source, K: Sink>(
         → ¬ Rose (K.faults sink.old) (K.faults sink.new) → (result ≡ Status.Done) ⊎ (result ≡ Status.NoMemory) }
 {
     match command_of(words) {
-        None => {
-            refuse(sink, "usage: skybridge --help\n");
-            Status::BadWords
-        }
+        None => refuse(sink, USAGE_LINE, Status::BadWords),
         Some(Command::OfBundle(command)) => run_on_bundle(alloc, command, source, sink),
         Some(Command::Generate(number)) => write_made(sink, bytes_of(summary(alloc, number))),
         Some(Command::GenerateBundle(number)) => write_made(sink, generated_bytes(alloc, number)),

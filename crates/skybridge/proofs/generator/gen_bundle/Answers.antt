@@ -2,7 +2,7 @@ use Rattle.std.proofs.Common.{◌≡◌, sym, subst}
 use Rattle.sb_bundle.specs.Limits.{IsBundle}
 use Rattle.skybridge.specs.Generator.{state_after, generated}
 use Rattle.skybridge.proofs.Drawn.{drawn_on}
-use Rattle.skybridge.proofs.Generated.{generated_is_bundle}
+use Rattle.skybridge.proofs.GeneratedBundle.{generated_is_bundle}
 use Rattle.skybridge.proofs.generator.gen_bundle.Goals as goal
 
 pub returns-clause-value : goal.returns-clause-value

@@ -1,4 +1,4 @@
-use Rattle.skybridge.proofs.Generated.{generated_is_bundle}
+use Rattle.skybridge.proofs.GeneratedBundle.{generated_is_bundle}
 use Rattle.skybridge.proofs.Loadable.{is_loadable}
 use Rattle.skybridge.proofs.generator.generated_is_loadable.Goals as goal
 

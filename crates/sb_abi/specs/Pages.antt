@@ -1,0 +1,7 @@
+-- How many pages bytes take.
+use Rattle.std.specs.Prelude.{ℕ, ◌+◌, ◌-◌, ◌/◌}
+use Rattle.sb_abi.specs.declared.space.TheConstants.{PAGE_SIZE}
+
+-- the pages that so many bytes take
+abbrev pub page_count : ℕ → ℕ
+page_count bytes = (bytes + (PAGE_SIZE - 1)) / PAGE_SIZE

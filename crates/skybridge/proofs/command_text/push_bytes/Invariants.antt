@@ -1,0 +1,6 @@
+use Rattle.std.proofs.Common.{◌≡◌, ◌++◌, string_bytes, take}
+use Rattle.skybridge.specs.CommandText.{bytes_text}
+use Rattle.skybridge.proofs.command_text.push_bytes.Given as goal
+
+abbrev pub invariant-loop-byte : goal.invariant-loop-byte
+invariant-loop-byte l = string_bytes l.out ≡ string_bytes l.initial.out ++ bytes_text (take l.byte-index l.bytes)

@@ -1,0 +1,39 @@
+//! The lines of the refusals.
+
+ghost use Rattle.std.specs.Prelude.{◌≡◌, IfOk, string_bytes};
+ghost use Rattle.skybridge.specs.Lines.{bundle_line as line_of_bundle, load_line as line_of_load};
+
+use sb_bundle::BundleRefusal;
+use sb_load::LoadRefusal;
+use std::alloc::{AllocError, Global};
+
+/// The line where the words are no command.
+pub const USAGE_LINE: &str = "usage: skybridge --help\n";
+
+/// The line where the source failed.
+pub const READ_FAULT_LINE: &str = "read fault\n";
+
+/// The line where the input is longer than the limit.
+pub const TOO_LONG_LINE: &str = "input too long\n";
+
+/// The line of a bundle's refusal: its name and the offset of the field.
+pub fn bundle_line(alloc: Global, refusal: BundleRefusal) -> Result<String, AllocError>
+    ensures { IfOk result (λ line. string_bytes line ≡ line_of_bundle refusal) }
+{
+    match refusal {
+        BundleRefusal::Short { at } => format!(in alloc; "bundle Short {at}\n"),
+        BundleRefusal::Magic { at } => format!(in alloc; "bundle Magic {at}\n"),
+        BundleRefusal::Version { at } => format!(in alloc; "bundle Version {at}\n"),
+        BundleRefusal::Count { at } => format!(in alloc; "bundle Count {at}\n"),
+        BundleRefusal::Range { at } => format!(in alloc; "bundle Range {at}\n"),
+        BundleRefusal::Trailing { at } => format!(in alloc; "bundle Trailing {at}\n"),
+        BundleRefusal::Memory => Ok(String::new(alloc)),
+    }
+}
+
+/// The line of a loader's refusal.
+pub fn load_line(alloc: Global, refusal: LoadRefusal) -> Result<String, AllocError>
+    ensures { IfOk result (λ line. string_bytes line ≡ line_of_load refusal) }
+{
+    format!(in alloc; "{refusal}\n")
+}
