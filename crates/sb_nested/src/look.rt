@@ -78,13 +78,6 @@ pub fn bytes<P: Phys>(
         return Ok(0);
     }
     let low = byte(phys, eptp, cr3, at, access)?;
-    let high = bytes(
-        phys,
-        eptp,
-        cr3,
-        at.further(1),
-        size - 1,
-        access,
-    )?;
+    let high = bytes(phys, eptp, cr3, at.further(1), size - 1, access)?;
     Ok(u64::from(low) + 256 * high)
 }
