@@ -1,19 +1,17 @@
 -- The bytes of VMFUNC stand in no form.
 use Rattle.std.proofs.Common.{◌≡◌, ℕ, ◌+◌, ◌*◌, ◌/◌, ◌%◌, ◌^◌, Bool, true, false, List, [], ◌∷◌, ◌++◌, length, Option, Some, None, refl, sym, ap, ◌∙◌, arith, subst, inl, inr, length-append, FitsSigned, ℤ, pos}
-use Rattle.std.specs.Prelude.{◌&&◌, ◌==◌, not, if◌then◌else◌}
-use Rattle.std.specs.Int.{w8, w32, w64, cast_unsigned}
+use Rattle.std.specs.Prelude.{◌==◌, not}
+use Rattle.std.specs.Int.{w32, w64, cast_unsigned}
 use Rattle.std.specs.Option.{option_to_list}
 use Rattle.std.proofs.Math.Facts.{sfits_to_z, Fits-of_z}
-use Rattle.std.proofs.lemmas.Bool.{or_from, and_parts, and_left, and_right, not-true, not-false, both_ways, cond_both, cond-true, ne_eqb}
+use Rattle.std.proofs.lemmas.Bool.{and_parts, and_left, not-true, both_ways, cond-true, ne_eqb}
 use Rattle.std.proofs.lemmas.Grind.{flat_map-append}
 use Rattle.sb_insn.specs.declared.insn.Insn.{Insn}
-use Rattle.sb_insn.specs.declared.insn.Imm.{Imm}
 use Rattle.sb_insn.specs.declared.insn.Imm.TheVariants as imm
 use Rattle.sb_insn.specs.declared.opcode_map.Instruction.{Instruction}
-use Rattle.sb_insn.specs.Spelling.{number, disp_bytes, imm_bytes, spelling}
+use Rattle.sb_insn.specs.Spelling.{disp_bytes, imm_bytes, spelling}
 use Rattle.sb_insn.specs.Fields.{has_sib, is_sib_field}
 use Rattle.sb_insn.specs.Grammar.{FitsImm, IsValid}
-use Rattle.sb_insn.specs.Listing.{instruction_of}
 use Rattle.sb_forms.specs.declared.helper.Helper.{Helper}
 use Rattle.sb_forms.specs.declared.slots.Site.{Site}
 use Rattle.sb_forms.specs.declared.answer.Form.{Form}
@@ -22,14 +20,15 @@ use Rattle.sb_forms.specs.Rex.{with_x_b_exchanged}
 use Rattle.sb_forms.specs.Registers.{number_of, first_helper, second_helper}
 use Rattle.sb_forms.specs.Pieces.{first_saved, second_saved, scratch_word, upper_half, save, restore, save_half, load_number, add_number, is_lowered, lowered, raise, constant, low_half, high_half, is_sib_0f, exchanged, address, jump, jump_through}
 use Rattle.sb_forms.specs.Mains.{at_helper, with_displacement, with_helper, with_constant, on_register, behind_main, load_target, load_word}
-use Rattle.sb_forms.specs.Table.{spelled, Replacement, Keep, InPlace, Unmovable, moved, is_vmfunc, is_modrm, begins_with_01_d4, begins_at_modrm, completes_pattern, nop, add_from_rm, has_memory, is_call, is_jump, jump_form, wide_constant_form, address_and_constant_form, address_form, constant_form, form_by, slot_form, slot_form_of, is_exchangeable, held_form, replacement, bytes_of, site_of, form_of}
+use Rattle.sb_forms.specs.Table.{spelled, Replacement, InPlace, moved, is_vmfunc, is_modrm, begins_with_01_d4, begins_at_modrm, nop, add_from_rm, has_memory, jump_form, wide_constant_form, address_and_constant_form, address_form, constant_form, is_exchangeable, replacement, bytes_of, site_of, form_of}
 use Rattle.sb_forms.specs.Answers.{IsSite, IsSmall, IsCleanForm}
-use Rattle.sb_forms.proofs.Held.{not_held, byte_holds}
+use Rattle.sb_forms.proofs.Held.{not_held}
+use Rattle.sb_forms.proofs.ByTable.{IsHeld, TableCases, by_table}
 use Rattle.sb_forms.proofs.Operands.{no_sib_0f, no_memory}
 use Rattle.sb_forms.proofs.Quiet.{last_one, IsQuiet, AreQuiet, MayFollow, skip, in_place_clean, slot_clean}
 use Rattle.sb_forms.proofs.Fronts.{valid_rex, valid_op, exchanged_rex, front_holds, front_quiet}
 use Rattle.sb_forms.proofs.QuietPieces.{save_first, save_second, save_word, save_low, save_high, restore_first, restore_second, jump_through_word, constant_quiet, address_quiet, jump_quiet}
-use Rattle.sb_forms.proofs.QuietMains.{any_start, nothing_holds, on_memory_quiet, on_register_holds, behind_quiet, with_helper_quiet, load_target_quiet, load_word_quiet, displaced_quiet}
+use Rattle.sb_forms.proofs.QuietMains.{any_start, on_memory_quiet, on_register_holds, behind_quiet, with_helper_quiet, load_target_quiet, load_word_quiet, displaced_quiet}
 
 -- ---- lists of quiet instructions
 
@@ -214,62 +213,10 @@ constant_good instruction insn site value place fits lowers small =
 
 -- ---- which form applies
 
--- a valid instruction that is not VMFUNC, and holds the pattern
-pub record IsHeld (insn : Insn) : Type 0 where
-  pub valid : IsValid insn
-  pub other : is_vmfunc insn.op ≡ false
-  pub held : holds_pattern (spelling insn) ≡ true
-
 -- an immediate without a memory operand holds it
 imm_lowered : (insn : Insn) (value : ℤ) → IsHeld insn → insn.imm ≡ imm.I32 value → has_memory insn.modrm ≡ false → is_lowered value ≡ true
 imm_lowered insn value held is alone =
     sym (ap (λ i. holds_pattern (imm_bytes i)) is) ∙ sym (imm_holds insn held.valid held.other alone) ∙ held.held
-
-by_good : (instruction : Instruction) (insn : Insn) (site : Site) (immediate : Imm) → IsHeld insn → IsSite site → insn.imm ≡ immediate → FitsImm immediate → IsGood insn (form_by instruction insn site immediate)
-by_good instruction insn site (imm.I64 value) held place is fits = wide_good instruction insn site value place fits
-by_good instruction insn site (imm.I32 value) held place is fits =
-    cond_both
-    (has_memory insn.modrm)
-    (if holds_pattern (number w32 value) then address_and_constant_form instruction insn site value else address_form instruction insn site)
-    (constant_form instruction insn site value)
-    (λ form. IsGood insn form)
-    (λ memory.
-    cond_both
-    (holds_pattern (number w32 value))
-    (address_and_constant_form instruction insn site value)
-    (address_form instruction insn site)
-    (λ form. IsGood insn form)
-    (λ _. address_and_constant_good instruction insn site value held.valid place fits)
-    (λ none. address_good instruction insn site held.valid held.other place (ap (λ i. holds_pattern (imm_bytes i)) is ∙ none)))
-    (λ alone. constant_good instruction insn site value place fits (imm_lowered insn value held is alone))
-by_good instruction insn site imm.None held place is fits =
-    address_good instruction insn site held.valid held.other place (ap (λ i. holds_pattern (imm_bytes i)) is ∙ nothing_holds)
-by_good instruction insn site (imm.I8 value) held place is fits =
-    address_good instruction insn site held.valid held.other place (ap (λ i. holds_pattern (imm_bytes i)) is ∙ byte_holds (cast_unsigned w8 value % 256))
-
-slot_good : (instruction : Instruction) (insn : Insn) (site : Site) → IsHeld insn → IsSite site → IsGood insn (slot_form instruction insn site)
-unfolding slot_form
-slot_good instruction insn site held place =
-    let behind = form_by instruction insn site insn.imm in
-    let through = jump_form instruction insn site in
-    cond_both
-    (has_memory insn.modrm && is_call instruction.mnemonic)
-    Unmovable
-    (if has_memory insn.modrm && is_jump instruction.mnemonic then through else behind)
-    (λ form. IsGood insn form)
-    (λ _ small. tt)
-    (λ _.
-    cond_both
-    (has_memory insn.modrm && is_jump instruction.mnemonic)
-    through
-    behind
-    (λ form. IsGood insn form)
-    (λ _. jump_good instruction insn site held.valid place)
-    (λ _. by_good instruction insn site insn.imm held place refl held.valid.imm_fits))
-
-slot_of_good : (instruction : Option Instruction) (insn : Insn) (site : Site) → IsHeld insn → IsSite site → IsGood insn (slot_form_of instruction insn site)
-slot_of_good None insn site held place small = tt
-slot_of_good (Some instruction) insn site held place small = slot_good instruction insn site held place small
 
 displaced_good : (insn : Insn) (site : Site) → IsHeld insn → IsSite site → begins_at_modrm insn ≡ true → IsGood insn (moved site [] (with_displacement insn) [])
 displaced_good insn site held place e small =
@@ -283,53 +230,25 @@ exchanged_good insn held e small =
     let parts = and_parts (is_sib_0f insn.sib) (not (holds_pattern (spelling (exchanged insn)))) e in
     in_place_clean (exchanged insn ∷ []) (exchanged_quiet insn held.valid held.other parts.0 (not-true (holds_pattern (spelling (exchanged insn))) parts.1), tt)
 
-held_good : (insn : Insn) (site : Site) → IsHeld insn → IsSite site → IsGood insn (held_form insn site)
-unfolding held_form
-held_good insn site held place =
-    let displaced = moved site [] (with_displacement insn) [] in
-    let behind = slot_form_of (instruction_of insn) insn site in
-    cond_both
-    (is_exchangeable insn)
-    (InPlace (exchanged insn ∷ []))
-    (if begins_at_modrm insn then displaced else behind)
-    (λ form. IsGood insn form)
-    (λ e. exchanged_good insn held e)
-    (λ _.
-    cond_both
-    (begins_at_modrm insn)
-    displaced
-    behind
-    (λ form. IsGood insn form)
-    (λ e. displaced_good insn site held place e)
-    (λ _. slot_of_good (instruction_of insn) insn site held place))
+good_cases : (insn : Insn) (site : Site) → IsSite site → TableCases (IsGood insn) insn site
+good_cases insn site place = record {
+  vmfunc = λ _ small. in_place_clean (nop ∷ nop ∷ nop ∷ []) nops_quiet;
+  completes = λ _ small. in_place_clean (add_from_rm ∷ []) add_quiet;
+  keep = λ none small. not_held (spelling insn) none;
+  exchange = λ held e. exchanged_good insn held e;
+  displace = λ held e. displaced_good insn site held place e;
+  unmovable = λ small. tt;
+  through = λ instruction known memory jumps. jump_good instruction insn site known.held.valid place;
+  wide = λ instruction value known is. wide_good instruction insn site value place (subst (λ i. FitsImm i) is known.held.valid.imm_fits);
+  both = λ instruction value known is memory.
+      address_and_constant_good instruction insn site value known.held.valid place (subst (λ i. FitsImm i) is known.held.valid.imm_fits);
+  alone = λ instruction value known is alone.
+      constant_good instruction insn site value place (subst (λ i. FitsImm i) is known.held.valid.imm_fits) (imm_lowered insn value known.held is alone);
+  memory = λ instruction known none. address_good instruction insn site known.held.valid known.held.other place none;
+}
 
 replacement_good : (insn : Insn) (site : Site) (after_0f : Bool) → IsValid insn → IsSite site → IsGood insn (replacement insn site after_0f)
-unfolding replacement
-replacement_good insn site after_0f valid place =
-    let held = held_form insn site in
-    let kept = if not (holds_pattern (spelling insn)) then Keep else held in
-    let added = if completes_pattern insn after_0f then InPlace (add_from_rm ∷ []) else kept in
-    cond_both
-    (is_vmfunc insn.op)
-    (InPlace (nop ∷ nop ∷ nop ∷ []))
-    added
-    (λ form. IsGood insn form)
-    (λ _ small. in_place_clean (nop ∷ nop ∷ nop ∷ []) nops_quiet)
-    (λ other.
-    cond_both
-    (completes_pattern insn after_0f)
-    (InPlace (add_from_rm ∷ []))
-    kept
-    (λ form. IsGood insn form)
-    (λ _ small. in_place_clean (add_from_rm ∷ []) add_quiet)
-    (λ _.
-    cond_both
-    (not (holds_pattern (spelling insn)))
-    Keep
-    held
-    (λ form. IsGood insn form)
-    (λ none small. not_held (spelling insn) (not-true (holds_pattern (spelling insn)) none))
-    (λ some. held_good insn site (record { valid = valid; other = other; held = not-false (holds_pattern (spelling insn)) some }) place)))
+replacement_good insn site after_0f valid place = by_table (IsGood insn) insn site after_0f valid (good_cases insn site place)
 
 -- what stands in place of an instruction
 pub form_clean : (insn : Insn) (at slot : ℕ) (after_0f : Bool) (form : Form) → IsValid insn → IsSite (site_of insn at slot) → form ≡ form_of insn at slot after_0f → IsSmall form → IsCleanForm insn form

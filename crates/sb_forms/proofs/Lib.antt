@@ -8,6 +8,7 @@ pub mod Quiet
 pub mod Fronts
 pub mod QuietPieces
 pub mod QuietMains
+pub mod ByTable
 pub mod CleanForms
 pub mod Room
 pub mod Where

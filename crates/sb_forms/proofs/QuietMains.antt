@@ -17,6 +17,7 @@ use Rattle.sb_insn.specs.Spelling.{number, imm_bytes, front_bytes, spelling}
 use Rattle.sb_insn.specs.Fields.{reg_field, rm_field}
 use Rattle.sb_forms.specs.declared.helper.Helper.{Helper}
 use Rattle.sb_forms.specs.declared.helper.Helper.TheVariants.{Rcx, Rdx, Rbx, Rsi, Rdi}
+use Rattle.sb_scan.proofs.Held.{nothing_holds}
 use Rattle.sb_forms.specs.Holding.{begins_with, holds_pattern}
 use Rattle.sb_forms.specs.Rex.{rex_r, rex_b, with_r_b}
 use Rattle.sb_forms.specs.Registers.{number_of, modrm_of, opcode_of}
@@ -44,10 +45,6 @@ modrm_quiet : (lock : Bool) (rex : Option ℕ) (op : Op) (modrm : ℕ) (rest : L
     → IsQuiet (front_bytes lock rex op ++ modrm ∷ rest)
 modrm_quiet lock rex op modrm rest range known other last none =
     front_quiet lock rex op (modrm ∷ rest) range known (any_start op (modrm ∷ rest) (not_d4 modrm rest last)) (skip modrm rest other ∙ none)
-
-pub nothing_holds : holds_pattern [] ≡ false
-unfolding holds_pattern
-nothing_holds = refl
 
 zero_holds : holds_pattern (0 ∷ []) ≡ false
 unfolding holds_pattern

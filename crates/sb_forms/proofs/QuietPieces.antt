@@ -1,9 +1,8 @@
 -- The instructions around a main one are quiet.
 use Rattle.std.proofs.Common.{◌≡◌, ℕ, suc, ◌+◌, ◌-◌, ◌*◌, ◌/◌, ◌%◌, ◌≤◌, ◌<◌, true, false, List, [], ◌∷◌, ◌++◌, Option, Some, None, refl, sym, ap, ◌∙◌, arith, subst, ⊎_elim, FitsSigned, ℤ, pos, negsuc, ◌-ℤ◌, ltb}
-use Rattle.std.specs.Prelude.{◌&&◌, ◌==◌}
 use Rattle.std.specs.Int.{w8, w32, cast_unsigned}
 use Rattle.std.specs.Option.{option_to_list}
-use Rattle.std.proofs.lemmas.Bool.{or_from, and_right, cond_both, cond-false, cases_eq, eqb-false, le-ltb, false_from_ne_true, false≢true}
+use Rattle.std.proofs.lemmas.Bool.{cond_both, cond-false, cases_eq, eqb-false, le-ltb, false_from_ne_true, false≢true}
 use Rattle.sb_insn.specs.declared.insn.Insn.{Insn}
 use Rattle.sb_insn.specs.declared.insn.Op.TheVariants.{One}
 use Rattle.sb_insn.specs.declared.insn.Disp.{Disp}
@@ -13,7 +12,7 @@ use Rattle.sb_insn.specs.Fields.{mod_field, rm_field, is_sib_field, modrm_disp, 
 use Rattle.sb_insn.specs.Grammar.{FitsDisp, IsValid}
 use Rattle.sb_forms.specs.declared.helper.Helper.{Helper}
 use Rattle.sb_forms.specs.declared.helper.Helper.TheVariants.{Rcx, Rdx, Rbx, Rsi, Rdi}
-use Rattle.sb_scan.proofs.Held.{byte_holds}
+use Rattle.sb_scan.proofs.Held.{nothing_holds, byte_holds}
 use Rattle.sb_forms.specs.Holding.{holds_pattern}
 use Rattle.sb_forms.specs.Rex.{rex_x, rex_b}
 use Rattle.sb_forms.specs.Registers.{number_of, byte_of, modrm_of}
@@ -146,10 +145,6 @@ disp_holds : (displacement : Disp) → holds_pattern (disp_bytes displacement) �
 disp_holds disp.None e = e
 disp_holds (disp.D8 value) e = e
 disp_holds (disp.D32 value) e = e
-
-nothing_holds : holds_pattern [] ≡ false
-unfolding holds_pattern
-nothing_holds = refl
 
 sib_holds : (sib : Option ℕ) (rest : List ℕ) → is_sib_0f sib ≡ false → holds_pattern rest ≡ false → holds_pattern (option_to_list sib ++ rest) ≡ false
 sib_holds None rest other e = e

@@ -1,10 +1,8 @@
 -- How many bytes stand in place of an instruction, and that a jump has room in one that is moved.
-use Rattle.std.proofs.Common.{◌≡◌, ℕ, zero, suc, ◌+◌, ◌≤◌, ◌<◌, Bool, true, false, List, [], ◌∷◌, ◌++◌, length, get_or, Option, Some, None, refl, sym, ap, ◌∙◌, arith, subst, ⊎_elim, length-append}
-use Rattle.std.specs.Prelude.{◌&&◌, not, if◌then◌else◌}
-use Rattle.std.specs.Int.{w32}
+use Rattle.std.proofs.Common.{◌≡◌, ℕ, zero, suc, ◌+◌, ◌≤◌, Bool, true, false, List, [], ◌++◌, length, get_or, Option, Some, None, refl, sym, ap, ◌∙◌, arith, subst, ⊎_elim, length-append}
+use Rattle.std.specs.Prelude.{◌&&◌, not}
 use Rattle.std.specs.Option.{option_to_list}
-use Rattle.std.proofs.lemmas.Bool.{and_parts, cases_lt, cond_both, not-false, eqb-true}
-use Rattle.std.proofs.lemmas.List.{get_or_past}
+use Rattle.std.proofs.lemmas.Bool.{and_parts, cases_lt, eqb-true}
 use Rattle.sb_insn.specs.declared.insn.Insn.{Insn}
 use Rattle.sb_insn.specs.declared.insn.Op.{Op}
 use Rattle.sb_insn.specs.declared.insn.Op.TheVariants.{One, Two, Endbr, Vmfunc}
@@ -13,24 +11,22 @@ use Rattle.sb_insn.specs.declared.insn.Imm.TheVariants as imm
 use Rattle.sb_insn.specs.declared.insn.Disp.{Disp}
 use Rattle.sb_insn.specs.declared.insn.Disp.TheVariants as disp
 use Rattle.sb_insn.specs.OpcodeMap.{one_byte, cell_of}
-use Rattle.sb_insn.specs.Spelling.{number, lock_bytes, op_bytes, disp_bytes, imm_bytes, spelling}
+use Rattle.sb_insn.specs.Spelling.{lock_bytes, op_bytes, disp_bytes, imm_bytes, spelling}
 use Rattle.sb_insn.specs.Fields.{is_none, is_modrm_field, is_sib_field, has_sib, modrm_disp, permits, disp_kind_of, kind_of_disp, rule_of, imm_kind_of, kind_of_imm}
 use Rattle.sb_insn.specs.Grammar.{IsValid}
-use Rattle.sb_insn.specs.declared.opcode_map.Instruction.{Instruction}
-use Rattle.sb_insn.specs.Listing.{instruction_of}
 use Rattle.sb_scan.specs.Pattern.{HasPatternAt}
 use Rattle.sb_forms.specs.declared.slots.Site.{Site}
 use Rattle.sb_forms.specs.declared.answer.Form.{Form}
 use Rattle.sb_forms.specs.Holding.{holds_pattern}
 use Rattle.sb_forms.specs.Pieces.{is_sib_0f, exchanged}
-use Rattle.sb_forms.specs.Mains.{with_displacement}
-use Rattle.sb_forms.specs.Table.{Replacement, Keep, InPlace, Unmovable, moved, is_vmfunc, is_one_byte, is_modrm, is_add_esp_edx, begins_at_modrm, completes_pattern, nop, add_from_rm, has_memory, is_call, is_jump, jump_form, wide_constant_form, address_and_constant_form, address_form, constant_form, form_by, slot_form, slot_form_of, is_exchangeable, held_form, replacement, bytes_of, site_of, form_of}
+use Rattle.sb_forms.specs.Table.{Replacement, is_vmfunc, is_one_byte, is_modrm, is_add_esp_edx, jump_form, wide_constant_form, address_and_constant_form, address_form, constant_form, replacement, bytes_of, site_of, form_of}
 use Rattle.sb_forms.specs.Answers.{IsSmall, HasRoom}
 use Rattle.sb_scan.proofs.Places.{read_within}
 use Rattle.sb_forms.proofs.Held.{holds_at}
 use Rattle.sb_forms.proofs.Lengths.{spelling_length, exchanged_length}
 use Rattle.sb_forms.proofs.Operands.{bare_0f, modrm_is}
-use Rattle.sb_forms.proofs.CleanForms.{IsHeld, behind_opcode, behind_holds}
+use Rattle.sb_forms.proofs.CleanForms.{behind_opcode, behind_holds}
+use Rattle.sb_forms.proofs.ByTable.{IsHeld, TableCases, by_table}
 
 -- ---- an instruction that holds the pattern has five bytes
 
@@ -160,96 +156,26 @@ add_2 insn valid e =
 abbrev IsRoomy : Insn → Replacement → Type 0
 IsRoomy insn form = IsSmall (bytes_of form) → HasRoom insn (bytes_of form)
 
-by_roomy : (instruction : Instruction) (insn : Insn) (site : Site) (immediate : Imm) → 5 ≤ length (spelling insn) → IsRoomy insn (form_by instruction insn site immediate)
-unfolding wide_constant_form address_and_constant_form address_form constant_form
-by_roomy instruction insn site (imm.I64 value) long = λ small. (long, small)
-by_roomy instruction insn site (imm.I32 value) long =
-    cond_both
-    (has_memory insn.modrm)
-    (if holds_pattern (number w32 value) then address_and_constant_form instruction insn site value else address_form instruction insn site)
-    (constant_form instruction insn site value)
-    (λ form. IsRoomy insn form)
-    (λ _.
-    cond_both
-    (holds_pattern (number w32 value))
-    (address_and_constant_form instruction insn site value)
-    (address_form instruction insn site)
-    (λ form. IsRoomy insn form)
-    (λ _ small. (long, small))
-    (λ _ small. (long, small)))
-    (λ _ small. (long, small))
-by_roomy instruction insn site _ long = λ small. (long, small)
-
-slot_roomy : (instruction : Option Instruction) (insn : Insn) (site : Site) → 5 ≤ length (spelling insn) → IsRoomy insn (slot_form_of instruction insn site)
-unfolding slot_form jump_form
-slot_roomy None insn site long = λ small. tt
-slot_roomy (Some instruction) insn site long =
-    let behind = form_by instruction insn site insn.imm in
-    let through = jump_form instruction insn site in
-    cond_both
-    (has_memory insn.modrm && is_call instruction.mnemonic)
-    Unmovable
-    (if has_memory insn.modrm && is_jump instruction.mnemonic then through else behind)
-    (λ form. IsRoomy insn form)
-    (λ _ small. tt)
-    (λ _.
-    cond_both
-    (has_memory insn.modrm && is_jump instruction.mnemonic)
-    through
-    behind
-    (λ form. IsRoomy insn form)
-    (λ _ small. (long, small))
-    (λ _. by_roomy instruction insn site insn.imm long))
-
-held_roomy : (insn : Insn) (site : Site) → IsHeld insn → IsRoomy insn (held_form insn site)
-unfolding held_form
-held_roomy insn site held =
-    let displaced = moved site [] (with_displacement insn) [] in
-    let behind = slot_form_of (instruction_of insn) insn site in
-    cond_both
-    (is_exchangeable insn)
-    (InPlace (exchanged insn ∷ []))
-    (if begins_at_modrm insn then displaced else behind)
-    (λ form. IsRoomy insn form)
-    (λ e small.
-    let one = length-append (spelling (exchanged insn)) [] in
-    omega (arith, one, exchanged_length insn (and_parts (is_sib_0f insn.sib) (not (holds_pattern (spelling (exchanged insn)))) e).0))
-    (λ _.
-    cond_both
-    (begins_at_modrm insn)
-    displaced
-    behind
-    (λ form. IsRoomy insn form)
-    (λ _ small. (held_5 insn held, small))
-    (λ _. slot_roomy (instruction_of insn) insn site (held_5 insn held)))
+roomy_cases : (insn : Insn) (site : Site) → IsValid insn → TableCases (IsRoomy insn) insn site
+unfolding jump_form wide_constant_form address_and_constant_form address_form constant_form
+roomy_cases insn site valid = record {
+  vmfunc = λ is small. sym (vmfunc_3 insn valid is);
+  completes = λ is small. sym (add_2 insn valid is);
+  keep = λ none small. tt;
+  exchange = λ held e small.
+      let one = length-append (spelling (exchanged insn)) [] in
+      omega (arith, one, exchanged_length insn (and_parts (is_sib_0f insn.sib) (not (holds_pattern (spelling (exchanged insn)))) e).0);
+  displace = λ held e small. (held_5 insn held, small);
+  unmovable = λ small. tt;
+  through = λ instruction known memory jumps small. (held_5 insn known.held, small);
+  wide = λ instruction value known is small. (held_5 insn known.held, small);
+  both = λ instruction value known is memory small. (held_5 insn known.held, small);
+  alone = λ instruction value known is alone small. (held_5 insn known.held, small);
+  memory = λ instruction known none small. (held_5 insn known.held, small);
+}
 
 replacement_roomy : (insn : Insn) (site : Site) (after_0f : Bool) → IsValid insn → IsRoomy insn (replacement insn site after_0f)
-unfolding replacement
-replacement_roomy insn site after_0f valid =
-    let held = held_form insn site in
-    let kept = if not (holds_pattern (spelling insn)) then Keep else held in
-    let added = if completes_pattern insn after_0f then InPlace (add_from_rm ∷ []) else kept in
-    cond_both
-    (is_vmfunc insn.op)
-    (InPlace (nop ∷ nop ∷ nop ∷ []))
-    added
-    (λ form. IsRoomy insn form)
-    (λ is small. sym (vmfunc_3 insn valid is))
-    (λ other.
-    cond_both
-    (completes_pattern insn after_0f)
-    (InPlace (add_from_rm ∷ []))
-    kept
-    (λ form. IsRoomy insn form)
-    (λ is small. sym (add_2 insn valid (and_parts (is_add_esp_edx insn) after_0f is).0))
-    (λ _.
-    cond_both
-    (not (holds_pattern (spelling insn)))
-    Keep
-    held
-    (λ form. IsRoomy insn form)
-    (λ none small. tt)
-    (λ some. held_roomy insn site (record { valid = valid; other = other; held = not-false (holds_pattern (spelling insn)) some }))))
+replacement_roomy insn site after_0f valid = by_table (IsRoomy insn) insn site after_0f valid (roomy_cases insn site valid)
 
 -- what stands in place of an instruction
 pub form_roomy : (insn : Insn) (at slot : ℕ) (after_0f : Bool) (form : Form) → IsValid insn → form ≡ form_of insn at slot after_0f → IsSmall form → HasRoom insn form

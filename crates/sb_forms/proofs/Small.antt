@@ -1,8 +1,7 @@
 -- Every form is small, over the definitions alone.
-use Rattle.std.proofs.Common.{◌≡◌, ℕ, ◌+◌, ◌%◌, ◌≤◌, Bool, true, false, List, [], ◌∷◌, ◌++◌, length, Option, Some, None, refl, sym, ap, ◌∙◌, arith, length-append, ℤ, pos}
-use Rattle.std.specs.Prelude.{◌&&◌, not, if◌then◌else◌}
-use Rattle.std.specs.Int.{w8, w32, cast_unsigned}
-use Rattle.std.proofs.lemmas.Bool.{cond_both, not-false, both_ways, true_from_ne_false}
+use Rattle.std.proofs.Common.{◌≡◌, ℕ, ◌+◌, ◌%◌, ◌≤◌, Bool, true, false, List, [], ◌∷◌, ◌++◌, length, Some, refl, sym, ap, ◌∙◌, arith, length-append, ℤ, pos}
+use Rattle.std.specs.Int.{w8, cast_unsigned}
+use Rattle.std.proofs.lemmas.Bool.{cond_both, both_ways, true_from_ne_false}
 use Rattle.std.proofs.lemmas.Grind.{flat_map-append}
 use Rattle.sb_insn.specs.declared.insn.Insn.{Insn}
 use Rattle.sb_insn.specs.declared.insn.Disp.{Disp}
@@ -13,23 +12,23 @@ use Rattle.sb_insn.specs.declared.opcode_map.Mnemonic.{Mnemonic}
 use Rattle.sb_insn.specs.declared.opcode_map.Mnemonic.TheVariants as mnemonic
 use Rattle.sb_insn.specs.declared.opcode_map.OperandForm.{OperandForm}
 use Rattle.sb_insn.specs.declared.opcode_map.Instruction.{Instruction}
-use Rattle.sb_insn.specs.Spelling.{number, disp_bytes, imm_bytes, spelling}
+use Rattle.sb_insn.specs.Spelling.{disp_bytes, imm_bytes, spelling}
 use Rattle.sb_insn.specs.Listing.{instruction_of}
 use Rattle.sb_insn.specs.Grammar.{IsValid}
 use Rattle.sb_forms.specs.declared.helper.Helper.{Helper}
 use Rattle.sb_forms.specs.declared.slots.Site.{Site}
 use Rattle.sb_forms.specs.Holding.{holds_pattern}
 use Rattle.sb_forms.specs.Registers.{first_helper, second_helper}
-use Rattle.sb_forms.specs.Pieces.{first_saved, second_saved, scratch_word, upper_half, save, restore, save_half, load_number, add_number, is_lowered, lowered, lacking, raise, constant, low_half, high_half, without_sib_0f, is_from_next, exchanged, load_address, address_from, address_at, address_by, address, jump, jump_through}
+use Rattle.sb_forms.specs.Pieces.{first_saved, second_saved, scratch_word, upper_half, save, restore, save_half, load_number, add_number, is_lowered, lowered, lacking, raise, constant, low_half, high_half, without_sib_0f, is_from_next, load_address, address_from, address_at, address_by, address, jump, jump_through}
 use Rattle.sb_forms.specs.Registers.{modrm_of}
 use Rattle.sb_forms.specs.Mains.{at_helper, with_displacement, with_helper, with_constant, on_register, behind_main, move_product, load_target, load_word}
-use Rattle.sb_forms.specs.Table.{spelled, Keep, InPlace, Unmovable, moved, bytes_of, has_memory, is_call, is_jump, is_vmfunc, completes_pattern, begins_at_modrm, is_exchangeable, nop, add_from_rm, form_by, slot_form, slot_form_of, held_form, replacement, site_of, form_of, jump_form, wide_constant_form, address_and_constant_form, address_form, constant_form}
+use Rattle.sb_forms.specs.Table.{spelled, moved, bytes_of, has_memory, begins_at_modrm, site_of, form_of, jump_form, wide_constant_form, address_and_constant_form, address_form, constant_form}
 use Rattle.sb_forms.specs.Answers.{IsSmall}
 use Rattle.sb_insn.proofs.Longest.{one_field}
 use Rattle.sb_forms.proofs.Lengths.{spelling_length, with_helper_9, constant_main_8, alone_5, displaced_9}
-use Rattle.sb_scan.proofs.Held.{byte_holds}
-use Rattle.sb_forms.proofs.CleanForms.{IsHeld, imm_holds}
-use Rattle.sb_forms.proofs.QuietMains.{nothing_holds}
+use Rattle.sb_scan.proofs.Held.{nothing_holds, byte_holds}
+use Rattle.sb_forms.proofs.CleanForms.{imm_holds}
+use Rattle.sb_forms.proofs.ByTable.{IsHeld, TableCases, by_table}
 use Rattle.sb_forms.proofs.Maps.{short_5, imul_unlocked}
 use Rattle.sb_forms.proofs.Lengths.{product_3}
 
@@ -220,17 +219,6 @@ wide_small instruction insn site value =
 
 -- ---- every replacement
 
-by_small : (instruction : Instruction) (insn : Insn) (site : Site) (immediate : Imm) → IsValid insn → instruction_of insn ≡ Some instruction → (not_i32 immediate ≡ true → has_memory insn.modrm ≡ true)
-    → IsSmall (bytes_of (form_by instruction insn site immediate))
-by_small instruction insn site (imm.I64 value) valid is memory = wide_small instruction insn site value
-by_small instruction insn site (imm.I32 value) valid is memory =
-    cond_both (has_memory insn.modrm) (if holds_pattern (number w32 value) then address_and_constant_form instruction insn site value else address_form instruction insn site) (constant_form instruction insn site value) (λ form. IsSmall (bytes_of form))
-    (λ stands. cond_both (holds_pattern (number w32 value)) (address_and_constant_form instruction insn site value) (address_form instruction insn site) (λ form. IsSmall (bytes_of form))
-    (λ _. both_small instruction insn site value valid is) (λ _. address_small instruction insn site valid stands))
-    (λ _. constant_small instruction insn site value)
-by_small instruction insn site imm.None valid is memory = address_small instruction insn site valid (memory refl)
-by_small instruction insn site (imm.I8 value) valid is memory = address_small instruction insn site valid (memory refl)
-
 -- one that holds the pattern has a memory operand, or an immediate of four bytes at least
 pub held_memory : (insn : Insn) → IsHeld insn → not_i32 insn.imm ≡ true → has_memory insn.modrm ≡ true
 held_memory insn held none =
@@ -243,41 +231,32 @@ held_memory insn held none =
     short_holds (imm.I32 value) e = absurd cc
     short_holds (imm.I64 value) e = absurd cc
 
-of_small : (found : Option Instruction) (insn : Insn) (site : Site) → instruction_of insn ≡ found → IsHeld insn → IsSmall (bytes_of (slot_form_of found insn site))
-unfolding slot_form
-of_small None insn site is held = tt
-of_small (Some instruction) insn site is held =
-    let behind = form_by instruction insn site insn.imm in
-    let through = jump_form instruction insn site in
-    cond_both (has_memory insn.modrm && is_call instruction.mnemonic) Unmovable (if has_memory insn.modrm && is_jump instruction.mnemonic then through else behind) (λ form. IsSmall (bytes_of form))
-    (λ _. tt)
-    (λ _. cond_both (has_memory insn.modrm && is_jump instruction.mnemonic) through behind (λ form. IsSmall (bytes_of form))
-    (λ _. jump_small instruction insn site) (λ _. by_small instruction insn site insn.imm held.valid is (held_memory insn held)))
-
 pub displaced_small : (insn : Insn) (site : Site) → IsValid insn → begins_at_modrm insn ≡ true → IsSmall (bytes_of (moved site [] (with_displacement insn) []))
 displaced_small insn site valid e = let nine = displaced_9 insn valid e in moved_small site [] (with_displacement insn) [] (omega arith) nine (omega arith) (omega (arith, nine))
 
-held_small : (insn : Insn) (site : Site) → IsHeld insn → IsSmall (bytes_of (held_form insn site))
-unfolding held_form
-held_small insn site held =
-    let displaced = moved site [] (with_displacement insn) [] in
-    let behind = slot_form_of (instruction_of insn) insn site in
-    cond_both (is_exchangeable insn) (InPlace (exchanged insn ∷ [])) (if begins_at_modrm insn then displaced else behind) (λ form. IsSmall (bytes_of form))
-    (λ _. tt)
-    (λ _. cond_both (begins_at_modrm insn) displaced behind (λ form. IsSmall (bytes_of form)) (λ e. displaced_small insn site held.valid e) (λ _. of_small (instruction_of insn) insn site refl held))
+-- one whose immediate does not hold the pattern has a memory operand
+quiet_memory : (insn : Insn) → IsHeld insn → holds_pattern (imm_bytes insn.imm) ≡ false → has_memory insn.modrm ≡ true
+quiet_memory insn held none =
+    true_from_ne_false (has_memory insn.modrm) (λ alone.
+    both_ways (holds_pattern (imm_bytes insn.imm)) none (sym (imm_holds insn held.valid held.other alone) ∙ held.held))
+
+small_cases : (insn : Insn) (site : Site) → IsValid insn → TableCases (λ form. IsSmall (bytes_of form)) insn site
+small_cases insn site valid = record {
+  vmfunc = λ _. tt;
+  completes = λ _. tt;
+  keep = λ _. tt;
+  exchange = λ held e. tt;
+  displace = λ held e. displaced_small insn site valid e;
+  unmovable = tt;
+  through = λ instruction known memory jumps. jump_small instruction insn site;
+  wide = λ instruction value known is. wide_small instruction insn site value;
+  both = λ instruction value known is memory. both_small instruction insn site value valid known.listed;
+  alone = λ instruction value known is alone. constant_small instruction insn site value;
+  memory = λ instruction known none. address_small instruction insn site valid (quiet_memory insn known.held none);
+}
 
 -- each form of a valid instruction has a slot of 74 bytes at most
 pub forms_small : (insn : Insn) (at slot : ℕ) (after_0f : Bool) → IsValid insn → IsSmall (form_of insn at slot after_0f)
-unfolding form_of replacement
+unfolding form_of
 forms_small insn at slot after_0f valid =
-    let site = site_of insn at slot in
-    let held = held_form insn site in
-    let kept = if not (holds_pattern (spelling insn)) then Keep else held in
-    let added = if completes_pattern insn after_0f then InPlace (add_from_rm ∷ []) else kept in
-    cond_both (is_vmfunc insn.op) (InPlace (nop ∷ nop ∷ nop ∷ [])) added (λ form. IsSmall (bytes_of form))
-    (λ _. tt)
-    (λ other. cond_both (completes_pattern insn after_0f) (InPlace (add_from_rm ∷ [])) kept (λ form. IsSmall (bytes_of form))
-    (λ _. tt)
-    (λ _. cond_both (not (holds_pattern (spelling insn))) Keep held (λ form. IsSmall (bytes_of form))
-    (λ _. tt)
-    (λ some. held_small insn site (record { valid = valid; other = other; held = not-false (holds_pattern (spelling insn)) some }))))
+    by_table (λ form. IsSmall (bytes_of form)) insn (site_of insn at slot) after_0f valid (small_cases insn (site_of insn at slot) valid)

@@ -30,12 +30,11 @@ use Rattle.sb_forms.specs.Holding.{holds_pattern}
 use Rattle.sb_forms.specs.Table.{is_vmfunc, has_memory}
 use Rattle.sb_insn.specs.Branch.{imm_value, is_distance, is_relative, is_direct}
 use Rattle.sb_forms.specs.Places.{front, HasForm, IsPermitted, BehindOpcode, AtModrm, IsOrImul, NotInJumps}
-use Rattle.sb_forms.proofs.Held.{before, not_held, none_held, byte_holds}
+use Rattle.sb_forms.proofs.Held.{before, not_held, none_held, nothing_holds, byte_holds}
 use Rattle.sb_forms.proofs.Lowered.{IsInFour, in_four}
 use Rattle.sb_forms.proofs.Maps.{of_operand, narrow, is_narrow, is_bare, one_narrow, two_bare, bare_imm}
 use Rattle.sb_forms.proofs.Operands.{bare_0f}
 use Rattle.sb_forms.proofs.Fronts.{IsRex, IsOpcode, valid_rex, valid_op}
-use Rattle.sb_forms.proofs.QuietMains.{nothing_holds}
 use Rattle.sb_forms.proofs.CleanForms.{behind_opcode, imm_holds}
 
 -- ---- behind the opcode

@@ -1,19 +1,25 @@
 -- What is said of an answer: how many bytes it has, and that the bytes of VMFUNC do not stand in it.
-use Rattle.std.specs.Prelude.{◌≡◌, ℕ, ◌+◌, ◌≤◌, List, ◌++◌, length, replicate}
+use Rattle.std.specs.Prelude.{◌≡◌, ℕ, ◌+◌, ◌*◌, ◌≤◌, List, ◌++◌, length, replicate}
+use Rattle.sb_abi.specs.declared.space.TheConstants.{PAGE_SIZE, TEXT_ADDRESS, AREA_ADDRESS, AREA_PAGES}
 use Rattle.sb_insn.specs.declared.insn.Insn.{Insn}
 use Rattle.sb_insn.specs.Spelling.{spelling}
 use Rattle.sb_scan.specs.Pattern.{HasNoPattern}
+use Rattle.sb_forms.specs.Places.{text_end}
 use Rattle.sb_forms.specs.declared.slots.Site.{Site}
 use Rattle.sb_forms.specs.declared.answer.Form.{Form}
 use Rattle.sb_forms.specs.declared.answer.Form.TheVariants as form
 
 -- ---- lengths
 
+-- the address after the last of the rewrite area
+abbrev pub area_end : ℕ
+area_end = AREA_ADDRESS + AREA_PAGES * PAGE_SIZE
+
 -- a slot in the rewrite area, and a next instruction behind one of a text
 pub record IsSite (site : Site) : Type 0 where
-  pub behind : 0x400000 ≤ site.next
-  pub next : site.next ≤ 0x600010
-  pub slot : site.slot ≤ 0x11000
+  pub behind : TEXT_ADDRESS ≤ site.next
+  pub next : site.next ≤ text_end + 16
+  pub slot : site.slot ≤ area_end
 
 -- a slot of 74 bytes at most
 pub record FitsSlot (pre main post : List ℕ) : Type 0 where

@@ -7,9 +7,13 @@ use Rattle.sb_insn.specs.declared.insn.Op.TheVariants.{One, Two}
 use Rattle.sb_insn.specs.declared.insn.Disp.TheVariants as disp
 use Rattle.sb_insn.specs.declared.insn.Imm.TheVariants as imm
 use Rattle.sb_insn.specs.declared.opcode_map.Mnemonic.{Mnemonic}
-use Rattle.sb_insn.specs.declared.opcode_map.Mnemonic.TheVariants.{Add, Or, And, Sub, Xor, Cmp, Test, Mov, Movzx, Lea, Imul, Not, Neg, Shl, Shr, Sar, Inc, Dec, Push, Pop, Jmp, Jcc, Call, Ret, Xchg, Cmpxchg, Xadd, Bsf, Nop, Endbr64, Syscall, Ud2, Vmfunc}
+use Rattle.sb_insn.specs.declared.opcode_map.Mnemonic.TheVariants.{Add, Or, And, Sub, Xor, Cmp, Test, Mov, Movzx, Lea, Imul}
+use Rattle.sb_insn.specs.declared.opcode_map.Mnemonic.TheVariants.{Not, Neg, Shl, Shr, Sar, Inc, Dec, Push, Pop, Jmp, Jcc}
+use Rattle.sb_insn.specs.declared.opcode_map.Mnemonic.TheVariants.{Call, Ret, Xchg, Cmpxchg, Xadd, Bsf, Nop, Endbr64, Syscall}
+use Rattle.sb_insn.specs.declared.opcode_map.Mnemonic.TheVariants.{Ud2, Vmfunc}
 use Rattle.sb_insn.specs.declared.opcode_map.OperandForm.{OperandForm}
-use Rattle.sb_insn.specs.declared.opcode_map.OperandForm.TheVariants.{RmReg, RegRm, RmImm, AccImm, OpcodeImm, RegRmImm, RmCount, RmCl, Rm, Opcode, Imm, Relative, Nothing}
+use Rattle.sb_insn.specs.declared.opcode_map.OperandForm.TheVariants.{RmReg, RegRm, RmImm, AccImm, OpcodeImm, RegRmImm}
+use Rattle.sb_insn.specs.declared.opcode_map.OperandForm.TheVariants.{RmCount, RmCl, Rm, Opcode, Imm, Relative, Nothing}
 use Rattle.sb_insn.specs.Fields.{reg_field, rm_field}
 use Rattle.sb_forms.specs.declared.helper.Helper.{Helper}
 use Rattle.sb_forms.specs.declared.mains.RmOperand.{RmOperand}

@@ -1,5 +1,8 @@
 -- Where the bytes of VMFUNC can stand in an instruction.
-use Rattle.std.specs.Prelude.{◌≡◌, ℕ, ◌+◌, ◌%◌, ◌^◌, ◌<◌, ◌≤◌, ◌⊎◌, Bool, true, false, IsTrue, Option, Some, None, length, ◌∷◌, List}
+use Rattle.std.specs.Prelude.{◌≡◌, ℕ, ◌+◌, ◌*◌, ◌%◌, ◌^◌, ◌<◌, ◌≤◌, ◌⊎◌, IsTrue, Some}
+use Rattle.std.specs.Prelude.{length, ◌∷◌, List}
+use Rattle.sb_abi.specs.declared.space.TheConstants.{PAGE_SIZE, WINDOW_PAGES, TEXT_ADDRESS}
+use Rattle.sb_abi.specs.declared.trampoline.TheConstants.{TRAMPOLINE_ADDRESS}
 use Rattle.sb_insn.specs.declared.insn.Insn.{Insn}
 use Rattle.sb_insn.specs.declared.insn.Op.TheVariants.{One, Vmfunc}
 use Rattle.sb_insn.specs.Spelling.{front_bytes, imm_bytes, spelling}
@@ -37,11 +40,24 @@ HasForm insn = IsDirect insn → HasNoPattern (spelling insn)
 abbrev pub target : Insn → ℕ → ℕ
 target insn at = (at + length (spelling insn) + distance insn.imm) % 2 ^ 64
 
+-- the address after the last that a text can have
+abbrev pub text_end : ℕ
+text_end = TEXT_ADDRESS + WINDOW_PAGES * PAGE_SIZE
+
+-- an address that a text can have
+abbrev pub IsInText : ℕ → Type 0
+IsInText address = (TEXT_ADDRESS ≤ address) × (address < text_end)
+
+-- an address in the trampoline page
+abbrev pub IsInTrampoline : ℕ → Type 0
+IsInTrampoline address = (TRAMPOLINE_ADDRESS ≤ address) × (address < TRAMPOLINE_ADDRESS + PAGE_SIZE)
+
 -- a text, or the trampoline page
 abbrev pub IsPermitted : ℕ → Type 0
-IsPermitted address = ((0x400000 ≤ address) × (address < 0x600000)) ⊎ ((0x70000000 ≤ address) × (address < 0x70001000))
+IsPermitted address = IsInText address ⊎ IsInTrampoline address
 
 -- A direct jump or call from a text into a text or the trampoline page holds them nowhere.
 abbrev pub NotInJumps : Type 0
 NotInJumps =
-    (insn : Insn) (at : ℕ) → IsValid insn → IsDirect insn → 0x400000 ≤ at → at < 0x600000 → IsPermitted (target insn at) → HasNoPattern (spelling insn)
+    (insn : Insn) (at : ℕ) → IsValid insn → IsDirect insn → TEXT_ADDRESS ≤ at → at < text_end
+    → IsPermitted (target insn at) → HasNoPattern (spelling insn)

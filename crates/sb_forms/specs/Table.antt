@@ -1,5 +1,6 @@
 -- The table of forms: what stands in place of an instruction so that the bytes of VMFUNC stand nowhere (docs/FORMS.md).
-use Rattle.std.specs.Prelude.{ℕ, ◌+◌, Bool, true, false, not, ◌&&◌, ◌==◌, if◌then◌else◌, List, [], ◌∷◌, ◌++◌, length, flat_map, Option, Some, None, ℤ}
+use Rattle.std.specs.Prelude.{ℕ, ◌+◌, Bool, true, false, not, ◌&&◌, ◌==◌, if◌then◌else◌, List, [], ◌∷◌, ◌++◌, length}
+use Rattle.std.specs.Prelude.{flat_map, Option, Some, None, ℤ}
 use Rattle.std.specs.Int.{w32}
 use Rattle.sb_insn.specs.declared.insn.Insn.{Insn}
 use Rattle.sb_insn.specs.declared.insn.Op.{Op}
@@ -17,8 +18,10 @@ use Rattle.sb_forms.specs.declared.answer.Form.{Form}
 use Rattle.sb_forms.specs.declared.answer.Form.TheVariants as form
 use Rattle.sb_forms.specs.Holding.{begins_with, holds_pattern}
 use Rattle.sb_forms.specs.Registers.{first_helper, second_helper}
-use Rattle.sb_forms.specs.Pieces.{opcode_alone, first_saved, second_saved, scratch_word, upper_half, save, restore, save_half, constant, low_half, high_half, is_sib_0f, exchanged, address, jump, jump_through}
-use Rattle.sb_forms.specs.Mains.{at_helper, with_displacement, with_helper, with_constant, on_register, behind_main, load_target, load_word}
+use Rattle.sb_forms.specs.Pieces.{opcode_alone, first_saved, second_saved, scratch_word, upper_half, save, restore, save_half}
+use Rattle.sb_forms.specs.Pieces.{constant, low_half, high_half, is_sib_0f, exchanged, address, jump, jump_through}
+use Rattle.sb_forms.specs.Mains.{at_helper, with_displacement, with_helper, with_constant, on_register, behind_main}
+use Rattle.sb_forms.specs.Mains.{load_target, load_word}
 
 -- ---- instructions in place of one
 

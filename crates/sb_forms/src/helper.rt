@@ -1,7 +1,25 @@
 //! Helper registers: those that a moved instruction does not name, and that its slot saves and restores.
 
 ghost use Rattle.std.specs.Prelude.{◌≡◌, ◌≤◌};
-ghost use Rattle.sb_forms.specs.Registers.{register, modrm_of as modrm_at, opcode_of as opcode_at, reg_number, opcode_number, is_number, rm_number, base_number, index_number, form_number, is_named, number_of, is_taken, is_free, first_free, first_helper as first_at, second_helper as second_at};
+ghost use Rattle.sb_forms.specs.Registers.{
+  register,
+  modrm_of as modrm_at,
+  opcode_of as opcode_at,
+  reg_number,
+  opcode_number,
+  is_number,
+  rm_number,
+  base_number,
+  index_number,
+  form_number,
+  is_named,
+  number_of,
+  is_taken,
+  is_free,
+  first_free,
+  first_helper as first_at,
+  second_helper as second_at,
+};
 
 use sb_insn::{Insn, Op, OperandForm, base, index, reg_field, rex_b, rex_r, rex_x, rm_field};
 

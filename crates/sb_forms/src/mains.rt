@@ -3,7 +3,19 @@
 ghost use Rattle.std.specs.Prelude.{◌≡◌, ◌+◌, ◌≤◌, false, length};
 ghost use Rattle.sb_insn.specs.declared.opcode_map.Mnemonic.{Mnemonic};
 ghost use Rattle.sb_insn.specs.Spelling.{spelling, op_bytes, imm_bytes};
-ghost use Rattle.sb_forms.specs.Mains.{at_helper as at_helper_at, own_register as own_at, with_displacement as with_displacement_at, with_helper as with_helper_at, register_op as register_op_at, with_constant as with_constant_at, on_register as on_register_at, move_product as move_product_at, behind_main, load_target as load_target_at, load_word as load_word_at};
+ghost use Rattle.sb_forms.specs.Mains.{
+  at_helper as at_helper_at,
+  own_register as own_at,
+  with_displacement as with_displacement_at,
+  with_helper as with_helper_at,
+  register_op as register_op_at,
+  with_constant as with_constant_at,
+  on_register as on_register_at,
+  move_product as move_product_at,
+  behind_main,
+  load_target as load_target_at,
+  load_word as load_word_at,
+};
 ghost use Rattle.sb_forms.specs.Table.{spelled};
 
 use crate::code::Code;

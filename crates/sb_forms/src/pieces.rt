@@ -3,7 +3,33 @@
 ghost use Rattle.std.specs.Prelude.{◌≡◌, ◌+◌, ◌≤◌, ◌<◌, ◌++◌, length, pos};
 ghost use Rattle.sb_insn.specs.Spelling.{spelling};
 ghost use Rattle.sb_insn.specs.declared.insn.Disp.{Disp};
-ghost use Rattle.sb_forms.specs.Pieces.{opcode_alone as opcode_alone_at, wide as wide_at, at_address as at, wide_at_address, save as save_at, restore as restore_at, save_half as save_half_at, load_number as load_number_at, add_number as add_number_at, lowered as lowered_at, lacking as lacking_at, raise, constant, low_half as low_half_at, high_half as high_half_at, is_sib_0f as is_sib_0f_at, exchanged as exchanged_at, without_sib_0f as without_at, is_from_next as is_from_next_at, load_address as load_address_at, address_from, address_at, address, jump as jump_at, jump_through as jump_through_at};
+ghost use Rattle.sb_forms.specs.Pieces.{
+  opcode_alone as opcode_alone_at,
+  wide as wide_at,
+  at_address as at,
+  wide_at_address,
+  save as save_at,
+  restore as restore_at,
+  save_half as save_half_at,
+  load_number as load_number_at,
+  add_number as add_number_at,
+  lowered as lowered_at,
+  lacking as lacking_at,
+  raise,
+  constant,
+  low_half as low_half_at,
+  high_half as high_half_at,
+  is_sib_0f as is_sib_0f_at,
+  exchanged as exchanged_at,
+  without_sib_0f as without_at,
+  is_from_next as is_from_next_at,
+  load_address as load_address_at,
+  address_from,
+  address_at,
+  address,
+  jump as jump_at,
+  jump_through as jump_through_at,
+};
 ghost use Rattle.sb_forms.specs.Table.{spelled};
 
 use crate::code::Code;

@@ -6,7 +6,15 @@ ghost use Rattle.sb_insn.specs.Spelling.{spelling, op_bytes, imm_bytes};
 ghost use Rattle.sb_forms.specs.Answers.{IsSite, IsSmall};
 ghost use Rattle.sb_forms.specs.Pieces.{jump as jump_at};
 ghost use Rattle.sb_forms.specs.Mains.{with_displacement as with_displacement_at};
-ghost use Rattle.sb_forms.specs.Table.{moved as moved_at, jump_form, wide_constant_form, address_and_constant_form, address_form, constant_form, bytes_of};
+ghost use Rattle.sb_forms.specs.Table.{
+  moved as moved_at,
+  jump_form,
+  wide_constant_form,
+  address_and_constant_form,
+  address_form,
+  constant_form,
+  bytes_of,
+};
 
 use crate::answer::Form;
 use crate::code::Code;

@@ -7,7 +7,28 @@ ghost use Rattle.sb_insn.specs.Grammar.{IsValid};
 ghost use Rattle.sb_insn.specs.Listing.{instruction_of as instruction_at};
 ghost use Rattle.sb_forms.specs.Answers.{IsSite, IsSmall, HasRoom, IsCleanForm};
 ghost use Rattle.sb_forms.specs.Places.{HasForm};
-ghost use Rattle.sb_forms.specs.Table.{nop, add_from_rm, spelled, is_vmfunc as is_vmfunc_at, is_add_esp_edx as is_add_at, completes_pattern as completes_at, begins_with_01_d4 as begins_with_at, begins_at_modrm as begins_at, has_memory as has_memory_at, is_call as is_call_at, is_jump as is_jump_at, form_by as form_by_at, slot_form as slot_form_at, slot_form_of as slot_form_of_at, is_exchangeable as is_exchangeable_at, held_form as held_form_at, replacement, bytes_of, site_of as site_at, form_of};
+ghost use Rattle.sb_forms.specs.Table.{
+  nop,
+  add_from_rm,
+  spelled,
+  is_vmfunc as is_vmfunc_at,
+  is_add_esp_edx as is_add_at,
+  completes_pattern as completes_at,
+  begins_with_01_d4 as begins_with_at,
+  begins_at_modrm as begins_at,
+  has_memory as has_memory_at,
+  is_call as is_call_at,
+  is_jump as is_jump_at,
+  form_by as form_by_at,
+  slot_form as slot_form_at,
+  slot_form_of as slot_form_of_at,
+  is_exchangeable as is_exchangeable_at,
+  held_form as held_form_at,
+  replacement,
+  bytes_of,
+  site_of as site_at,
+  form_of,
+};
 
 use crate::answer::Form;
 use crate::code::Code;

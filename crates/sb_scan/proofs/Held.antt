@@ -1,7 +1,9 @@
 -- The test on bytes is whether the pattern stands at some place.
-use Rattle.std.proofs.Common.{◌≡◌, ℕ, zero, suc, ◌+◌, true, false, List, [], ◌∷◌, Option, Some, None, get_or, refl, sym, ap, ◌∙◌, arith, inl, inr}
+use Rattle.std.proofs.Common.{◌≡◌, ℕ, zero, suc, ◌+◌, true, false, List, [], ◌∷◌, Option, Some, None, get_or, refl, sym, ap}
+use Rattle.std.proofs.Common.{◌∙◌, arith, inl, inr}
 use Rattle.std.specs.Prelude.{is_some, ◌&&◌, ◌==◌}
-use Rattle.std.proofs.lemmas.Bool.{and_parts, and_right, or_cases, or_from, or_left, or_right, eqb-true, eq-eqb, false_from_ne_true, false≢true, both_ways}
+use Rattle.std.proofs.lemmas.Bool.{and_parts, and_right, or_cases, or_from, or_left, or_right, eqb-true, eq-eqb}
+use Rattle.std.proofs.lemmas.Bool.{false_from_ne_true, false≢true, both_ways}
 use Rattle.sb_scan.specs.Pattern.{pattern, HasPatternAt, HasNoPattern, IsFirstPattern}
 use Rattle.sb_scan.specs.Holding.{begins_with, holds_pattern}
 
@@ -59,6 +61,11 @@ none_held bytes none = false_from_ne_true (holds_pattern bytes) (λ e. none (hol
 pub found_holds : (bytes : List ℕ) (found : Option ℕ) → IsFirstPattern bytes found → is_some found ≡ holds_pattern bytes
 found_holds bytes None none = sym (none_held bytes none)
 found_holds bytes (Some place) first = sym (at_holds bytes place first.0)
+
+-- no bytes do not hold the pattern
+pub nothing_holds : holds_pattern [] ≡ false
+unfolding holds_pattern
+nothing_holds = refl
 
 -- one byte does not hold the pattern
 pub byte_holds : (byte : ℕ) → holds_pattern (byte ∷ []) ≡ false
