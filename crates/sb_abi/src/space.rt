@@ -3,9 +3,6 @@
 //! A window begins at an address, in bytes, and at the page of that address. But for the rewrite area each has 512 pages,
 //! which are 2 MiB.
 
-/// The bytes of a page, and of a frame (SDM volume 3, 4.5).
-pub const PAGE_SIZE: u64 = 4096;
-
 /// The pages of each window but the rewrite area's.
 pub const WINDOW_PAGES: u64 = 512;
 

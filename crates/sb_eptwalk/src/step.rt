@@ -1,14 +1,14 @@
 //! The walk over four levels.
 
 ghost use Rattle.std.specs.Prelude.{◌≡◌, ◌<◌, ◌≤◌, ◌*◌, ◌%◌, ◌^◌, IfOk, IsTrue};
-ghost use Rattle.sb_abi.specs.declared.space.TheConstants.{PAGE_SIZE};
+ghost use Rattle.sb_memory.specs.declared.page.TheConstants.{PAGE_SIZE};
 ghost use Rattle.sb_memory.specs.Physical.{frame_count};
 ghost use Rattle.sb_memory.specs.Accounts.{ReadWord, after_words};
 ghost use Rattle.sb_walks.specs.Entry.{entry_place, frame_in};
 ghost use Rattle.sb_walks.specs.Ept.{ept_step, ept_walk_reads, ept_walked, is_eptp};
 
 use crate::entry::judge;
-use sb_abi::PAGE_SIZE;
+use sb_memory::PAGE_SIZE;
 use sb_memory::{Access, EptStop, GuestPhys, Phys, PhysAddr};
 use sb_walks::{entry_place, frame_number};
 

@@ -1,6 +1,7 @@
 -- What is said of an answer: how many bytes it has, and that the bytes of VMFUNC do not stand in it.
 use Rattle.std.specs.Prelude.{◌≡◌, ℕ, ◌+◌, ◌*◌, ◌≤◌, List, ◌++◌, length, replicate}
-use Rattle.sb_abi.specs.declared.space.TheConstants.{PAGE_SIZE, TEXT_ADDRESS, AREA_ADDRESS, AREA_PAGES}
+use Rattle.sb_abi.specs.declared.space.TheConstants.{TEXT_ADDRESS, AREA_ADDRESS, AREA_PAGES}
+use Rattle.sb_memory.specs.declared.page.TheConstants.{PAGE_SIZE}
 use Rattle.sb_insn.specs.declared.insn.Insn.{Insn}
 use Rattle.sb_insn.specs.Spelling.{spelling}
 use Rattle.sb_scan.specs.Pattern.{HasNoPattern}

@@ -1,7 +1,8 @@
 -- Where the bytes of VMFUNC can stand in an instruction.
 use Rattle.std.specs.Prelude.{◌≡◌, ℕ, ◌+◌, ◌*◌, ◌%◌, ◌^◌, ◌<◌, ◌≤◌, ◌⊎◌, IsTrue, Some}
 use Rattle.std.specs.Prelude.{length, ◌∷◌, List}
-use Rattle.sb_abi.specs.declared.space.TheConstants.{PAGE_SIZE, WINDOW_PAGES, TEXT_ADDRESS}
+use Rattle.sb_abi.specs.declared.space.TheConstants.{WINDOW_PAGES, TEXT_ADDRESS}
+use Rattle.sb_memory.specs.declared.page.TheConstants.{PAGE_SIZE}
 use Rattle.sb_abi.specs.declared.trampoline.TheConstants.{TRAMPOLINE_ADDRESS}
 use Rattle.sb_insn.specs.declared.insn.Insn.{Insn}
 use Rattle.sb_insn.specs.declared.insn.Op.TheVariants.{One, Vmfunc}

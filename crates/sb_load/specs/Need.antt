@@ -1,7 +1,7 @@
 -- How many frames a bundle takes when it is loaded, and how many there are.
 use Rattle.std.specs.Prelude.{ℕ, ◌+◌, ◌-◌, ◌*◌, List, length, sum_by}
 use Rattle.sb_abi.specs.declared.frames.TheConstants.{KEPT_FRAMES, PROCESS_FRAMES, THREAD_FRAMES}
-pub use Rattle.sb_abi.specs.Pages.{page_count}
+pub use Rattle.sb_memory.specs.Pages.{page_count}
 use Rattle.sb_bundle.specs.declared.bundle.Bundle.{Bundle}
 use Rattle.sb_bundle.specs.declared.bundle.Image.{Image}
 use Rattle.sb_rewrite.specs.Output.{Output}

@@ -6,7 +6,8 @@ ghost use Rattle.sb_bundle.specs.Limits.{IsBundle, IsImage};
 ghost use Rattle.sb_load.specs.Need.{page_count, process_need, area_need, need_of};
 ghost use Rattle.sb_load.specs.Checks.{HasSmallArea, AllSmallAreas};
 
-use sb_abi::{PROCESS_FRAMES, THREAD_FRAMES, page_count};
+use sb_abi::{PROCESS_FRAMES, THREAD_FRAMES};
+use sb_memory::page_count;
 use sb_bundle::{Bundle, Image};
 use sb_rewrite::Rewritten;
 

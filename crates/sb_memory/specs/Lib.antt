@@ -1,3 +1,4 @@
+pub mod Pages
 pub mod Address
 pub mod Outcome
 pub mod Physical

@@ -1,6 +1,6 @@
 -- Physical memory: its bytes, and which frames are there. A frame is 4,096 bytes.
 use Rattle.std.specs.Prelude.{ℕ, ◌≡◌, ◌+◌, ◌*◌, ◌/◌, ◌%◌, ◌^◌, ◌<◌, Bool, true, false, List, length, replicate, get_or}
-use Rattle.sb_abi.specs.declared.space.TheConstants.{PAGE_SIZE}
+use Rattle.sb_memory.specs.declared.page.TheConstants.{PAGE_SIZE}
 
 -- the bytes of all frames, one after another, and for each frame whether it is there
 pub record Physical : Type 0 where

@@ -1,7 +1,7 @@
 -- Words of 8 bytes in a list of bytes, the lowest byte first, and runs of bytes in it.
 use Rattle.std.specs.Prelude.{ℕ, ◌+◌, ◌*◌, List, [], ◌∷◌, replicate}
 use lib.Seq.{sets}
-use Rattle.sb_abi.specs.declared.space.TheConstants.{PAGE_SIZE}
+use Rattle.sb_memory.specs.declared.page.TheConstants.{PAGE_SIZE}
 use Rattle.byteorder.specs.Endian.{little_from, little_bytes}
 
 -- the word at a place

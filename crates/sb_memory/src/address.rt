@@ -1,10 +1,10 @@
 //! The kinds of address, and what stops an access.
 
 ghost use Rattle.std.specs.Prelude.{◌≡◌, ◌+◌, ◌*◌, ◌/◌, ◌%◌, ◌^◌, ◌<◌};
-ghost use Rattle.sb_abi.specs.declared.space.TheConstants.{PAGE_SIZE};
+ghost use Rattle.sb_memory.specs.declared.page.TheConstants.{PAGE_SIZE};
 ghost use Rattle.sb_memory.specs.Address.{is_canonical};
 
-use sb_abi::PAGE_SIZE;
+use crate::page::PAGE_SIZE;
 use thiserror::Error;
 
 /// The number of a frame: 4,096 bytes of physical memory.

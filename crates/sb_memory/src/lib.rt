@@ -22,10 +22,12 @@ mod address;
 mod bytes;
 mod law;
 mod memory;
+mod page;
 mod phys;
 
 pub use address::{Access, EptStop, Frame, GuestPhys, Linear, Missing, PhysAddr};
 pub use bytes::{put_bytes, put_word, put_zeros, word};
 pub use law::words_keep_apart;
 pub use memory::Memory;
+pub use page::{PAGE_SIZE, page_count};
 pub use phys::Phys;

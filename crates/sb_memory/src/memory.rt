@@ -1,7 +1,7 @@
 //! Memory that has all its frames.
 
 ghost use Rattle.std.specs.Prelude.{◌≡◌, ℕ, ◌+◌, ◌*◌, ◌≤◌, ◌<◌, length, get_or, IfOk};
-ghost use Rattle.sb_abi.specs.declared.space.TheConstants.{PAGE_SIZE};
+ghost use Rattle.sb_memory.specs.declared.page.TheConstants.{PAGE_SIZE};
 ghost use Rattle.sb_memory.specs.Physical.{HasSize, IsPhysical, IsPlace, IsWordPlace, HasAllFrames, frame_count, zeroed};
 ghost use Rattle.sb_memory.specs.Reading.{with_bytes};
 ghost use Rattle.sb_memory.specs.Words.{word_at, put_word as word_put, put_bytes as bytes_put, clear_frame as frame_cleared};
@@ -9,7 +9,7 @@ ghost use Rattle.sb_memory.specs.Words.{word_at, put_word as word_put, put_bytes
 use crate::address::{Frame, Missing, PhysAddr};
 use crate::bytes::{put_bytes, put_word, put_zeros, word};
 use crate::phys::Phys;
-use sb_abi::PAGE_SIZE;
+use crate::page::PAGE_SIZE;
 use std::alloc::{AllocError, Global};
 use std::marker::Model;
 
@@ -25,7 +25,7 @@ pub struct Memory {
 
 impl Model for Memory {
     ghost use Rattle.std.specs.Prelude.{◌≡◌, ◌*◌, replicate, true, length};
-    ghost use Rattle.sb_abi.specs.declared.space.TheConstants.{PAGE_SIZE};
+    ghost use Rattle.sb_memory.specs.declared.page.TheConstants.{PAGE_SIZE};
     ghost use Rattle.sb_memory.specs.Physical.{Physical};
 
     ghost Value = { Physical };

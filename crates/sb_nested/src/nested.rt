@@ -1,7 +1,7 @@
 //! The nested walk.
 
 ghost use Rattle.std.specs.Prelude.{◌≡◌, ◌*◌, ◌<◌, IfOk, IsTrue};
-ghost use Rattle.sb_abi.specs.declared.space.TheConstants.{PAGE_SIZE};
+ghost use Rattle.sb_memory.specs.declared.page.TheConstants.{PAGE_SIZE};
 ghost use Rattle.sb_memory.specs.Accounts.{after_words};
 ghost use Rattle.sb_memory.specs.Physical.{frame_count};
 ghost use Rattle.sb_walks.specs.Entry.{frame_in};

@@ -1,7 +1,7 @@
 //! A whole word written through the nested walk.
 
 ghost use Rattle.std.specs.Prelude.{◌≡◌, ◌*◌, ◌%◌, ◌≤◌, ◌<◌, IfOk, IfErr, IsTrue};
-ghost use Rattle.sb_abi.specs.declared.space.TheConstants.{PAGE_SIZE};
+ghost use Rattle.sb_memory.specs.declared.page.TheConstants.{PAGE_SIZE};
 ghost use Rattle.sb_memory.specs.Accounts.{after_reads};
 ghost use Rattle.sb_memory.specs.Outcome.{done};
 ghost use Rattle.sb_memory.specs.Physical.{frame_count};

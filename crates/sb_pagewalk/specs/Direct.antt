@@ -1,6 +1,6 @@
 -- Page tables whose guest-physical addresses are physical ones.
 use Rattle.std.specs.Prelude.{ℕ, ◌*◌, nat_lt, Result, Ok, Err, if◌then◌else◌}
-use Rattle.sb_abi.specs.declared.space.TheConstants.{PAGE_SIZE}
+use Rattle.sb_memory.specs.declared.page.TheConstants.{PAGE_SIZE}
 use Rattle.sb_memory.specs.Physical.{Physical, frame_count}
 use Rattle.sb_memory.specs.Words.{word_at}
 use Rattle.sb_memory.specs.declared.address.EptStop.TheVariants.{Outside}

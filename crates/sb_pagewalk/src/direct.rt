@@ -3,7 +3,7 @@
 ghost use Rattle.std.specs.Prelude.{◌≡◌};
 
 use crate::tables::Tables;
-use sb_abi::PAGE_SIZE;
+use sb_memory::PAGE_SIZE;
 use sb_memory::{EptStop, GuestPhys, Memory, Phys, PhysAddr};
 use sb_walks::TableStop;
 

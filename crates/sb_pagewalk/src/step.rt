@@ -7,7 +7,7 @@ ghost use Rattle.sb_walks.specs.Guest.{walk_reads, walk_step, walked};
 
 use crate::entry::judge;
 use crate::tables::Tables;
-use sb_abi::PAGE_SIZE;
+use sb_memory::PAGE_SIZE;
 use sb_memory::{Access, GuestPhys, Linear};
 use sb_walks::{WalkStop, entry_place, frame_number};
 

@@ -19,7 +19,7 @@ use std::collections::HashMap;
 use std::marker::Model;
 
 /// How many bytes a page has.
-pub const PAGE_SIZE: usize = 4096;
+pub const PAGE_SIZE: usize = sb_memory::PAGE_SIZE as usize;
 
 /// A name, and the place of its first page.
 #[derive(Clone, Copy)]

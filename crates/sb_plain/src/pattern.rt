@@ -7,11 +7,9 @@ ghost use Rattle.sb_trace.specs.Pattern.{executable_bytes as bytes_executed, byt
 
 use crate::pages::PAGE_SIZE;
 use crate::state::Plain;
+use sb_abi::HEAP_ADDRESS;
 use sb_scan::first_place;
 use sb_trace::PageName;
-
-/// Where the heap begins.
-const HEAP_ADDRESS: u64 = 0xC0_0000;
 
 // The bytes of a heap page that is executable; none of another.
 fn executable_bytes(state: &Plain, process: u32, page: u32) -> &[u8]

@@ -1,6 +1,7 @@
 -- What stands in place of each instruction of a text, and where its slot in the rewrite area begins.
 use Rattle.std.specs.Prelude.{ℕ, ◌+◌, ◌-◌, ◌*◌, Bool, ◌&&◌, ◌==◌, nat_lt, List, [], ◌∷◌, ◌++◌, length, slice_index}
-use Rattle.sb_abi.specs.declared.space.TheConstants.{AREA_ADDRESS, AREA_PAGES, PAGE_SIZE}
+use Rattle.sb_abi.specs.declared.space.TheConstants.{AREA_ADDRESS, AREA_PAGES}
+use Rattle.sb_memory.specs.declared.page.TheConstants.{PAGE_SIZE}
 use Rattle.sb_insn.specs.declared.insn.Insn.{Insn}
 use Rattle.sb_insn.specs.Spelling.{spelling}
 use Rattle.sb_forms.specs.declared.answer.Form.{Form}

@@ -9,7 +9,8 @@ use Rattle.sb_rewrite.specs.declared.refusal.RewriteRefusal.TheVariants.{Undecod
 use Rattle.sb_rewrite.specs.declared.target.Jump.{Jump}
 use Rattle.sb_rewrite.specs.Listing.{text_address, IsUndecodedAt}
 use Rattle.sb_rewrite.specs.Target.{direct_target}
-use Rattle.sb_abi.specs.declared.space.TheConstants.{PAGE_SIZE, TEXT_ADDRESS, WINDOW_PAGES}
+use Rattle.sb_abi.specs.declared.space.TheConstants.{TEXT_ADDRESS, WINDOW_PAGES}
+use Rattle.sb_memory.specs.declared.page.TheConstants.{PAGE_SIZE}
 use Rattle.sb_forms.specs.Places.{IsPermitted}
 use Rattle.sb_forms.specs.declared.answer.Form.{Form}
 use Rattle.sb_forms.specs.declared.answer.Form.TheVariants as form

@@ -8,7 +8,8 @@ ghost use Rattle.sb_rewrite.specs.Turns.{is_in_text as is_in_text_at, Remembers,
 use crate::front::Front;
 use crate::listing::Listing;
 use crate::refusal::RewriteRefusal;
-use sb_abi::{PAGE_SIZE, TEXT_ADDRESS, TRAMPOLINE_ADDRESS, WINDOW_PAGES};
+use sb_abi::{TEXT_ADDRESS, TRAMPOLINE_ADDRESS, WINDOW_PAGES};
+use sb_memory::PAGE_SIZE;
 
 /// A direct jump or call that leads to an address that a text can have.
 #[derive(Clone, Copy, Debug)]

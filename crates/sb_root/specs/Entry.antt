@@ -1,6 +1,6 @@
 -- The words of extended page tables, and what a lowest one answers (SDM volume 3, sections 24.6.11 and 28.3.2).
 use Rattle.std.specs.Prelude.{ℕ, ◌+◌, ◌*◌, ◌==◌, ◌||◌, Bool, Result, Ok, Err, if◌then◌else◌}
-use Rattle.sb_abi.specs.declared.space.TheConstants.{PAGE_SIZE}
+use Rattle.sb_memory.specs.declared.page.TheConstants.{PAGE_SIZE}
 use Rattle.sb_memory.specs.declared.address.Access.{Access}
 use Rattle.sb_memory.specs.declared.address.PhysAddr.{PhysAddr}
 use Rattle.sb_memory.specs.declared.address.EptStop.{EptStop}

@@ -1,7 +1,7 @@
 //! Frames that are filled with words.
 
 ghost use Rattle.std.specs.Prelude.{◌≡◌, ◌<◌, ◌≤◌, [], ◌∷◌, length};
-ghost use Rattle.sb_abi.specs.declared.space.TheConstants.{PAGE_SIZE};
+ghost use Rattle.sb_memory.specs.declared.page.TheConstants.{PAGE_SIZE};
 ghost use Rattle.sb_memory.specs.Physical.{HasSize, HoldsBytes, frame_count};
 ghost use Rattle.sb_memory.specs.Changes.{SameOutside};
 ghost use Rattle.sb_memory.specs.Words.{words_put, zeros};

@@ -7,15 +7,13 @@ ghost use Rattle.sb_memory.specs.declared.address.Access.TheVariants.{Read};
 ghost use Rattle.sb_pagewalk.specs.TableSet.{walked_in};
 ghost use Rattle.sb_sub.specs.Heap.{FindsHeap, frame_before as frame_in_front, frame_behind as frame_after, frame_bytes as bytes_of_frame, heap_at, heap_frame as frame_by_walk, pattern_at, pattern_by};
 
+use sb_abi::HEAP_ADDRESS;
 use sb_memory::{Access, Frame, Linear, Memory};
 use sb_pagewalk::{Direct, TableSet, walk};
 use sb_scan::first_place;
 
-/// Where the heap begins.
-const HEAP_ADDRESS: u64 = 0xC0_0000;
-
 /// The bytes of a page.
-const PAGE_SIZE: usize = 4096;
+const PAGE_SIZE: usize = sb_memory::PAGE_SIZE as usize;
 
 /// The linear address of a heap page.
 pub fn heap_address(page: u32) -> Linear

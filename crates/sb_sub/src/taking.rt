@@ -10,7 +10,8 @@ ghost use Rattle.sb_shows.specs.Placement.{leaf_for};
 ghost use Rattle.sb_sub.specs.Carries.{TakesStacks, stack_at, stack_top};
 ghost use Rattle.sb_sub.specs.Taking.{CanTake, TakesPage, top_bytes};
 
-use sb_abi::{EXIT_STUB, PAGE_SIZE, SERVER_STACKS_ADDRESS, TOP_WORD};
+use sb_abi::{EXIT_STUB, SERVER_STACKS_ADDRESS, TOP_WORD};
+use sb_memory::PAGE_SIZE;
 use sb_frames::{FrameBook, Kind};
 use sb_memory::{Frame, Linear, Memory, PhysAddr};
 use sb_pagewalk::TableSet;

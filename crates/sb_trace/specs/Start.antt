@@ -1,5 +1,6 @@
 -- The state of the plain machine at its start (docs/FORMATS.md, "The start").
 use Rattle.std.specs.Prelude.{ℕ, zero, suc, ◌+◌, ◌-◌, ◌*◌, ◌/◌, false, List, [], ◌∷◌, ◌++◌, length, take, drop, map, replicate, slice_set, None}
+pub use Rattle.sb_memory.specs.Pages.{page_count}
 use Rattle.sb_insn.specs.declared.registers.Regs.{Regs}
 use Rattle.sb_state.specs.declared.end_kind.EndKind.TheVariants.{Running}
 use Rattle.sb_state.specs.declared.page.PageName.{PageName}
@@ -29,10 +30,6 @@ pub record ThreadEntry : Type 0 where
   pub address : ℕ
 
 -- ---- pages
-
--- the number of pages that bytes need
-abbrev pub page_count : ℕ → ℕ
-page_count size = (size + 4095) / 4096
 
 -- bytes filled up to a page
 abbrev pub filled : ℕ → List ℕ → List ℕ

@@ -1,6 +1,6 @@
 -- The record page of a view: six words, and zeros after them.
 use Rattle.std.specs.Prelude.{ℕ, List, [], ◌∷◌}
-use Rattle.sb_abi.specs.declared.space.TheConstants.{PAGE_SIZE}
+use Rattle.sb_memory.specs.declared.page.TheConstants.{PAGE_SIZE}
 use Rattle.sb_memory.specs.Words.{words_put, zeros}
 use Rattle.sb_tramp.specs.declared.record_words.RecordWords.{RecordWords}
 

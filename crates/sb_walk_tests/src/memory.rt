@@ -4,7 +4,7 @@ ghost use Rattle.std.specs.Prelude.{◌≡◌};
 ghost use Rattle.sb_memory.specs.Physical.{IsWordPlace};
 
 use crate::sparse::Sparse;
-use sb_abi::PAGE_SIZE;
+use sb_memory::PAGE_SIZE;
 use sb_memory::{Frame, Linear, Memory, Missing, Phys, PhysAddr};
 
 /// Copies a word of any memory.

@@ -3,7 +3,7 @@
 ghost use Rattle.std.specs.Prelude.{◌≡◌, ◌≤◌, take};
 ghost use Rattle.sb_walk_tests.specs.TestMemory.{noted_place};
 
-use sb_abi::PAGE_SIZE;
+use sb_memory::PAGE_SIZE;
 use sb_memory::{Frame, Memory, Missing, Phys, PhysAddr};
 use std::alloc::{AllocError, Global};
 

@@ -1,6 +1,6 @@
 -- Entries of page tables, and where the entry for an address stands (SDM volume 3, section 4.5).
 use Rattle.std.specs.Prelude.{ℕ, ◌+◌, ◌*◌, ◌/◌, ◌%◌, ◌^◌, ◌==◌, Bool, List, [], ◌∷◌}
-use Rattle.sb_abi.specs.declared.space.TheConstants.{PAGE_SIZE}
+use Rattle.sb_memory.specs.declared.page.TheConstants.{PAGE_SIZE}
 use Rattle.sb_walks.specs.declared.entry.TheConstants.{PS}
 
 -- whether a bit of a word is set

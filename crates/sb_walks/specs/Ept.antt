@@ -1,6 +1,6 @@
 -- The walk through the extended page tables, over physical memory (SDM volume 3, section 28.3).
 use Rattle.std.specs.Prelude.{ℕ, ◌+◌, ◌*◌, ◌/◌, ◌%◌, ◌^◌, ◌==◌, ◌&&◌, ◌||◌, nat_le, nat_lt, not, Bool, List, [], ◌∷◌, Result, Ok, Err, if◌then◌else◌}
-use Rattle.sb_abi.specs.declared.space.TheConstants.{PAGE_SIZE}
+use Rattle.sb_memory.specs.declared.page.TheConstants.{PAGE_SIZE}
 use Rattle.sb_memory.specs.Outcome.{and_then}
 use Rattle.sb_memory.specs.Physical.{Physical, frame_count}
 use Rattle.sb_memory.specs.Reading.{word_read}

@@ -4,7 +4,7 @@ ghost use Rattle.std.specs.Prelude.{◌≡◌, ◌<◌, ◌≤◌, ◌^◌};
 ghost use Rattle.sb_walks.specs.Entry.{entry_place, frame_in, has_bit, index_at};
 ghost use Rattle.sb_walks.specs.Ept.{is_eptp};
 
-use sb_abi::PAGE_SIZE;
+use sb_memory::PAGE_SIZE;
 
 /// PS: at levels 3 and 2, bit 7 says that the entry maps a large page.
 pub const PS: u32 = 7;

@@ -1,7 +1,7 @@
 //! The bytes of pages at the start.
 
 ghost use Rattle.std.specs.Prelude.{◌≡◌, ◌*◌, ◌^◌, ◌<◌, ◌≤◌, IfOk, length, take};
-ghost use Rattle.sb_trace.specs.Start.{page_count as page_count_of, filled, page_of, home_words, record_bytes};
+ghost use Rattle.sb_trace.specs.Start.{filled, page_of, home_words, record_bytes};
 ghost use Rattle.sb_tramp.specs.Home.{home_page};
 ghost use Rattle.sb_tramp.specs.Server.{server_page};
 
@@ -11,14 +11,6 @@ use crate::pages::{PAGE_SIZE, zero_bytes};
 use sb_trace::PageBytes;
 use sb_tramp::{RecordWords, put_home, put_server};
 use std::alloc::{AllocError, Global};
-
-/// The number of pages that bytes need.
-pub fn page_count(size: usize) -> usize
-    requires { size < 2 ^ 63 }
-    ensures { result ≡ page_count_of size }
-{
-    (size + (PAGE_SIZE - 1)) / PAGE_SIZE
-}
 
 /// The first bytes, as many as a page has.
 #[tactic(auto, using(crate::proofs::Starting::short_page))]

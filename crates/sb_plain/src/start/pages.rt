@@ -5,8 +5,9 @@ ghost use Rattle.sb_trace.specs.PageWords.{zeros};
 ghost use Rattle.sb_trace.specs.Start.{named, filled_pages, heap_pages, process_pages, thread_pages, trampoline_pages, images_pages, threads_pages};
 ghost use Rattle.sb_plain.specs.Start.{image_of, images_loaded, part_name, part_filler, entry_of};
 
-use super::bytes::{home_record, home_trampoline, page_bytes, page_count, server_trampoline};
+use super::bytes::{home_record, home_trampoline, page_bytes, server_trampoline};
 use crate::pages::{Pages, zero_bytes};
+use sb_memory::page_count;
 use sb_bundle::{CoreStart, Image};
 use sb_load::Loaded;
 use sb_rewrite::Rewritten;

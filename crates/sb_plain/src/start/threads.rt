@@ -4,30 +4,18 @@ ghost use Rattle.std.specs.Prelude.{◌≡◌, ◌^◌, ◌<◌, None, IfOk, len
 ghost use Rattle.sb_trace.specs.Start.{save_address as address_of_save, start_registers as registers_at_start, start_threads as threads_at_start};
 ghost use Rattle.sb_plain.specs.Start.{entry_of};
 
+use sb_abi::{STACKS_ADDRESS, THREAD_DISTANCE};
 use sb_bundle::CoreStart;
+use sb_insn::registers::{RDI, RSP};
 use sb_insn::{Flags, Regs};
 use sb_trace::{Bindings, EndKind, Flight, Thread};
 use std::alloc::{AllocError, Global};
-
-/// Where the save page of thread 0 begins.
-const FIRST_SAVE: u64 = 0x300_0000;
-
-/// Where the stack of thread 0 ends.
-const FIRST_STACK_END: u64 = 0x300_8000;
-
-/// How far the save page and the stack of the next thread are from those of a thread: eight pages.
-const THREAD_DISTANCE: u64 = 0x8000;
-
-// Numbers of registers (SDM volume 2, section 2.2.1).
-const RSP: usize = 4;
-
-const RDI: usize = 7;
 
 /// The linear address of a thread's save page.
 pub fn save_address(thread: u32) -> u64
     ensures { result ≡ address_of_save thread }
 {
-    FIRST_SAVE + u64::from(thread) * THREAD_DISTANCE
+    STACKS_ADDRESS + u64::from(thread) * THREAD_DISTANCE
 }
 
 #[tactic(auto, unfolding(sb_trace::specs::Start::start_registers))]
@@ -35,7 +23,7 @@ fn start_registers(thread: u32, address: u64) -> Regs
     ensures { result ≡ registers_at_start thread address }
 {
     let mut general = [0u64; 16];
-    general[RSP] = FIRST_STACK_END + u64::from(thread) * THREAD_DISTANCE;
+    general[RSP] = STACKS_ADDRESS + (u64::from(thread) + 1) * THREAD_DISTANCE;
     general[RDI] = u64::from(thread);
     Regs {
         general,

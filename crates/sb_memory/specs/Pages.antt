@@ -1,6 +1,6 @@
 -- How many pages bytes take.
 use Rattle.std.specs.Prelude.{ℕ, ◌+◌, ◌-◌, ◌/◌}
-use Rattle.sb_abi.specs.declared.space.TheConstants.{PAGE_SIZE}
+use Rattle.sb_memory.specs.declared.page.TheConstants.{PAGE_SIZE}
 
 -- the pages that so many bytes take
 abbrev pub page_count : ℕ → ℕ
