@@ -27,8 +27,8 @@ result_flags size value carry overflow = record {
 -- ---- signed numbers
 
 -- the number as a signed one
-abbrev pub signed : Size → ℕ → ℤ
-signed size value = cast_signed (width size) value
+abbrev pub signed_value : Size → ℕ → ℤ
+signed_value size value = cast_signed (width size) value
 
 -- whether it is a signed number of this size: mag n and mag (-(n + 1)) are n
 abbrev pub fits : Size → ℤ → Bool
@@ -41,11 +41,11 @@ sum_of size first second = (first + second) % modulus size
 
 -- whether the sum of the signed numbers is none of this size
 abbrev pub sum_overflows : Size → ℕ → ℕ → Bool
-sum_overflows size first second = not (fits size (signed size first +ℤ signed size second))
+sum_overflows size first second = not (fits size (signed_value size first +ℤ signed_value size second))
 
 -- a sum: CF is the carry
-unfoldable pub added : Size → ℕ → ℕ → Outcome
-added size first second = record {
+unfoldable pub sum_outcome : Size → ℕ → ℕ → Outcome
+sum_outcome size first second = record {
   value = Some (sum_of size first second);
   flags = result_flags size (sum_of size first second) (nat_le (modulus size) (first + second)) (sum_overflows size first second);
 }
@@ -57,11 +57,11 @@ difference_of size first second = (first + (modulus size - second)) % modulus si
 
 -- whether the difference of the signed numbers is none of this size
 abbrev pub difference_overflows : Size → ℕ → ℕ → Bool
-difference_overflows size first second = not (fits size (signed size first -ℤ signed size second))
+difference_overflows size first second = not (fits size (signed_value size first -ℤ signed_value size second))
 
 -- a difference: CF is the borrow
-unfoldable pub subtracted : Size → ℕ → ℕ → Outcome
-subtracted size first second = record {
+unfoldable pub difference_outcome : Size → ℕ → ℕ → Outcome
+difference_outcome size first second = record {
   value = Some (difference_of size first second);
   flags = result_flags size (difference_of size first second) (nat_lt first second) (difference_overflows size first second);
 }
@@ -69,18 +69,18 @@ subtracted size first second = record {
 -- ---- logic
 
 -- a logical operation clears CF and OF
-unfoldable pub logical : Size → ℕ → Outcome
-logical size value = record { value = Some value; flags = result_flags size value false false }
+unfoldable pub logic_outcome : Size → ℕ → Outcome
+logic_outcome size value = record { value = Some value; flags = result_flags size value false false }
 
 -- ---- products
 
 -- whether the product of the signed numbers is none of this size
 abbrev pub product_overflows : Size → ℕ → ℕ → Bool
-product_overflows size first second = not (fits size (signed size first *ℤ signed size second))
+product_overflows size first second = not (fits size (signed_value size first *ℤ signed_value size second))
 
 -- a signed product: CF and OF say that it does not fit, SF is its top bit, ZF and PF stay
-unfoldable pub multiplied : Size → ℕ → ℕ → Flags → Outcome
-multiplied size first second flags =
+unfoldable pub product_outcome : Size → ℕ → ℕ → Flags → Outcome
+product_outcome size first second flags =
     let lost = product_overflows size first second in
     record {
       value = Some (first * second % modulus size);

@@ -7,8 +7,8 @@ use Rattle.sb_alu.specs.declared.operation.Operation.{Operation}
 use Rattle.sb_alu.specs.declared.operation.Operation.TheVariants as operation
 use Rattle.sb_alu.specs.declared.operation.Outcome.{Outcome}
 use Rattle.sb_alu.specs.Size.{modulus}
-use Rattle.sb_alu.specs.Arithmetic.{added, subtracted, logical, multiplied}
-use Rattle.sb_alu.specs.Shift.{shift_count, shifted_left, shifted_right, shifted_signed, unless_zero}
+use Rattle.sb_alu.specs.Arithmetic.{sum_outcome, difference_outcome, logic_outcome, product_outcome}
+use Rattle.sb_alu.specs.Shift.{shift_count, shl_outcome, shr_outcome, sar_outcome, unless_zero}
 
 -- nothing is written
 abbrev pub without_value : Outcome → Outcome
@@ -19,31 +19,31 @@ abbrev pub keeping_carry : Flags → Outcome → Outcome
 keeping_carry flags outcome = record outcome { flags = record (outcome.flags) { cf = flags.cf } }
 
 -- The place of the lowest bit that is set. ZF says that there is none: then nothing is written. The other flags stay.
-unfoldable pub scanned : ℕ → Flags → Outcome
-scanned value flags = record {
+unfoldable pub bsf_outcome : ℕ → Flags → Outcome
+bsf_outcome value flags = record {
   value = if value == 0 then None else Some (trailing_zeros w64 value);
   flags = record flags { zf = value == 0 };
 }
 
 -- what an operation gives on two numbers, from these flags; of the shifts the second is the count
-unfoldable pub operated : Operation → Size → ℕ → ℕ → Flags → Outcome
-operated operation.Add size first second flags = added size first second
-operated operation.Or size first second flags = logical size (bit_or first second)
-operated operation.And size first second flags = logical size (bit_and first second)
-operated operation.Sub size first second flags = subtracted size first second
-operated operation.Xor size first second flags = logical size (bit_xor first second)
-operated operation.Compare size first second flags = without_value (subtracted size first second)
-operated operation.Test size first second flags = without_value (logical size (bit_and first second))
-operated operation.Move size first second flags = record { value = Some second; flags = flags }
-operated operation.Not size first second flags = record { value = Some (modulus size - 1 - first); flags = flags }
-operated operation.Negate size first second flags = subtracted size 0 first
-operated operation.Increment size first second flags = keeping_carry flags (added size first 1)
-operated operation.Decrement size first second flags = keeping_carry flags (subtracted size first 1)
-operated operation.Multiply size first second flags = multiplied size first second flags
-operated operation.ShiftLeft size first second flags =
-    unless_zero (shift_count size second) first flags (shifted_left size first (shift_count size second))
-operated operation.ShiftRight size first second flags =
-    unless_zero (shift_count size second) first flags (shifted_right size first (shift_count size second))
-operated operation.ShiftSigned size first second flags =
-    unless_zero (shift_count size second) first flags (shifted_signed size first (shift_count size second))
-operated operation.ScanForward size first second flags = scanned second flags
+unfoldable pub operation_outcome : Operation → Size → ℕ → ℕ → Flags → Outcome
+operation_outcome operation.Add size first second flags = sum_outcome size first second
+operation_outcome operation.Or size first second flags = logic_outcome size (bit_or first second)
+operation_outcome operation.And size first second flags = logic_outcome size (bit_and first second)
+operation_outcome operation.Sub size first second flags = difference_outcome size first second
+operation_outcome operation.Xor size first second flags = logic_outcome size (bit_xor first second)
+operation_outcome operation.Compare size first second flags = without_value (difference_outcome size first second)
+operation_outcome operation.Test size first second flags = without_value (logic_outcome size (bit_and first second))
+operation_outcome operation.Move size first second flags = record { value = Some second; flags = flags }
+operation_outcome operation.Not size first second flags = record { value = Some (modulus size - 1 - first); flags = flags }
+operation_outcome operation.Negate size first second flags = difference_outcome size 0 first
+operation_outcome operation.Increment size first second flags = keeping_carry flags (sum_outcome size first 1)
+operation_outcome operation.Decrement size first second flags = keeping_carry flags (difference_outcome size first 1)
+operation_outcome operation.Multiply size first second flags = product_outcome size first second flags
+operation_outcome operation.ShiftLeft size first second flags =
+    unless_zero (shift_count size second) first flags (shl_outcome size first (shift_count size second))
+operation_outcome operation.ShiftRight size first second flags =
+    unless_zero (shift_count size second) first flags (shr_outcome size first (shift_count size second))
+operation_outcome operation.ShiftArithmetic size first second flags =
+    unless_zero (shift_count size second) first flags (sar_outcome size first (shift_count size second))
+operation_outcome operation.ScanForward size first second flags = bsf_outcome second flags

@@ -6,7 +6,7 @@ use Rattle.sb_insn.specs.declared.registers.Flags.{Flags}
 use Rattle.sb_alu.specs.declared.size.Size.{Size}
 use Rattle.sb_alu.specs.declared.operation.Outcome.{Outcome}
 use Rattle.sb_alu.specs.Size.{size_bits, modulus, width}
-use Rattle.sb_alu.specs.Arithmetic.{is_negative, signed, result_flags}
+use Rattle.sb_alu.specs.Arithmetic.{is_negative, signed_value, result_flags}
 
 -- whether two tests differ
 abbrev pub differ : Bool → Bool → Bool
@@ -16,42 +16,42 @@ differ first second = not (beq first second)
 abbrev pub shift_count : Size → ℕ → ℕ
 shift_count size count = count % size_bits size
 
-abbrev pub is_set : ℕ → ℕ → Bool
-is_set value place = value / 2 ^ place % 2 == 1
+abbrev pub is_bit_set : ℕ → ℕ → Bool
+is_bit_set value place = value / 2 ^ place % 2 == 1
 
 -- ---- to the left
 
-abbrev pub left : Size → ℕ → ℕ → ℕ
-left size value count = value * 2 ^ count % modulus size
+abbrev pub shl : Size → ℕ → ℕ → ℕ
+shl size value count = value * 2 ^ count % modulus size
 
 -- CF is the last bit that is shifted out; by 1, OF says that the top bit of the result differs from it
-unfoldable pub shifted_left : Size → ℕ → ℕ → Outcome
-shifted_left size value count =
-    let last = is_set value (size_bits size - count) in
+unfoldable pub shl_outcome : Size → ℕ → ℕ → Outcome
+shl_outcome size value count =
+    let last = is_bit_set value (size_bits size - count) in
     record {
-      value = Some (left size value count);
-      flags = result_flags size (left size value count) last
-          ((count == 1) && differ (is_negative size (left size value count)) last);
+      value = Some (shl size value count);
+      flags = result_flags size (shl size value count) last
+          ((count == 1) && differ (is_negative size (shl size value count)) last);
     }
 
 -- ---- to the right
 
 -- CF is the last bit that is shifted out; by 1, OF is the top bit of the operand
-unfoldable pub shifted_right : Size → ℕ → ℕ → Outcome
-shifted_right size value count = record {
+unfoldable pub shr_outcome : Size → ℕ → ℕ → Outcome
+shr_outcome size value count = record {
   value = Some (value / 2 ^ count);
-  flags = result_flags size (value / 2 ^ count) (is_set value (count - 1)) ((count == 1) && is_negative size value);
+  flags = result_flags size (value / 2 ^ count) (is_bit_set value (count - 1)) ((count == 1) && is_negative size value);
 }
 
 -- the signed number, shifted
-abbrev pub right_signed : Size → ℕ → ℕ → ℕ
-right_signed size value count = cast_unsigned (width size) (int_shr (signed size value) count)
+abbrev pub sar : Size → ℕ → ℕ → ℕ
+sar size value count = cast_unsigned (width size) (int_shr (signed_value size value) count)
 
 -- CF is the last bit that is shifted out; OF is clear
-unfoldable pub shifted_signed : Size → ℕ → ℕ → Outcome
-shifted_signed size value count = record {
-  value = Some (right_signed size value count);
-  flags = result_flags size (right_signed size value count) (is_set value (count - 1)) false;
+unfoldable pub sar_outcome : Size → ℕ → ℕ → Outcome
+sar_outcome size value count = record {
+  value = Some (sar size value count);
+  flags = result_flags size (sar size value count) (is_bit_set value (count - 1)) false;
 }
 
 -- ---- by 0

@@ -3,17 +3,17 @@
 ghost use Rattle.std.specs.Prelude.{◌≡◌, ◌<◌, ◌+◌, ◌*◌, ◌%◌, nat_le};
 ghost use Rattle.sb_alu.specs.Size.{modulus};
 ghost use Rattle.sb_alu.specs.Arithmetic.{
-  is_negative as is_negative_of,
-  result_flags as result_flags_of,
+  is_negative,
+  result_flags,
   sum_of,
-  sum_overflows as sum_overflows_of,
-  added as added_of,
+  sum_overflows,
+  sum_outcome,
   difference_of,
-  difference_overflows as difference_overflows_of,
-  subtracted as subtracted_of,
-  logical as logical_of,
-  product_overflows as product_overflows_of,
-  multiplied as multiplied_of,
+  difference_overflows,
+  difference_outcome,
+  logic_outcome,
+  product_overflows,
+  product_outcome,
 };
 
 use crate::operation::Outcome;
@@ -22,7 +22,7 @@ use sb_insn::Flags;
 
 /// Whether the top bit is set.
 pub fn is_negative(size: Size, value: u64) -> bool
-    ensures { result ≡ is_negative_of size value }
+    ensures { result ≡ is_negative size value }
 {
     value >= size.top()
 }
@@ -30,7 +30,7 @@ pub fn is_negative(size: Size, value: u64) -> bool
 /// The flags of a result.
 #[tactic(auto, unfolding(crate::specs::Arithmetic::result_flags))]
 pub fn result_flags(size: Size, value: u64, carry: bool, overflow: bool) -> Flags
-    ensures { result ≡ result_flags_of size value carry overflow }
+    ensures { result ≡ result_flags size value carry overflow }
 {
     Flags {
         cf: carry,
@@ -51,8 +51,8 @@ pub fn sum(size: Size, first: u64, second: u64) -> u64
 {
     match size {
         Size::Byte => (first + second) % 0x100,
-        Size::Double => (first + second) % 0x1_0000_0000,
-        Size::Quad => first.wrapping_add(second),
+        Size::Doubleword => (first + second) % 0x1_0000_0000,
+        Size::Quadword => first.wrapping_add(second),
     }
 }
 
@@ -64,8 +64,8 @@ fn carries(size: Size, first: u64, second: u64) -> bool
 {
     match size {
         Size::Byte => first + second >= 0x100,
-        Size::Double => first + second >= 0x1_0000_0000,
-        Size::Quad => first.overflowing_add(second).1,
+        Size::Doubleword => first + second >= 0x1_0000_0000,
+        Size::Quadword => first.overflowing_add(second).1,
     }
 }
 
@@ -73,27 +73,27 @@ fn carries(size: Size, first: u64, second: u64) -> bool
 fn sum_overflows(size: Size, first: u64, second: u64) -> bool
     requires first { first < modulus size }
     requires second { second < modulus size }
-    ensures { result ≡ sum_overflows_of size first second }
+    ensures { result ≡ sum_overflows size first second }
 {
     match size {
         Size::Byte => (first as u8)
             .cast_signed()
             .overflowing_add((second as u8).cast_signed())
             .1,
-        Size::Double => (first as u32)
+        Size::Doubleword => (first as u32)
             .cast_signed()
             .overflowing_add((second as u32).cast_signed())
             .1,
-        Size::Quad => first.cast_signed().overflowing_add(second.cast_signed()).1,
+        Size::Quadword => first.cast_signed().overflowing_add(second.cast_signed()).1,
     }
 }
 
 /// A sum, with its flags.
-#[tactic(auto, unfolding(crate::specs::Arithmetic::added))]
-pub fn added(size: Size, first: u64, second: u64) -> Outcome
+#[tactic(auto, unfolding(crate::specs::Arithmetic::sum_outcome))]
+pub fn sum_outcome(size: Size, first: u64, second: u64) -> Outcome
     requires first { first < modulus size }
     requires second { second < modulus size }
-    ensures { result ≡ added_of size first second }
+    ensures { result ≡ sum_outcome size first second }
 {
     let value = sum(size, first, second);
     let carry = carries(size, first, second);
@@ -114,8 +114,8 @@ fn difference(size: Size, first: u64, second: u64) -> u64
 {
     match size {
         Size::Byte => (first + (0x100 - second)) % 0x100,
-        Size::Double => (first + (0x1_0000_0000 - second)) % 0x1_0000_0000,
-        Size::Quad => first.wrapping_sub(second),
+        Size::Doubleword => (first + (0x1_0000_0000 - second)) % 0x1_0000_0000,
+        Size::Quadword => first.wrapping_sub(second),
     }
 }
 
@@ -123,27 +123,27 @@ fn difference(size: Size, first: u64, second: u64) -> u64
 fn difference_overflows(size: Size, first: u64, second: u64) -> bool
     requires first { first < modulus size }
     requires second { second < modulus size }
-    ensures { result ≡ difference_overflows_of size first second }
+    ensures { result ≡ difference_overflows size first second }
 {
     match size {
         Size::Byte => (first as u8)
             .cast_signed()
             .overflowing_sub((second as u8).cast_signed())
             .1,
-        Size::Double => (first as u32)
+        Size::Doubleword => (first as u32)
             .cast_signed()
             .overflowing_sub((second as u32).cast_signed())
             .1,
-        Size::Quad => first.cast_signed().overflowing_sub(second.cast_signed()).1,
+        Size::Quadword => first.cast_signed().overflowing_sub(second.cast_signed()).1,
     }
 }
 
 /// A difference, with its flags.
-#[tactic(auto, unfolding(crate::specs::Arithmetic::subtracted))]
-pub fn subtracted(size: Size, first: u64, second: u64) -> Outcome
+#[tactic(auto, unfolding(crate::specs::Arithmetic::difference_outcome))]
+pub fn difference_outcome(size: Size, first: u64, second: u64) -> Outcome
     requires first { first < modulus size }
     requires second { second < modulus size }
-    ensures { result ≡ subtracted_of size first second }
+    ensures { result ≡ difference_outcome size first second }
 {
     let value = difference(size, first, second);
     let overflow = difference_overflows(size, first, second);
@@ -156,9 +156,9 @@ pub fn subtracted(size: Size, first: u64, second: u64) -> Outcome
 // ---- logic
 
 /// A logical operation's result, which clears CF and OF.
-#[tactic(auto, unfolding(crate::specs::Arithmetic::logical))]
-pub fn logical(size: Size, value: u64) -> Outcome
-    ensures { result ≡ logical_of size value }
+#[tactic(auto, unfolding(crate::specs::Arithmetic::logic_outcome))]
+pub fn logic_outcome(size: Size, value: u64) -> Outcome
+    ensures { result ≡ logic_outcome size value }
 {
     Outcome {
         value: Some(value),
@@ -176,8 +176,8 @@ fn product(size: Size, first: u64, second: u64) -> u64
 {
     match size {
         Size::Byte => first * second % 0x100,
-        Size::Double => first * second % 0x1_0000_0000,
-        Size::Quad => first.wrapping_mul(second),
+        Size::Doubleword => first * second % 0x1_0000_0000,
+        Size::Quadword => first.wrapping_mul(second),
     }
 }
 
@@ -185,27 +185,27 @@ fn product(size: Size, first: u64, second: u64) -> u64
 fn product_overflows(size: Size, first: u64, second: u64) -> bool
     requires first { first < modulus size }
     requires second { second < modulus size }
-    ensures { result ≡ product_overflows_of size first second }
+    ensures { result ≡ product_overflows size first second }
 {
     match size {
         Size::Byte => (first as u8)
             .cast_signed()
             .overflowing_mul((second as u8).cast_signed())
             .1,
-        Size::Double => (first as u32)
+        Size::Doubleword => (first as u32)
             .cast_signed()
             .overflowing_mul((second as u32).cast_signed())
             .1,
-        Size::Quad => first.cast_signed().overflowing_mul(second.cast_signed()).1,
+        Size::Quadword => first.cast_signed().overflowing_mul(second.cast_signed()).1,
     }
 }
 
 /// A signed product, with the flags that it changes.
-#[tactic(auto, unfolding(crate::specs::Arithmetic::multiplied))]
-pub fn multiplied(size: Size, first: u64, second: u64, flags: Flags) -> Outcome
+#[tactic(auto, unfolding(crate::specs::Arithmetic::product_outcome))]
+pub fn product_outcome(size: Size, first: u64, second: u64, flags: Flags) -> Outcome
     requires first { first < modulus size }
     requires second { second < modulus size }
-    ensures { result ≡ multiplied_of size first second flags }
+    ensures { result ≡ product_outcome size first second flags }
 {
     let value = product(size, first, second);
     let lost = product_overflows(size, first, second);

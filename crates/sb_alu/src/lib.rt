@@ -12,7 +12,7 @@
 //!
 //! ```text
 //! added(Size::Byte, 0xFF, 1)                                       // 0, with CF and ZF set
-//! operate(Operation::ShiftRight, Size::Double, 0x81, 33, flags)    // 0x40, with CF set: the count is 33 modulo 32
+//! operate(Operation::ShiftRight, Size::Doubleword, 0x81, 33, flags)    // 0x40, with CF set: the count is 33 modulo 32
 //! ```
 #![tactic(auto)]
 

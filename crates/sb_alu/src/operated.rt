@@ -3,13 +3,13 @@
 ghost use Rattle.std.specs.Prelude.{◌≡◌, ◌<◌};
 ghost use Rattle.sb_alu.specs.Size.{modulus};
 ghost use Rattle.sb_alu.specs.Operated.{
-  without_value as without_value_of,
-  keeping_carry as keeping_carry_of,
-  scanned as scanned_of,
-  operated,
+  without_value,
+  keeping_carry,
+  bsf_outcome,
+  operation_outcome,
 };
 
-use crate::arithmetic::{added, logical, multiplied, subtracted};
+use crate::arithmetic::{difference_outcome, logic_outcome, product_outcome, sum_outcome};
 use crate::operation::{Operation, Outcome};
 use crate::shift::{left_by, right_by, signed_right_by};
 use crate::size::Size;
@@ -17,7 +17,7 @@ use sb_insn::Flags;
 
 /// Nothing is written.
 fn without_value(outcome: Outcome) -> Outcome
-    ensures { result ≡ without_value_of outcome }
+    ensures { result ≡ without_value outcome }
 {
     Outcome {
         value: None,
@@ -27,7 +27,7 @@ fn without_value(outcome: Outcome) -> Outcome
 
 /// CF stays.
 fn keeping_carry(flags: Flags, outcome: Outcome) -> Outcome
-    ensures { result ≡ keeping_carry_of flags outcome }
+    ensures { result ≡ keeping_carry flags outcome }
 {
     Outcome {
         flags: Flags {
@@ -39,9 +39,9 @@ fn keeping_carry(flags: Flags, outcome: Outcome) -> Outcome
 }
 
 /// The place of the lowest bit that is set.
-#[tactic(auto, unfolding(crate::specs::Operated::scanned))]
-fn scanned(value: u64, flags: Flags) -> Outcome
-    ensures { result ≡ scanned_of value flags }
+#[tactic(auto, unfolding(crate::specs::Operated::bsf_outcome))]
+fn bsf_outcome(value: u64, flags: Flags) -> Outcome
+    ensures { result ≡ bsf_outcome value flags }
 {
     Outcome {
         value: if value == 0 {
@@ -57,20 +57,20 @@ fn scanned(value: u64, flags: Flags) -> Outcome
 }
 
 /// What an operation gives on two numbers of a size, from these flags.
-#[tactic(auto, unfolding(crate::specs::Operated::operated))]
+#[tactic(auto, unfolding(crate::specs::Operated::operation_outcome))]
 pub fn operate(operation: Operation, size: Size, first: u64, second: u64, flags: Flags) -> Outcome
     requires first { first < modulus size }
     requires second { second < modulus size }
-    ensures { result ≡ operated operation size first second flags }
+    ensures { result ≡ operation_outcome operation size first second flags }
 {
     match operation {
-        Operation::Add => added(size, first, second),
-        Operation::Or => logical(size, first | second),
-        Operation::And => logical(size, first & second),
-        Operation::Sub => subtracted(size, first, second),
-        Operation::Xor => logical(size, first ^ second),
-        Operation::Compare => without_value(subtracted(size, first, second)),
-        Operation::Test => without_value(logical(size, first & second)),
+        Operation::Add => sum_outcome(size, first, second),
+        Operation::Or => logic_outcome(size, first | second),
+        Operation::And => logic_outcome(size, first & second),
+        Operation::Sub => difference_outcome(size, first, second),
+        Operation::Xor => logic_outcome(size, first ^ second),
+        Operation::Compare => without_value(difference_outcome(size, first, second)),
+        Operation::Test => without_value(logic_outcome(size, first & second)),
         Operation::Move => Outcome {
             value: Some(second),
             flags,
@@ -79,13 +79,13 @@ pub fn operate(operation: Operation, size: Size, first: u64, second: u64, flags:
             value: Some(size.mask() - first),
             flags,
         },
-        Operation::Negate => subtracted(size, 0, first),
-        Operation::Increment => keeping_carry(flags, added(size, first, 1)),
-        Operation::Decrement => keeping_carry(flags, subtracted(size, first, 1)),
-        Operation::Multiply => multiplied(size, first, second, flags),
+        Operation::Negate => difference_outcome(size, 0, first),
+        Operation::Increment => keeping_carry(flags, sum_outcome(size, first, 1)),
+        Operation::Decrement => keeping_carry(flags, difference_outcome(size, first, 1)),
+        Operation::Multiply => product_outcome(size, first, second, flags),
         Operation::ShiftLeft => left_by(size, first, second, flags),
         Operation::ShiftRight => right_by(size, first, second, flags),
-        Operation::ShiftSigned => signed_right_by(size, first, second, flags),
-        Operation::ScanForward => scanned(second, flags),
+        Operation::ShiftArithmetic => signed_right_by(size, first, second, flags),
+        Operation::ScanForward => bsf_outcome(second, flags),
     }
 }

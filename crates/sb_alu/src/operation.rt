@@ -27,7 +27,7 @@ pub enum Operation {
     /// Zeros come in from the left.
     ShiftRight,
     /// Copies of the top bit come in from the left.
-    ShiftSigned,
+    ShiftArithmetic,
     /// The place of the lowest bit that is set in the second number.
     ScanForward,
 }

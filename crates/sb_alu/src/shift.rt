@@ -4,12 +4,12 @@ ghost use Rattle.std.specs.Prelude.{◌≡◌, ◌<◌, Some};
 ghost use Rattle.sb_alu.specs.Size.{modulus, size_bits};
 ghost use Rattle.sb_alu.specs.Shift.{
   shift_count,
-  is_set as is_set_of,
-  left as left_of,
-  shifted_left as shifted_left_of,
-  shifted_right as shifted_right_of,
-  right_signed as right_signed_of,
-  shifted_signed as shifted_signed_of,
+  is_bit_set,
+  shl,
+  shl_outcome,
+  shr_outcome,
+  sar,
+  sar_outcome,
   unless_zero,
 };
 
@@ -26,36 +26,36 @@ fn masked(size: Size, count: u64) -> u32
     (count % u64::from(size.bits())) as u32
 }
 
-fn is_set(value: u64, place: u32) -> bool
+fn is_bit_set(value: u64, place: u32) -> bool
     requires { place < 64 }
-    ensures { result ≡ is_set_of value place }
+    ensures { result ≡ is_bit_set value place }
 {
     (value >> place) % 2 == 1
 }
 
 // ---- by a count that is not 0
 
-fn left(size: Size, value: u64, count: u32) -> u64
+fn shl(size: Size, value: u64, count: u32) -> u64
     requires value { value < modulus size }
     requires count { count < size_bits size }
-    ensures { result ≡ left_of size value count }
+    ensures { result ≡ shl size value count }
 {
     match size {
         Size::Byte => (value << count) % 0x100,
-        Size::Double => (value << count) % 0x1_0000_0000,
-        Size::Quad => value << count,
+        Size::Doubleword => (value << count) % 0x1_0000_0000,
+        Size::Quadword => value << count,
     }
 }
 
-#[tactic(auto, unfolding(crate::specs::Shift::shifted_left))]
-fn shifted_left(size: Size, value: u64, count: u32) -> Outcome
+#[tactic(auto, unfolding(crate::specs::Shift::shl_outcome))]
+fn shl_outcome(size: Size, value: u64, count: u32) -> Outcome
     requires value { value < modulus size }
     requires count { count < size_bits size }
     requires some { 0 < count }
-    ensures { result ≡ shifted_left_of size value count }
+    ensures { result ≡ shl_outcome size value count }
 {
-    let shifted = left(size, value, count);
-    let last = is_set(value, size.bits() - count);
+    let shifted = shl(size, value, count);
+    let last = is_bit_set(value, size.bits() - count);
     let overflow = count == 1 && is_negative(size, shifted) != last;
     Outcome {
         value: Some(shifted),
@@ -63,44 +63,44 @@ fn shifted_left(size: Size, value: u64, count: u32) -> Outcome
     }
 }
 
-#[tactic(auto, unfolding(crate::specs::Shift::shifted_right))]
-fn shifted_right(size: Size, value: u64, count: u32) -> Outcome
+#[tactic(auto, unfolding(crate::specs::Shift::shr_outcome))]
+fn shr_outcome(size: Size, value: u64, count: u32) -> Outcome
     requires value { value < modulus size }
     requires count { count < size_bits size }
     requires some { 0 < count }
-    ensures { result ≡ shifted_right_of size value count }
+    ensures { result ≡ shr_outcome size value count }
 {
     let shifted = value >> count;
     let overflow = count == 1 && is_negative(size, value);
     Outcome {
         value: Some(shifted),
-        flags: result_flags(size, shifted, is_set(value, count - 1), overflow),
+        flags: result_flags(size, shifted, is_bit_set(value, count - 1), overflow),
     }
 }
 
-fn right_signed(size: Size, value: u64, count: u32) -> u64
+fn sar(size: Size, value: u64, count: u32) -> u64
     requires value { value < modulus size }
     requires count { count < size_bits size }
-    ensures { result ≡ right_signed_of size value count }
+    ensures { result ≡ sar size value count }
 {
     match size {
         Size::Byte => u64::from(((value as u8).cast_signed() >> count).cast_unsigned()),
-        Size::Double => u64::from(((value as u32).cast_signed() >> count).cast_unsigned()),
-        Size::Quad => (value.cast_signed() >> count).cast_unsigned(),
+        Size::Doubleword => u64::from(((value as u32).cast_signed() >> count).cast_unsigned()),
+        Size::Quadword => (value.cast_signed() >> count).cast_unsigned(),
     }
 }
 
-#[tactic(auto, unfolding(crate::specs::Shift::shifted_signed))]
-fn shifted_signed(size: Size, value: u64, count: u32) -> Outcome
+#[tactic(auto, unfolding(crate::specs::Shift::sar_outcome))]
+fn sar_outcome(size: Size, value: u64, count: u32) -> Outcome
     requires value { value < modulus size }
     requires count { count < size_bits size }
     requires some { 0 < count }
-    ensures { result ≡ shifted_signed_of size value count }
+    ensures { result ≡ sar_outcome size value count }
 {
-    let shifted = right_signed(size, value, count);
+    let shifted = sar(size, value, count);
     Outcome {
         value: Some(shifted),
-        flags: result_flags(size, shifted, is_set(value, count - 1), false),
+        flags: result_flags(size, shifted, is_bit_set(value, count - 1), false),
     }
 }
 
@@ -120,32 +120,32 @@ fn unshifted(value: u64, flags: Flags) -> Outcome
 /// SHL.
 pub fn left_by(size: Size, value: u64, count: u64, flags: Flags) -> Outcome
     requires { value < modulus size }
-    ensures { result ≡ unless_zero (shift_count size count) value flags (shifted_left_of size value (shift_count size count)) }
+    ensures { result ≡ unless_zero (shift_count size count) value flags (shl_outcome size value (shift_count size count)) }
 {
     match masked(size, count) {
         0 => unshifted(value, flags),
-        count => shifted_left(size, value, count),
+        count => shl_outcome(size, value, count),
     }
 }
 
 /// SHR.
 pub fn right_by(size: Size, value: u64, count: u64, flags: Flags) -> Outcome
     requires { value < modulus size }
-    ensures { result ≡ unless_zero (shift_count size count) value flags (shifted_right_of size value (shift_count size count)) }
+    ensures { result ≡ unless_zero (shift_count size count) value flags (shr_outcome size value (shift_count size count)) }
 {
     match masked(size, count) {
         0 => unshifted(value, flags),
-        count => shifted_right(size, value, count),
+        count => shr_outcome(size, value, count),
     }
 }
 
 /// SAR.
 pub fn signed_right_by(size: Size, value: u64, count: u64, flags: Flags) -> Outcome
     requires { value < modulus size }
-    ensures { result ≡ unless_zero (shift_count size count) value flags (shifted_signed_of size value (shift_count size count)) }
+    ensures { result ≡ unless_zero (shift_count size count) value flags (sar_outcome size value (shift_count size count)) }
 {
     match masked(size, count) {
         0 => unshifted(value, flags),
-        count => shifted_signed(size, value, count),
+        count => sar_outcome(size, value, count),
     }
 }

@@ -7,8 +7,8 @@ ghost use Rattle.sb_alu.specs.Size.{size_bytes, size_bits, modulus, half, low};
 #[derive(Clone, Copy, Debug, PartialEq, Eq)]
 pub enum Size {
     Byte,
-    Double,
-    Quad,
+    Doubleword,
+    Quadword,
 }
 
 impl Size {
@@ -18,8 +18,8 @@ impl Size {
     {
         match self {
             Size::Byte => 1,
-            Size::Double => 4,
-            Size::Quad => 8,
+            Size::Doubleword => 4,
+            Size::Quadword => 8,
         }
     }
 
@@ -29,8 +29,8 @@ impl Size {
     {
         match self {
             Size::Byte => 8,
-            Size::Double => 32,
-            Size::Quad => 64,
+            Size::Doubleword => 32,
+            Size::Quadword => 64,
         }
     }
 
@@ -40,8 +40,8 @@ impl Size {
     {
         match self {
             Size::Byte => 0xFF,
-            Size::Double => 0xFFFF_FFFF,
-            Size::Quad => u64::MAX,
+            Size::Doubleword => 0xFFFF_FFFF,
+            Size::Quadword => u64::MAX,
         }
     }
 
@@ -51,8 +51,8 @@ impl Size {
     {
         match self {
             Size::Byte => 0x80,
-            Size::Double => 0x8000_0000,
-            Size::Quad => 0x8000_0000_0000_0000,
+            Size::Doubleword => 0x8000_0000,
+            Size::Quadword => 0x8000_0000_0000_0000,
         }
     }
 
@@ -64,8 +64,8 @@ impl Size {
     {
         match self {
             Size::Byte => value % 0x100,
-            Size::Double => value % 0x1_0000_0000,
-            Size::Quad => value,
+            Size::Doubleword => value % 0x1_0000_0000,
+            Size::Quadword => value,
         }
     }
 }

@@ -11,7 +11,8 @@ use Rattle.sb_bundle.specs.Spelling.{number_bytes}
 same_parts : (a b x y : ℕ) → a < 256 → b < 256 → a + 256 * x ≡ b + 256 * y → (a ≡ b) × (x ≡ y)
 same_parts a b x y lt_a lt_b e = (omega arith, omega arith)
 
-same_bytes : (size : ℕ) (xs ys : List ℕ) → length xs ≡ size → length ys ≡ size → AllBelow 256 xs → AllBelow 256 ys → little_from 0 size xs ≡ little_from 0 size ys → xs ≡ ys
+same_bytes : (size : ℕ) (xs ys : List ℕ) → length xs ≡ size → length ys ≡ size → AllBelow 256 xs → AllBelow 256 ys
+    → little_from 0 size xs ≡ little_from 0 size ys → xs ≡ ys
 same_bytes zero [] [] len_x len_y fits_x fits_y e = refl
 same_bytes zero [] (y ∷ ys) len_x len_y fits_x fits_y e = absurd (omega (arith, len_y))
 same_bytes zero (x ∷ xs) ys len_x len_y fits_x fits_y e = absurd (omega (arith, len_x))
@@ -20,7 +21,9 @@ same_bytes (suc size) (x ∷ xs) [] len_x len_y fits_x fits_y e = absurd (omega 
 same_bytes (suc size) (x ∷ xs) (y ∷ ys) len_x len_y fits_x fits_y e =
     let left = little_from-cons 0 size x xs in
     let right = little_from-cons 0 size y ys in
-    let parts = same_parts x y (little_from 0 size xs) (little_from 0 size ys) fits_x.0 fits_y.0 (ap (λ (n : ℕ). x + 256 * n) (sym left) ∙ e ∙ ap (λ (n : ℕ). y + 256 * n) right) in
+    let parts =
+    same_parts x y (little_from 0 size xs) (little_from 0 size ys) fits_x.0 fits_y.0 (ap (λ (n : ℕ). x + 256 * n) (sym left)
+    ∙ e ∙ ap (λ (n : ℕ). y + 256 * n) right) in
     let rest : xs ≡ ys = same_bytes size xs ys (omega (arith, len_x)) (omega (arith, len_y)) fits_x.1 fits_y.1 parts.1 in
     rw (parts.0, rest) refl
 
@@ -56,10 +59,14 @@ number-fits size bytes fits = little_from-lt 0 size bytes (AllBelow-at 256 (omeg
 -- what was written is read
 pub number-again : (size n : ℕ) → n < 256 ^ size → little_number size (number_bytes size n) ≡ n
 unfolding number_bytes
-number-again size n lt = ap (λ (bytes : List ℕ). little_number size bytes) (sym (append-nil (little_bytes size n))) ∙ little_number-reads_back size n [] lt
+number-again size n lt = ap (λ (bytes : List ℕ). little_number size bytes) (sym (append-nil (little_bytes size n)))
+    ∙ little_number-reads_back size n [] lt
 
 -- what was read is written
-pub bytes-again : (size : ℕ) (bytes : List ℕ) → length bytes ≡ size → AllBelow 256 bytes → number_bytes size (little_number size bytes) ≡ bytes
+pub bytes-again : (size : ℕ) (bytes : List ℕ) → length bytes ≡ size → AllBelow 256 bytes
+    → number_bytes size (little_number size bytes) ≡ bytes
 unfolding number_bytes
 bytes-again size bytes len fits =
-    same_bytes size (little_bytes size (little_number size bytes)) bytes (length-bytes_low_first 0 size (little_number size bytes)) len (bytes-fit 0 size (little_number size bytes)) fits (number-again size (little_number size bytes) (number-fits size bytes fits))
+    same_bytes size (little_bytes size (little_number size bytes)) bytes
+    (length-bytes_low_first 0 size (little_number size bytes)) len (bytes-fit 0 size (little_number size bytes)) fits
+    (number-again size (little_number size bytes) (number-fits size bytes fits))

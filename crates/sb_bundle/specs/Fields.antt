@@ -45,8 +45,8 @@ number size = do
   give (little_number size bytes)
 
 -- a field that is whole and fails the test is refused at its offset
-abbrev pub judged : {A : Type 0} → (ℕ → BundleRefusal) → (A → Bool) → Field A → Field A
-judged refusal is_good field input =
+abbrev pub judged_field : {A : Type 0} → (ℕ → BundleRefusal) → (A → Bool) → Field A → Field A
+judged_field refusal is_good field input =
     and_then (field input) (λ read. if is_good read.0 then Ok read else Err (refusal (offset input)))
 
 -- neither less than the least nor more than the most

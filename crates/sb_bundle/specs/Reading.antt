@@ -10,27 +10,27 @@ use Rattle.sb_bundle.specs.declared.refusal.BundleRefusal.{BundleRefusal}
 use Rattle.sb_bundle.specs.declared.refusal.BundleRefusal.TheVariants.{Magic, Version, Count, Range, Trailing}
 use Rattle.sb_bundle.specs.Limits.{core_limits, process_limits, frame_limits, key_limits, schedule_limits, text_limits, initial_limits, heap_limits}
 use Rattle.sb_bundle.specs.Spelling.{magic, version}
-use Rattle.sb_bundle.specs.Fields.{◌>>=◌, Field, and_then, offset, give, number, bytes_field, judged, is_within, many}
+use Rattle.sb_bundle.specs.Fields.{◌>>=◌, Field, and_then, offset, give, number, bytes_field, judged_field, is_within, many}
 
 -- a count of the header, of so many bytes
 unfoldable pub count : Limits → ℕ → Field ℕ
-count limits size = judged Count (is_within limits) (number size)
+count limits size = judged_field Count (is_within limits) (number size)
 
 -- a length of an image, or how many pages its heap has
 unfoldable pub length_field : Limits → Field ℕ
-length_field limits = judged Range (is_within limits) (number 4)
+length_field limits = judged_field Range (is_within limits) (number 4)
 
 -- the number of one of so many cores or processes
 unfoldable pub index : ℕ → ℕ → Field ℕ
-index bound size = judged Range (λ n. nat_lt n bound) (number size)
+index bound size = judged_field Range (λ n. nat_lt n bound) (number size)
 
 -- the first four bytes
 unfoldable pub magic_field : Field ℕ
-magic_field = judged Magic (λ n. n == little_number 4 magic) (number 4)
+magic_field = judged_field Magic (λ n. n == little_number 4 magic) (number 4)
 
 -- the only version that is read
 unfoldable pub version_field : Field ℕ
-version_field = judged Version (λ n. n == version) (number 2)
+version_field = judged_field Version (λ n. n == version) (number 2)
 
 -- the counts, each judged before the next is read
 unfoldable pub header : Field Header

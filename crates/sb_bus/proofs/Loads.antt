@@ -14,7 +14,8 @@ number_more : (lowest others : ℕ) (bytes : Result (List ℕ) BusStop) → and_
 number_more lowest others (Ok list) loaded = let same : number_of list ≡ others = cc in ap (λ (n : ℕ). Ok (lowest + 256 * n)) same
 number_more lowest others (Err stop) loaded = cc
 
-number_stop : (lowest : ℕ) (bytes : Result (List ℕ) BusStop) (stop : BusStop) → and_then bytes (λ list. Ok (number_of list)) ≡ Err stop
+number_stop : (lowest : ℕ) (bytes : Result (List ℕ) BusStop) (stop : BusStop)
+    → and_then bytes (λ list. Ok (number_of list)) ≡ Err stop
     → and_then (and_then bytes (λ list. Ok (lowest ∷ list))) (λ list. Ok (number_of list)) ≡ Err stop
 number_stop lowest (Ok list) stop loaded = cc
 number_stop lowest (Err other) stop loaded = loaded
@@ -28,11 +29,13 @@ loaded_stop byte address (suc count) stop some stops = rw stops refl
 
 -- a later one stops
 pub loaded_stop_later : (byte : ℕ → Result ℕ BusStop) (address size count lowest : ℕ) (stop : BusStop) → size ≡ count + 1
-    → byte address ≡ Ok lowest → loaded_from byte ((address + 1) % 2 ^ 64) count ≡ Err stop → loaded_from byte address size ≡ Err stop
+    → byte address ≡ Ok lowest → loaded_from byte ((address + 1) % 2 ^ 64) count ≡ Err stop
+    → loaded_from byte address size ≡ Err stop
 unfolding loaded_from bytes_from
 loaded_stop_later byte address zero count lowest stop next first later = absurd (omega arith)
 loaded_stop_later byte address (suc other) count lowest stop next first later =
-    let same : other ≡ count = omega arith in rw (first, same) (number_stop lowest (bytes_from byte ((address + 1) % 2 ^ 64) count) stop later)
+    let same : other ≡ count = omega arith in
+    rw (first, same) (number_stop lowest (bytes_from byte ((address + 1) % 2 ^ 64) count) stop later)
 
 -- all are there
 pub loaded_more : (byte : ℕ → Result ℕ BusStop) (address size count lowest others : ℕ) → size ≡ count + 1
@@ -41,10 +44,12 @@ pub loaded_more : (byte : ℕ → Result ℕ BusStop) (address size count lowest
 unfolding loaded_from bytes_from
 loaded_more byte address zero count lowest others next first later = absurd (omega arith)
 loaded_more byte address (suc other) count lowest others next first later =
-    let same : other ≡ count = omega arith in rw (first, same) (number_more lowest others (bytes_from byte ((address + 1) % 2 ^ 64) count) later)
+    let same : other ≡ count = omega arith in
+    rw (first, same) (number_more lowest others (bytes_from byte ((address + 1) % 2 ^ 64) count) later)
 
 -- a byte and a number below a power
-pub number_fits : (lowest others size count : ℕ) → size ≡ count + 1 → lowest < 256 → others < 256 ^ count → lowest + 256 * others < 256 ^ size
+pub number_fits : (lowest others size count : ℕ) → size ≡ count + 1 → lowest < 256 → others < 256 ^ count
+    → lowest + 256 * others < 256 ^ size
 number_fits lowest others zero count next low high = absurd (omega arith)
 number_fits lowest others (suc other) count next low high =
     let same : other ≡ count = omega arith in rw (pow-suc, same) (omega (arith, low, high))
@@ -57,11 +62,13 @@ number_below others size count next most below =
     let power : 256 ^ count ≤ 256 ^ 7 = pow-le-pow_right positive few in
     omega (arith, power, below)
 
-number_done : (bytes : Result (List ℕ) BusStop) (value : ℕ) → and_then bytes (λ list. Ok (number_of list)) ≡ Ok value → done bytes ≡ Ok tt
+number_done : (bytes : Result (List ℕ) BusStop) (value : ℕ) → and_then bytes (λ list. Ok (number_of list)) ≡ Ok value
+    → done bytes ≡ Ok tt
 number_done (Ok list) value loaded = refl
 number_done (Err stop) value loaded = cc
 
-number_not_done : (bytes : Result (List ℕ) BusStop) (stop : BusStop) → and_then bytes (λ list. Ok (number_of list)) ≡ Err stop → done bytes ≡ Err stop
+number_not_done : (bytes : Result (List ℕ) BusStop) (stop : BusStop) → and_then bytes (λ list. Ok (number_of list)) ≡ Err stop
+    → done bytes ≡ Err stop
 number_not_done (Ok list) stop loaded = cc
 number_not_done (Err other) stop loaded = cc
 
@@ -71,7 +78,8 @@ pub stored_where_loaded : (byte : ℕ → Result ℕ BusStop) (address size valu
 unfolding loaded_from store_answer
 stored_where_loaded byte address size value loaded = number_done (bytes_from byte address size) value loaded
 
-pub stops_where_loaded : (byte : ℕ → Result ℕ BusStop) (address size : ℕ) (stop : BusStop) → loaded_from byte address size ≡ Err stop
+pub stops_where_loaded : (byte : ℕ → Result ℕ BusStop) (address size : ℕ) (stop : BusStop)
+    → loaded_from byte address size ≡ Err stop
     → store_answer byte address size ≡ Err stop
 unfolding loaded_from store_answer
 stops_where_loaded byte address size stop loaded = number_not_done (bytes_from byte address size) stop loaded

@@ -29,7 +29,8 @@ bytes_stop claim byte all (suc count) address =
     then_stops ℕ (List ℕ) claim (byte address)
     (λ lowest. and_then (bytes_from byte ((address + 1) % 2 ^ 64) count) (λ others. Ok (lowest ∷ others)))
     (all address)
-    (λ lowest. then_stops (List ℕ) (List ℕ) claim (bytes_from byte ((address + 1) % 2 ^ 64) count) (λ others. Ok (lowest ∷ others))
+    (λ lowest. then_stops (List ℕ) (List ℕ) claim (bytes_from byte ((address + 1) % 2 ^ 64) count)
+    (λ others. Ok (lowest ∷ others))
     (bytes_stop claim byte all count ((address + 1) % 2 ^ 64)) (λ others. tt))
 
 -- a load's stop has the property

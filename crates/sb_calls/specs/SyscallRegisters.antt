@@ -17,18 +17,18 @@ after_syscall address regs = record {
 }
 
 -- the answer goes into RAX, and a second value into RDX
-abbrev pub answered : Regs → ℕ → ℕ → Regs
-answered regs answer second = record regs { general = slice_set (slice_set regs.general 0 answer) 2 second }
+abbrev pub regs_with_answer : Regs → ℕ → ℕ → Regs
+regs_with_answer regs answer second = record regs { general = slice_set (slice_set regs.general 0 answer) 2 second }
 
 -- after a bind: RAX is 0, RDX the index of the view, R8 its key, and R10 the address of its buffer
-abbrev pub bound_regs : Regs → ℕ → ℕ → ℕ → Regs
-bound_regs regs thread index key = record regs {
+abbrev pub regs_after_bind : Regs → ℕ → ℕ → ℕ → Regs
+regs_after_bind regs thread index key = record regs {
   general = slice_set (slice_set (slice_set (slice_set regs.general 0 0) 2 index) 8 key) 10 (buffer_address thread index);
 }
 
 -- a thread that is sent home from a server's view: R9 has the status of a server fault, and all else is 0
-unfoldable pub faulted_home : Regs
-faulted_home = record {
+unfoldable pub server_fault_regs : Regs
+server_fault_regs = record {
   general = slice_set (replicate 16 0) 9 (status_number ServerFault);
   rip = RETURN_ADDRESS;
   flags = CLEAR;

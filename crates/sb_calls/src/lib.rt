@@ -16,5 +16,5 @@ mod registers;
 mod views;
 
 pub use refusals::{EXECUTE_MODE, WRITE_MODE, bind_refusal, protect_refusal, register_refusal};
-pub use registers::{after_syscall, answered, bound_regs, faulted_home};
+pub use registers::{after_syscall, regs_after_bind, regs_with_answer, server_fault_regs};
 pub use views::{buffer_address, server_record};

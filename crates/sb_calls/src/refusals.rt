@@ -1,7 +1,7 @@
 //! Why system calls are refused, in the order of docs/FORMATS.md.
 
 ghost use Rattle.std.specs.Prelude.{◌≡◌, ◌<◌, ◌≤◌, ◌*◌, None, true};
-ghost use Rattle.sb_calls.specs.Refusals.{bind_refusal as bind_refusal_by, protect_refusal as protect_refusal_by, register_refusal as register_refusal_by};
+ghost use Rattle.sb_calls.specs.Refusals.{bind_refusal, protect_refusal, register_refusal};
 
 use sb_abi::{BIND_FRAMES, CallRefusal, MAX_BINDINGS, MAX_STACKS, STACK_PAGES};
 
@@ -21,7 +21,7 @@ pub fn register_refusal(
     stacks: u64,
     free: u32,
 ) -> Option<CallRefusal>
-    ensures refusal { result ≡ register_refusal_by view registered start stacks free }
+    ensures refusal { result ≡ register_refusal view registered start stacks free }
     ensures stacks { result ≡ None → stacks ≤ 16 }
     ensures frames { result ≡ None → 4 * stacks ≤ free }
 {
@@ -52,7 +52,7 @@ pub fn bind_refusal(
     keys: u32,
     free: u32,
 ) -> Option<CallRefusal>
-    ensures refusal { result ≡ bind_refusal_by view home process registered bindings keys free }
+    ensures refusal { result ≡ bind_refusal view home process registered bindings keys free }
     ensures registered { result ≡ None → registered ≡ true }
     ensures bindings { result ≡ None → bindings < 15 }
     ensures frames { result ≡ None → 10 ≤ free }
@@ -75,7 +75,7 @@ pub fn bind_refusal(
 /// Why a page of a heap of so many pages does not get a mode. That the bytes of VMFUNC may refuse it too is seen later.
 #[tactic(auto, unfolding(crate::specs::Refusals::protect_refusal))]
 pub fn protect_refusal(count: u32, page: u64, mode: u64) -> Option<CallRefusal>
-    ensures refusal { result ≡ protect_refusal_by count page mode }
+    ensures refusal { result ≡ protect_refusal count page mode }
     ensures page { result ≡ None → page < count }
 {
     if page >= u64::from(count) {

@@ -1,7 +1,7 @@
 //! The registers that a system call leaves.
 
 ghost use Rattle.std.specs.Prelude.{◌≡◌};
-ghost use Rattle.sb_calls.specs.SyscallRegisters.{after_syscall as after_syscall_by, answered as answered_by, bound_regs as bound_regs_by, faulted_home as faulted_home_by};
+ghost use Rattle.sb_calls.specs.SyscallRegisters.{after_syscall, regs_with_answer, regs_after_bind, server_fault_regs};
 
 use crate::views::buffer_address;
 use sb_abi::{CallStatus, RETURN_ADDRESS};
@@ -14,7 +14,7 @@ const FIXED_FLAGS: u64 = 0x202;
 /// The registers after a SYSCALL whose next instruction is at this address: it goes into RCX, and the flags into R11 (SDM
 /// volume 2, SYSCALL).
 pub fn after_syscall(address: u64, regs: &Regs) -> Regs
-    ensures { result ≡ after_syscall_by address regs.now }
+    ensures { result ≡ after_syscall address regs.now }
 {
     let mut general = regs.general;
     general[RCX] = address;
@@ -27,8 +27,8 @@ pub fn after_syscall(address: u64, regs: &Regs) -> Regs
 }
 
 /// The registers with the answer of a call in RAX, and a second value in RDX.
-pub fn answered(regs: &Regs, answer: u64, second: u64) -> Regs
-    ensures { result ≡ answered_by regs.now answer second }
+pub fn regs_with_answer(regs: &Regs, answer: u64, second: u64) -> Regs
+    ensures { result ≡ regs_with_answer regs.now answer second }
 {
     let mut general = regs.general;
     general[RAX] = answer;
@@ -38,8 +38,8 @@ pub fn answered(regs: &Regs, answer: u64, second: u64) -> Regs
 
 /// The registers after a bind of a thread: RAX is 0, RDX the index of the view, R8 its key, and R10 the address of its
 /// buffer.
-pub fn bound_regs(regs: &Regs, thread: u8, index: u16, key: u64) -> Regs
-    ensures { result ≡ bound_regs_by regs.now thread index key }
+pub fn regs_after_bind(regs: &Regs, thread: u8, index: u16, key: u64) -> Regs
+    ensures { result ≡ regs_after_bind regs.now thread index key }
 {
     let mut general = regs.general;
     general[RAX] = 0;
@@ -51,9 +51,9 @@ pub fn bound_regs(regs: &Regs, thread: u8, index: u16, key: u64) -> Regs
 
 /// The registers of a thread that is sent home from a server's view: 0 but for the status in R9 and RIP, so that nothing of
 /// the server is left in them.
-#[tactic(auto, unfolding(crate::specs::SyscallRegisters::faulted_home))]
-pub fn faulted_home() -> Regs
-    ensures { result ≡ faulted_home_by }
+#[tactic(auto, unfolding(crate::specs::SyscallRegisters::server_fault_regs))]
+pub fn server_fault_regs() -> Regs
+    ensures { result ≡ server_fault_regs }
 {
     let mut general = [0; 16];
     general[R9] = CallStatus::ServerFault.number();

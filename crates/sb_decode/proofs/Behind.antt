@@ -40,7 +40,8 @@ GoodEnd disp_kind imm_kind end = GoodDisp disp_kind end.0 × GoodImm imm_kind en
 abbrev spell_end : Disp × Imm → List ℕ
 spell_end end = disp_bytes end.0 ++ imm_bytes end.1
 
-end_reads : (disp_kind : DispKind) (imm_kind : ImmKind) → Reads (Disp × Imm) (GoodEnd disp_kind imm_kind) spell_end (and_then (disp_at disp_kind) (λ d. imm_at imm_kind))
+end_reads : (disp_kind : DispKind) (imm_kind : ImmKind)
+    → Reads (Disp × Imm) (GoodEnd disp_kind imm_kind) spell_end (and_then (disp_at disp_kind) (λ d. imm_at imm_kind))
 end_reads disp_kind imm_kind =
     both Disp Imm (GoodDisp disp_kind) (λ d. GoodImm imm_kind) disp_bytes imm_bytes (disp_at disp_kind) (λ d. imm_at imm_kind)
     (disp_reads disp_kind) (λ d good. imm_reads imm_kind) (λ d good. some_imm imm_kind)
@@ -57,14 +58,18 @@ abbrev spell_behind : Option ℕ × (Disp × Imm) → List ℕ
 spell_behind behind = option_to_list behind.0 ++ spell_end behind.1
 
 behind_reads : (modrm : Option ℕ) (imm_kind : ImmKind)
-    → Reads (Option ℕ × (Disp × Imm)) (GoodBehind modrm imm_kind) spell_behind (and_then (sib_at modrm) (λ sib. and_then (disp_at (disp_kind_of modrm sib)) (λ d. imm_at imm_kind)))
+    → Reads (Option ℕ × (Disp × Imm)) (GoodBehind modrm imm_kind) spell_behind
+    (and_then (sib_at modrm) (λ sib. and_then (disp_at (disp_kind_of modrm sib)) (λ d. imm_at imm_kind)))
 behind_reads modrm imm_kind =
-    both (Option ℕ) (Disp × Imm) (GoodSib modrm) (λ sib. GoodEnd (disp_kind_of modrm sib) imm_kind) (λ sib. option_to_list sib) spell_end
+    both (Option ℕ) (Disp × Imm) (GoodSib modrm) (λ sib. GoodEnd (disp_kind_of modrm sib) imm_kind)
+    (λ sib. option_to_list sib) spell_end
     (sib_at modrm) (λ sib. and_then (disp_at (disp_kind_of modrm sib)) (λ d. imm_at imm_kind))
-    (sib_reads modrm) (λ sib good. end_reads (disp_kind_of modrm sib) imm_kind) (λ sib good. some_end (disp_kind_of modrm sib) imm_kind)
+    (sib_reads modrm) (λ sib good. end_reads (disp_kind_of modrm sib) imm_kind)
+    (λ sib good. some_end (disp_kind_of modrm sib) imm_kind)
 
 some_behind : (modrm : Option ℕ) (imm_kind : ImmKind) → (behind : Option ℕ × (Disp × Imm)) × GoodBehind modrm imm_kind behind
-some_behind modrm imm_kind = let sib = some_sib modrm in let end = some_end (disp_kind_of modrm sib.0) imm_kind in ((sib.0, end.0), (sib.1, end.1))
+some_behind modrm imm_kind = let sib = some_sib modrm in let end = some_end (disp_kind_of modrm sib.0) imm_kind in
+    ((sib.0, end.0), (sib.1, end.1))
 
 -- ---- behind the opcode
 
@@ -75,7 +80,8 @@ abbrev imm_kind_at : Front → Option ℕ → ImmKind
 imm_kind_at front modrm = imm_kind_of (rule_of (cell_of front.op) modrm) front.rex
 
 abbrev pub GoodRest : Front → Rest → Type 0
-GoodRest front rest = GoodModrm (cell_of front.op) front.lock front.rex rest.0 × GoodBehind rest.0 (imm_kind_at front rest.0) rest.1
+GoodRest front rest =
+    GoodModrm (cell_of front.op) front.lock front.rex rest.0 × GoodBehind rest.0 (imm_kind_at front rest.0) rest.1
 
 abbrev pub spell_rest : Rest → List ℕ
 spell_rest rest = option_to_list rest.0 ++ spell_behind rest.1
@@ -83,13 +89,16 @@ spell_rest rest = option_to_list rest.0 ++ spell_behind rest.1
 abbrev pub rest_at : Front → List ℕ → Read Rest
 rest_at front =
     and_then (modrm_at (cell_of front.op) front.lock front.rex)
-    (λ modrm. and_then (sib_at modrm) (λ sib. and_then (disp_at (disp_kind_of modrm sib)) (λ d. imm_at (imm_kind_at front modrm))))
+    (λ modrm. and_then (sib_at modrm)
+    (λ sib. and_then (disp_at (disp_kind_of modrm sib)) (λ d. imm_at (imm_kind_at front modrm))))
 
 pub rest_reads : (front : Front) → GoodFront front → Reads Rest (GoodRest front) spell_rest (rest_at front)
 rest_reads front good =
-    both (Option ℕ) (Option ℕ × (Disp × Imm)) (GoodModrm (cell_of front.op) front.lock front.rex) (λ modrm. GoodBehind modrm (imm_kind_at front modrm)) (λ modrm. option_to_list modrm) spell_behind
+    both (Option ℕ) (Option ℕ × (Disp × Imm)) (GoodModrm (cell_of front.op) front.lock front.rex)
+    (λ modrm. GoodBehind modrm (imm_kind_at front modrm)) (λ modrm. option_to_list modrm) spell_behind
     (modrm_at (cell_of front.op) front.lock front.rex)
-    (λ modrm. and_then (sib_at modrm) (λ sib. and_then (disp_at (disp_kind_of modrm sib)) (λ d. imm_at (imm_kind_at front modrm))))
+    (λ modrm. and_then (sib_at modrm)
+    (λ sib. and_then (disp_at (disp_kind_of modrm sib)) (λ d. imm_at (imm_kind_at front modrm))))
     (modrm_reads (cell_of front.op) front.lock front.rex good.takes)
     (λ modrm fits. behind_reads modrm (imm_kind_at front modrm)) (λ modrm fits. some_behind modrm (imm_kind_at front modrm))
 

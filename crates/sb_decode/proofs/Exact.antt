@@ -59,11 +59,14 @@ good_parts insn valid = (
 
 one_begins_with : (i j : Insn) → IsValid i → IsValid j → (x y : List ℕ) → spelling i ++ x ≡ spelling j ++ y → i ≡ j
 one_begins_with i j v w x y e =
-    let same = one Parts GoodParts spell_parts parts_at parts_reads (parts_of i) (parts_of j) x y (good_parts i v) (good_parts j w) e in
+    let same =
+    one Parts GoodParts spell_parts parts_at parts_reads (parts_of i) (parts_of j) x y (good_parts i v)
+    (good_parts j w) e in
     ap (λ (p : Parts). insn_of p) same.0
 
 pub none_begins_another : NoneBeginsAnother
-none_begins_another first second rest v w e = one_begins_with first second v w rest [] (sym e ∙ sym (append-nil (spelling second)))
+none_begins_another first second rest v w e =
+    one_begins_with first second v w rest [] (sym e ∙ sym (append-nil (spelling second)))
 
 pub one_begins : OneBegins
 one_begins bytes first second a b = one_begins_with first second a.0 b.0 a.1.0 b.1.0 (sym a.1.1 ∙ b.1.1)
@@ -73,11 +76,16 @@ spelled_apart bytes first second a b = one_begins_with first second a.0 b.0 [] [
 
 -- ---- what the decoder answers
 
-begins_read : (bytes : List ℕ) (insn : Insn) → BeginsWith bytes insn → (rest : List ℕ) × (parts_at bytes ≡ Ok (parts_of insn, rest))
-begins_read bytes insn begins =
-    (begins.1.0, ap (λ (t : List ℕ). parts_at t) begins.1.1 ∙ parts_reads.again (parts_of insn) begins.1.0 (good_parts insn begins.0))
+begins_read : (bytes : List ℕ) (insn : Insn) → BeginsWith bytes insn
+    → (rest : List ℕ) × (parts_at bytes ≡ Ok (parts_of insn, rest))
+begins_read bytes insn begins = (
+  begins.1.0,
+  ap (λ (t : List ℕ). parts_at t) begins.1.1
+      ∙ parts_reads.again (parts_of insn) begins.1.0 (good_parts insn begins.0),
+)
 
-from_parts_ok : (q : Read Parts) (y : Insn × List ℕ) → from_parts q ≡ Ok y → (x : Parts × List ℕ) × (q ≡ Ok x) × ((insn_of x.0, x.1) ≡ y)
+from_parts_ok : (q : Read Parts) (y : Insn × List ℕ) → from_parts q ≡ Ok y
+    → (x : Parts × List ℕ) × (q ≡ Ok x) × ((insn_of x.0, x.1) ≡ y)
 from_parts_ok (Ok x) y e = (x, refl, cc)
 from_parts_ok (Err d) y e = absurd cc
 
@@ -91,7 +99,8 @@ from_parts_err (Err c) fault e = let same : c ≡ fault = cc in ap (λ (z : Deco
 not_both : (q : Read Parts) (x : Parts × List ℕ) (fault : DecodeFault) → q ≡ Ok x → q ≡ Err fault → ⊥
 not_both q x fault e f = cc
 
-pub found : (bytes : List ℕ) (insn : Insn) (rest : List ℕ) → IsBytes bytes → from_parts (parts_at bytes) ≡ Ok (insn, rest) → IsValid insn × (bytes ≡ spelling insn ++ rest)
+pub found : (bytes : List ℕ) (insn : Insn) (rest : List ℕ) → IsBytes bytes → from_parts (parts_at bytes) ≡ Ok (insn, rest)
+    → IsValid insn × (bytes ≡ spelling insn ++ rest)
 found bytes insn rest fits e =
     let x = from_parts_ok (parts_at bytes) (insn, rest) e in
     let t = parts_reads.takes bytes x.0.0 x.0.1 fits x.1 in
@@ -101,8 +110,11 @@ is_short : (bytes : List ℕ) → IsBytes bytes → from_parts (parts_at bytes) 
 is_short bytes fits e =
     let none = from_parts_err (parts_at bytes) Short e in
     let o = parts_reads.opens bytes fits none in
-    let whole : bytes ++ o.0 ≡ spelling (insn_of o.1) ++ [] = o.3 ∙ sym (append-nil (spell_parts o.1)) in
-    (λ insn begins. let r = begins_read bytes insn begins in not_both (parts_at bytes) (parts_of insn, r.0) Short r.1 none, (o.0, insn_of o.1, (valid_parts o.1 o.2, ([], whole))))
+    let whole : bytes ++ o.0 ≡ spelling (insn_of o.1) ++ [] = o.3 ∙ sym (append-nil (spell_parts o.1)) in (
+      λ insn begins. let r = begins_read bytes insn begins in
+          not_both (parts_at bytes) (parts_of insn, r.0) Short r.1 none,
+      (o.0, insn_of o.1, (valid_parts o.1 o.2, ([], whole))),
+    )
 
 is_undecoded : (bytes : List ℕ) → IsBytes bytes → from_parts (parts_at bytes) ≡ Err Undecoded → IsUndecoded bytes
 is_undecoded bytes fits e = λ more insn begins.
@@ -111,14 +123,18 @@ is_undecoded bytes fits e = λ more insn begins.
     let r = begins_read (bytes ++ more) insn begins in
     not_both (parts_at (bytes ++ more)) (parts_of insn, r.0) Undecoded r.1 still
 
-pub refused : (bytes : List ℕ) (fault : DecodeFault) → IsBytes bytes → from_parts (parts_at bytes) ≡ Err fault → Decodes bytes (Err fault)
+pub refused : (bytes : List ℕ) (fault : DecodeFault) → IsBytes bytes → from_parts (parts_at bytes) ≡ Err fault
+    → Decodes bytes (Err fault)
 refused bytes Short fits e = is_short bytes fits e
 refused bytes Undecoded fits e = is_undecoded bytes fits e
 
-pub shorter : (bytes : List ℕ) (insn : Insn) (rest : List ℕ) → IsBytes bytes → from_parts (parts_at bytes) ≡ Ok (insn, rest) → length rest ≤ length bytes
-shorter bytes insn rest fits e = let f = found bytes insn rest fits e in omega (arith, ap (λ (t : List ℕ). length t) f.1, length-append (spelling insn) rest)
+pub shorter : (bytes : List ℕ) (insn : Insn) (rest : List ℕ) → IsBytes bytes → from_parts (parts_at bytes) ≡ Ok (insn, rest)
+    → length rest ≤ length bytes
+shorter bytes insn rest fits e = let f = found bytes insn rest fits e in
+    omega (arith, ap (λ (t : List ℕ). length t) f.1, length-append (spelling insn) rest)
 
-pub decoded : (bytes : List ℕ) (insn : Insn) (rest : List ℕ) → IsBytes bytes → from_parts (parts_at bytes) ≡ Ok (insn, rest) → Decodes bytes (Ok (insn, length bytes - length rest))
+pub decoded : (bytes : List ℕ) (insn : Insn) (rest : List ℕ) → IsBytes bytes → from_parts (parts_at bytes) ≡ Ok (insn, rest)
+    → Decodes bytes (Ok (insn, length bytes - length rest))
 decoded bytes insn rest fits e =
     let f = found bytes insn rest fits e in
     ((f.0, (rest, f.1)), omega (arith, ap (λ (t : List ℕ). length t) f.1, length-append (spelling insn) rest))
@@ -136,21 +152,26 @@ spelling_some insn =
     omega (
       arith,
       op_some insn.op,
-      length-append (front_bytes insn.lock insn.rex insn.op) (option_to_list insn.modrm ++ (option_to_list insn.sib ++ (disp_bytes insn.disp ++ imm_bytes insn.imm))),
+      length-append (front_bytes insn.lock insn.rex insn.op)
+          (option_to_list insn.modrm ++ (option_to_list insn.sib ++ (disp_bytes insn.disp ++ imm_bytes insn.imm))),
       length-append (lock_bytes insn.lock) (option_to_list insn.rex ++ op_bytes insn.op),
       length-append (option_to_list insn.rex) (op_bytes insn.op),
     )
 
-pub found_some : (bytes : List ℕ) (insn : Insn) (rest : List ℕ) → IsBytes bytes → from_parts (parts_at bytes) ≡ Ok (insn, rest) → 0 < length bytes - length rest
+pub found_some : (bytes : List ℕ) (insn : Insn) (rest : List ℕ) → IsBytes bytes
+    → from_parts (parts_at bytes) ≡ Ok (insn, rest) → 0 < length bytes - length rest
 found_some bytes insn rest fits e =
     let f = found bytes insn rest fits e in
     omega (arith, spelling_some insn, ap (λ (t : List ℕ). length t) f.1, length-append (spelling insn) rest)
 
-short_13_by : (bytes more : List ℕ) (insn : Insn) → IsValid insn → (BeginsWith bytes insn → ⊥) → bytes ++ more ≡ spelling insn → length bytes < 13
+short_13_by : (bytes more : List ℕ) (insn : Insn) → IsValid insn → (BeginsWith bytes insn → ⊥) → bytes ++ more ≡ spelling insn
+    → length bytes < 13
 short_13_by bytes [] insn v none e = absurd (none (v, ([], sym (append-nil bytes) ∙ e ∙ sym (append-nil (spelling insn)))))
-short_13_by bytes (b ∷ more) insn v none e = omega (arith, spelling_13 insn v, ap (λ (t : List ℕ). length t) e, length-append bytes (b ∷ more))
+short_13_by bytes (b ∷ more) insn v none e =
+    omega (arith, spelling_13 insn v, ap (λ (t : List ℕ). length t) e, length-append bytes (b ∷ more))
 
-pub short_13 : (bytes : List ℕ) (fault : DecodeFault) → IsBytes bytes → from_parts (parts_at bytes) ≡ Err fault → failed {A = Insn × ℕ} fault ≡ Err Short → length bytes < 13
+pub short_13 : (bytes : List ℕ) (fault : DecodeFault) → IsBytes bytes → from_parts (parts_at bytes) ≡ Err fault
+    → failed {A = Insn × ℕ} fault ≡ Err Short → length bytes < 13
 short_13 bytes Short fits e is =
     let o = parts_reads.opens bytes fits (from_parts_err (parts_at bytes) Short e) in
     short_13_by bytes o.0 (insn_of o.1) (valid_parts o.1 o.2) ((is_short bytes fits e).0 (insn_of o.1)) o.3

@@ -30,17 +30,20 @@ no_rex byte e = grind (arith, nat_tests)
 
 -- an absent opcode takes no prefixes
 not_absent : (cell : Cell) (lock : Bool) (rex : Option ℕ) → takes_prefixes cell lock rex ≡ true → cell ≡ Absent → ⊥
-not_absent cell lock rex takes e = let bad : takes_prefixes Absent lock rex ≡ true = subst (λ (z : Cell). takes_prefixes z lock rex ≡ true) e takes in cc
+not_absent cell lock rex takes e =
+    let bad : takes_prefixes Absent lock rex ≡ true = subst (λ (z : Cell). takes_prefixes z lock rex ≡ true) e takes in cc
 
 -- an opcode of a map is none that the map leaves out
-pub differs : (map : ℕ → Cell) (opcode out : ℕ) (lock : Bool) (rex : Option ℕ) → takes_prefixes (map opcode) lock rex ≡ true → map out ≡ Absent → eqb opcode out ≡ false
+pub differs : (map : ℕ → Cell) (opcode out : ℕ) (lock : Bool) (rex : Option ℕ) → takes_prefixes (map opcode) lock rex ≡ true
+    → map out ≡ Absent → eqb opcode out ≡ false
 differs map opcode out lock rex takes absent =
     elim (eqb opcode out) as (λ t. eqb opcode out ≡ t → t ≡ false) [
       | true ↦ λ e. absurd (not_absent (map opcode) lock rex takes (ap (λ (k : ℕ). map k) (eqb-true _ _ e) ∙ absent))
       | false ↦ λ e. refl
     ] refl
 
-pub is_no_rex : (opcode : ℕ) (lock : Bool) (rex : Option ℕ) → takes_prefixes (one_byte opcode) lock rex ≡ true → is_rex opcode ≡ false
+pub is_no_rex : (opcode : ℕ) (lock : Bool) (rex : Option ℕ) → takes_prefixes (one_byte opcode) lock rex ≡ true
+    → is_rex opcode ≡ false
 is_no_rex opcode lock rex takes =
     elim (is_rex opcode) as (λ t. is_rex opcode ≡ t → t ≡ false) [
       | true ↦ λ e. absurd (not_absent (one_byte opcode) lock rex takes (no_rex opcode e))

@@ -39,7 +39,8 @@ guard_err false c d x e = absurd cc
 
 pub record IsWide (width : Width) : Type 0 where
   pub len : (n : ℕ) → length (to_le_bytes width n) ≡ byte_len width
-  pub back : (bytes : List ℕ) → length bytes ≡ byte_len width → IsBytes bytes → to_le_bytes width (from_le_bytes width bytes) ≡ bytes
+  pub back : (bytes : List ℕ) → length bytes ≡ byte_len width → IsBytes bytes
+      → to_le_bytes width (from_le_bytes width bytes) ≡ bytes
   pub again : (n : ℕ) → Fits width n → from_le_bytes width (to_le_bytes width n) ≡ n
   pub below : (bytes : List ℕ) → IsBytes bytes → Fits width (from_le_bytes width bytes)
 
@@ -73,45 +74,76 @@ wide64 = record {
 }
 
 -- the number that bytes spell
-spelled : (width : Width) → IsWide width → (bytes : List ℕ) → length bytes ≡ byte_len width → IsBytes bytes → FitsSigned width (cast_signed width (from_le_bytes width bytes)) × (number width (cast_signed width (from_le_bytes width bytes)) ≡ bytes)
+spelled : (width : Width) → IsWide width → (bytes : List ℕ) → length bytes ≡ byte_len width → IsBytes bytes
+    → FitsSigned width (cast_signed width (from_le_bytes width bytes))
+    × (number width (cast_signed width (from_le_bytes width bytes)) ≡ bytes)
 spelled width wide bytes len fits =
-    let below : Fits width (from_le_bytes width bytes) = wide.below bytes fits in
-    (sfits_to_z {w = width} {n = from_le_bytes width bytes} below, ap (λ (n : ℕ). to_le_bytes width n) (of_z-to_z {w = width} {n = from_le_bytes width bytes} below) ∙ wide.back bytes len fits)
+    let below : Fits width (from_le_bytes width bytes) = wide.below bytes fits in (
+      sfits_to_z {w = width} {n = from_le_bytes width bytes} below,
+      ap (λ (n : ℕ). to_le_bytes width n) (of_z-to_z {w = width} {n = from_le_bytes width bytes} below)
+          ∙ wide.back bytes len fits,
+    )
 
-number_takes : (width : Width) → IsWide width → (bytes : List ℕ) (value : ℤ) (rest : List ℕ) → IsBytes bytes → number_at width bytes ≡ Ok (value, rest) → FitsSigned width value × (bytes ≡ number width value ++ rest)
+number_takes : (width : Width) → IsWide width → (bytes : List ℕ) (value : ℤ) (rest : List ℕ) → IsBytes bytes
+    → number_at width bytes ≡ Ok (value, rest) → FitsSigned width value × (bytes ≡ number width value ++ rest)
 unfolding number_at
 number_takes width wide bytes value rest fits e =
-    let g = guard_ok (ltb (length bytes) (byte_len width)) Short (cast_signed width (from_le_bytes width (take (byte_len width) bytes)), drop (byte_len width) bytes) (value, rest) e in
+    let g = guard_ok (ltb (length bytes) (byte_len width)) Short
+    (cast_signed width (from_le_bytes width (take (byte_len width) bytes)), drop (byte_len width) bytes) (value, rest) e in
     let long : byte_len width ≤ length bytes = ltb-false _ _ g.0 in
-    let s = spelled width wide (take (byte_len width) bytes) (omega (arith, length-take (byte_len width) bytes)) (IsBytes-take (byte_len width) bytes fits) in
-    let parts : bytes ≡ number width (cast_signed width (from_le_bytes width (take (byte_len width) bytes))) ++ drop (byte_len width) bytes = sym (take-append-drop (byte_len width) bytes) ∙ ap (λ (t : List ℕ). t ++ drop (byte_len width) bytes) (sym s.1) in
+    let s = spelled width wide (take (byte_len width) bytes) (omega (arith, length-take (byte_len width) bytes))
+    (IsBytes-take (byte_len width) bytes fits) in
+    let parts : bytes ≡ number width (cast_signed width (from_le_bytes width (take (byte_len width) bytes))) ++ drop
+    (byte_len width) bytes =
+    sym (take-append-drop (byte_len width) bytes) ∙ ap (λ (t : List ℕ). t ++ drop (byte_len width) bytes) (sym s.1) in
     subst (λ (z : ℤ × List ℕ). FitsSigned width z.0 × (bytes ≡ number width z.0 ++ z.1)) g.1 (s.0, parts)
 
-number_again : (width : Width) → IsWide width → (value : ℤ) (rest : List ℕ) → FitsSigned width value → number_at width (number width value ++ rest) ≡ Ok (value, rest)
+number_again : (width : Width) → IsWide width → (value : ℤ) (rest : List ℕ) → FitsSigned width value
+    → number_at width (number width value ++ rest) ≡ Ok (value, rest)
 unfolding number_at
 number_again width wide value rest fits =
     let n = cast_unsigned width value in
     let len = wide.len n in
-    let long : ltb (length (to_le_bytes width n ++ rest)) (byte_len width) ≡ false = le-ltb _ _ (omega (arith, length-append (to_le_bytes width n) rest)) in
+    let long : ltb (length (to_le_bytes width n ++ rest)) (byte_len width) ≡ false =
+    le-ltb _ _ (omega (arith, length-append (to_le_bytes width n) rest)) in
     let back : cast_signed width (cast_unsigned width value) ≡ value = to_z-of_z {w = width} {z = value} fits in
-    rw (long, take_at (to_le_bytes width n) rest (byte_len width) len, drop_at (to_le_bytes width n) rest (byte_len width) len, wide.again n (Fits-of_z {w = width} {z = value} fits), back) refl
+    rw (
+      long,
+      take_at (to_le_bytes width n) rest (byte_len width) len,
+      drop_at (to_le_bytes width n) rest (byte_len width) len,
+      wide.again n (Fits-of_z {w = width} {z = value} fits),
+      back,
+    ) refl
 
-number_final : (width : Width) (bytes more : List ℕ) → IsBytes bytes → number_at width bytes ≡ Err Undecoded → number_at width (bytes ++ more) ≡ Err Undecoded
+number_final : (width : Width) (bytes more : List ℕ) → IsBytes bytes → number_at width bytes ≡ Err Undecoded
+    → number_at width (bytes ++ more) ≡ Err Undecoded
 unfolding number_at
 number_final width bytes more fits e =
-    let g = guard_err (ltb (length bytes) (byte_len width)) Short Undecoded (cast_signed width (from_le_bytes width (take (byte_len width) bytes)), drop (byte_len width) bytes) e in
+    let g = guard_err (ltb (length bytes) (byte_len width)) Short Undecoded
+    (cast_signed width (from_le_bytes width (take (byte_len width) bytes)), drop (byte_len width) bytes) e in
     let wrong : Short ≡ Undecoded = g.1 in
     absurd cc
 
-number_opens : (width : Width) → IsWide width → (bytes : List ℕ) → IsBytes bytes → number_at width bytes ≡ Err Short → (more : List ℕ) × (value : ℤ) × FitsSigned width value × (bytes ++ more ≡ number width value)
+number_opens : (width : Width) → IsWide width → (bytes : List ℕ) → IsBytes bytes → number_at width bytes ≡ Err Short
+    → (more : List ℕ) × (value : ℤ) × FitsSigned width value × (bytes ++ more ≡ number width value)
 unfolding number_at
 number_opens width wide bytes fits e =
-    let g = guard_err (ltb (length bytes) (byte_len width)) Short Short (cast_signed width (from_le_bytes width (take (byte_len width) bytes)), drop (byte_len width) bytes) e in
+    let g = guard_err (ltb (length bytes) (byte_len width)) Short Short
+    (cast_signed width (from_le_bytes width (take (byte_len width) bytes)), drop (byte_len width) bytes) e in
     let short : length bytes < byte_len width = ltb-true _ _ g.0 in
     let zeros : List ℕ = replicate (byte_len width - length bytes) 0 in
-    let len : length (bytes ++ zeros) ≡ byte_len width = omega (arith, length-append bytes zeros, length-replicate {A = ℕ} (byte_len width - length bytes) 0) in
-    let s = spelled width wide (bytes ++ zeros) len (IsBytes-append bytes zeros fits (IsBytes-zeros (byte_len width - length bytes))) in
+    let len : length (bytes ++ zeros) ≡ byte_len width =
+    omega (arith, length-append bytes zeros, length-replicate {A = ℕ} (byte_len width - length bytes) 0) in
+    let s = spelled width wide (bytes ++ zeros) len
+    (IsBytes-append bytes zeros fits (IsBytes-zeros (byte_len width - length bytes))) in
     (zeros, cast_signed width (from_le_bytes width (bytes ++ zeros)), s.0, sym s.1)
 
-pub number_reads : (width : Width) → IsWide width → Reads ℤ (λ value. FitsSigned width value) (λ value. number width value) (number_at width)
-number_reads width wide = record { takes = number_takes width wide; again = number_again width wide; final = number_final width; opens = number_opens width wide }
+pub number_reads : (width : Width) → IsWide width
+    → Reads ℤ (λ value. FitsSigned width value) (λ value. number width value) (number_at width)
+number_reads width wide =
+    record {
+      takes = number_takes width wide;
+      again = number_again width wide;
+      final = number_final width;
+      opens = number_opens width wide;
+    }

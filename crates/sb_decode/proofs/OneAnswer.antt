@@ -10,7 +10,8 @@ use Rattle.sb_decode.specs.Decode.{OneAnswer}
 use Rattle.sb_decode.proofs.Exact.{one_begins}
 
 begins_undecoded : (bytes : List ℕ) (insn : Insn) → BeginsWith bytes insn → IsUndecoded bytes → ⊥
-begins_undecoded bytes insn begins undecoded = undecoded [] insn (subst (λ (t : List ℕ). BeginsWith t insn) (sym (append-nil bytes)) begins)
+begins_undecoded bytes insn begins undecoded =
+    undecoded [] insn (subst (λ (t : List ℕ). BeginsWith t insn) (sym (append-nil bytes)) begins)
 
 -- bytes that some longer input completes are not undecoded
 pub short_undecoded : (bytes : List ℕ) → IsShort bytes → IsUndecoded bytes → ⊥

@@ -8,19 +8,21 @@ use Rattle.sb_insn.specs.Spelling.{op_bytes}
 use Rattle.sb_decode.specs.declared.fault.DecodeFault.TheVariants.{Short, Undecoded}
 use Rattle.sb_decode.specs.declared.front.Front.{Front}
 use Rattle.sb_decode.specs.Reading.{Read}
-use Rattle.sb_decode.specs.FrontReader.{front_of, takes_prefixes, checked, expected, ending, second_at, opcode_at}
+use Rattle.sb_decode.specs.FrontReader.{front_of, takes_prefixes, checked_front, expected_byte, ending, second_at, opcode_at}
 use Rattle.sb_decode.proofs.LeftOut.{no_0F, no_F3, no_0F_01, differs}
 use Rattle.sb_decode.proofs.Reader.{by_test}
 
 -- ---- what is spelled so is read
 
-pub again_opcode : (lock : Bool) (rex : Option ℕ) (op : Op) (rest : List ℕ) → takes_prefixes (cell_of op) lock rex ≡ true → opcode_at lock rex (op_bytes op ++ rest) ≡ Ok (front_of lock rex op, rest)
+pub again_opcode : (lock : Bool) (rex : Option ℕ) (op : Op) (rest : List ℕ) → takes_prefixes (cell_of op) lock rex ≡ true
+    → opcode_at lock rex (op_bytes op ++ rest) ≡ Ok (front_of lock rex op, rest)
 unfolding opcode_at second_at
 again_opcode lock rex (One opcode) rest takes =
     let not_0F = differs one_byte opcode 0x0F lock rex takes no_0F in
     let not_F3 = differs one_byte opcode 0xF3 lock rex takes no_F3 in
     rw (not_0F, not_F3, takes) refl
-again_opcode lock rex (Two opcode) rest takes = let not_01 = differs two_byte opcode 0x01 lock rex takes no_0F_01 in rw (not_01, takes) refl
+again_opcode lock rex (Two opcode) rest takes = let not_01 = differs two_byte opcode 0x01 lock rex takes no_0F_01 in
+    rw (not_01, takes) refl
 again_opcode lock rex Endbr rest takes = rw takes refl
 again_opcode lock rex Vmfunc rest takes = rw takes refl
 
@@ -30,7 +32,7 @@ again_opcode lock rex Vmfunc rest takes = rw takes refl
 abbrev ToldExpected : List ℕ → Front → List ℕ → Read Front → Type 0
 ToldExpected wanted front bytes (Ok got) = (got.0 ≡ front) × (bytes ≡ wanted ++ got.1)
 ToldExpected wanted front bytes (Err Short) = (more : List ℕ) × (bytes ++ more ≡ wanted)
-ToldExpected wanted front bytes (Err Undecoded) = (more : List ℕ) → expected wanted front (bytes ++ more) ≡ Err Undecoded
+ToldExpected wanted front bytes (Err Undecoded) = (more : List ℕ) → expected_byte wanted front (bytes ++ more) ≡ Err Undecoded
 
 one_more : (want byte : ℕ) (wanted : List ℕ) (front : Front) (rest : List ℕ) (q : Read Front) → eqb byte want ≡ true → byte ≡ want
     → ToldExpected wanted front rest q → ToldExpected (want ∷ wanted) front (byte ∷ rest) q
@@ -38,49 +40,65 @@ one_more want byte wanted front rest (Ok got) t e told = (told.0, cc (told.1, e)
 one_more want byte wanted front rest (Err Short) t e told = (told.0, cc (told.1, e))
 one_more want byte wanted front rest (Err Undecoded) t e told = λ more. rw t (told more)
 
-told_expected : (wanted : List ℕ) (front : Front) (bytes : List ℕ) → ToldExpected wanted front bytes (expected wanted front bytes)
+told_expected : (wanted : List ℕ) (front : Front) (bytes : List ℕ)
+    → ToldExpected wanted front bytes (expected_byte wanted front bytes)
 told_expected [] front bytes = (refl, refl)
 told_expected (want ∷ wanted) front [] = (want ∷ wanted, refl)
 told_expected (want ∷ wanted) front (byte ∷ rest) =
-    by_test (λ (q : Read Front). ToldExpected (want ∷ wanted) front (byte ∷ rest) q) (eqb byte want) (expected wanted front rest) (Err Undecoded)
-    (λ t. one_more want byte wanted front rest (expected wanted front rest) t (eqb-true _ _ t) (told_expected wanted front rest))
+    by_test (λ (q : Read Front). ToldExpected (want ∷ wanted) front (byte ∷ rest) q) (eqb byte want)
+    (expected_byte wanted front rest) (Err Undecoded)
+    (λ t. one_more want byte wanted front rest (expected_byte wanted front rest) t (eqb-true _ _ t)
+    (told_expected wanted front rest))
     (λ t more. rw t refl)
 
 -- what the reader says of the bytes behind these prefixes and the bytes of the opcode that are read already
 abbrev pub Told : (List ℕ → Read Front) → List ℕ → Bool → Option ℕ → List ℕ → Read Front → Type 0
-Told read before lock rex bytes (Ok got) = (op : Op) × (front_of lock rex op ≡ got.0) × (takes_prefixes (cell_of op) lock rex ≡ true) × (before ++ bytes ≡ op_bytes op ++ got.1)
-Told read before lock rex bytes (Err Short) = (more : List ℕ) × (op : Op) × (takes_prefixes (cell_of op) lock rex ≡ true) × ((before ++ bytes) ++ more ≡ op_bytes op)
+Told read before lock rex bytes (Ok got) =
+    (op : Op) × (front_of lock rex op ≡ got.0) × (takes_prefixes (cell_of op) lock rex ≡ true)
+    × (before ++ bytes ≡ op_bytes op ++ got.1)
+Told read before lock rex bytes (Err Short) =
+    (more : List ℕ) × (op : Op) × (takes_prefixes (cell_of op) lock rex ≡ true) × ((before ++ bytes) ++ more ≡ op_bytes op)
 Told read before lock rex bytes (Err Undecoded) = (more : List ℕ) → read (bytes ++ more) ≡ Err Undecoded
 
-ending_by : (wanted before : List ℕ) (lock : Bool) (rex : Option ℕ) (op : Op) (bytes : List ℕ) → op_bytes op ≡ before ++ wanted → takes_prefixes (cell_of op) lock rex ≡ true
-    → (q : Read Front) → ToldExpected wanted (front_of lock rex op) bytes q → Told (ending wanted (front_of lock rex op)) before lock rex bytes q
+ending_by : (wanted before : List ℕ) (lock : Bool) (rex : Option ℕ) (op : Op) (bytes : List ℕ)
+    → op_bytes op ≡ before ++ wanted → takes_prefixes (cell_of op) lock rex ≡ true
+    → (q : Read Front) → ToldExpected wanted (front_of lock rex op) bytes q
+    → Told (ending wanted (front_of lock rex op)) before lock rex bytes q
 ending_by wanted before lock rex op bytes is takes (Ok got) told = (
   op,
   sym told.0,
   takes,
   ap (λ (s : List ℕ). before ++ s) told.1 ∙ sym (append_assoc before wanted got.1) ∙ ap (λ (s : List ℕ). s ++ got.1) (sym is),
 )
-ending_by wanted before lock rex op bytes is takes (Err Short) told = (told.0, op, takes, append_assoc before bytes told.0 ∙ ap (λ (s : List ℕ). before ++ s) told.1 ∙ sym is)
+ending_by wanted before lock rex op bytes is takes (Err Short) told =
+    (told.0, op, takes, append_assoc before bytes told.0 ∙ ap (λ (s : List ℕ). before ++ s) told.1 ∙ sym is)
 ending_by wanted before lock rex op bytes is takes (Err Undecoded) told = λ more. rw takes (told more)
 
 told_ending : (wanted before : List ℕ) (lock : Bool) (rex : Option ℕ) (op : Op) (bytes : List ℕ) → op_bytes op ≡ before ++ wanted
     → Told (ending wanted (front_of lock rex op)) before lock rex bytes (ending wanted (front_of lock rex op) bytes)
 told_ending wanted before lock rex op bytes is =
-    by_test (λ (q : Read Front). Told (ending wanted (front_of lock rex op)) before lock rex bytes q) (takes_prefixes (cell_of op) lock rex) (expected wanted (front_of lock rex op) bytes) (Err Undecoded)
-    (λ t. ending_by wanted before lock rex op bytes is t (expected wanted (front_of lock rex op) bytes) (told_expected wanted (front_of lock rex op) bytes))
+    by_test (λ (q : Read Front). Told (ending wanted (front_of lock rex op)) before lock rex bytes q)
+    (takes_prefixes (cell_of op) lock rex) (expected_byte wanted (front_of lock rex op) bytes) (Err Undecoded)
+    (λ t. ending_by wanted before lock rex op bytes is t (expected_byte wanted (front_of lock rex op) bytes)
+    (told_expected wanted (front_of lock rex op) bytes))
     (λ t more. rw t refl)
 
-told_checked : (before : List ℕ) (lock : Bool) (rex : Option ℕ) (op : Op) (bytes : List ℕ) → op_bytes op ≡ before → Told (checked (front_of lock rex op)) before lock rex bytes (checked (front_of lock rex op) bytes)
+told_checked : (before : List ℕ) (lock : Bool) (rex : Option ℕ) (op : Op) (bytes : List ℕ) → op_bytes op ≡ before
+    → Told (checked_front (front_of lock rex op)) before lock rex bytes (checked_front (front_of lock rex op) bytes)
 told_checked before lock rex op bytes is =
-    by_test (λ (q : Read Front). Told (checked (front_of lock rex op)) before lock rex bytes q) (takes_prefixes (cell_of op) lock rex) (Ok (front_of lock rex op, bytes)) (Err Undecoded)
+    by_test (λ (q : Read Front). Told (checked_front (front_of lock rex op)) before lock rex bytes q)
+    (takes_prefixes (cell_of op) lock rex) (Ok (front_of lock rex op, bytes)) (Err Undecoded)
     (λ t. (op, refl, t, ap (λ (s : List ℕ). s ++ bytes) (sym is)))
     (λ t more. rw t refl)
 
 -- the same with one byte more before, which the reader reads first
-told_behind : (read next : List ℕ → Read Front) (before : List ℕ) (byte : ℕ) (lock : Bool) (rex : Option ℕ) (rest : List ℕ) → ((more : List ℕ) → read (byte ∷ more) ≡ next more)
+told_behind : (read next : List ℕ → Read Front) (before : List ℕ) (byte : ℕ) (lock : Bool) (rex : Option ℕ) (rest : List ℕ)
+    → ((more : List ℕ) → read (byte ∷ more) ≡ next more)
     → (q : Read Front) → Told next (before ++ byte ∷ []) lock rex rest q → Told read before lock rex (byte ∷ rest) q
-told_behind read next before byte lock rex rest reads (Ok got) told = (told.0, told.1, told.2, sym (append_assoc before (byte ∷ []) rest) ∙ told.3)
-told_behind read next before byte lock rex rest reads (Err Short) told = (told.0, told.1, told.2, ap (λ (t : List ℕ). t ++ told.0) (sym (append_assoc before (byte ∷ []) rest)) ∙ told.3)
+told_behind read next before byte lock rex rest reads (Ok got) told =
+    (told.0, told.1, told.2, sym (append_assoc before (byte ∷ []) rest) ∙ told.3)
+told_behind read next before byte lock rex rest reads (Err Short) told =
+    (told.0, told.1, told.2, ap (λ (t : List ℕ). t ++ told.0) (sym (append_assoc before (byte ∷ []) rest)) ∙ told.3)
 told_behind read next before byte lock rex rest reads (Err Undecoded) told = λ more. reads (rest ++ more) ∙ told more
 
 -- ADD and CMPXCHG take all prefixes
@@ -94,30 +112,34 @@ unfolding two_byte
 takes_0F_B1 true rex = refl
 takes_0F_B1 false rex = refl
 
-told_second : (lock : Bool) (rex : Option ℕ) (bytes : List ℕ) → Told (second_at lock rex) (0x0F ∷ []) lock rex bytes (second_at lock rex bytes)
+told_second : (lock : Bool) (rex : Option ℕ) (bytes : List ℕ)
+    → Told (second_at lock rex) (0x0F ∷ []) lock rex bytes (second_at lock rex bytes)
 unfolding second_at
 told_second lock rex [] = (0xB1 ∷ [], Two 0xB1, takes_0F_B1 lock rex, refl)
 told_second lock rex (opcode ∷ rest) =
     let last = ending (0xD4 ∷ []) (front_of lock rex Vmfunc) in
-    let whole = checked (front_of lock rex (Two opcode)) in
-    by_test (λ (q : Read Front). Told (second_at lock rex) (0x0F ∷ []) lock rex (opcode ∷ rest) q) (eqb opcode 0x01) (last rest) (whole rest)
+    let whole = checked_front (front_of lock rex (Two opcode)) in
+    by_test (λ (q : Read Front). Told (second_at lock rex) (0x0F ∷ []) lock rex (opcode ∷ rest) q) (eqb opcode 0x01) (last rest)
+    (whole rest)
     (λ t. let is = eqb-true _ _ t in
     told_behind (second_at lock rex) last (0x0F ∷ []) opcode lock rex rest (λ more. rw t refl) (last rest)
     (told_ending (0xD4 ∷ []) (0x0F ∷ opcode ∷ []) lock rex Vmfunc rest (cc (is))))
     (λ t. told_behind (second_at lock rex) whole (0x0F ∷ []) opcode lock rex rest (λ more. rw t refl) (whole rest)
     (told_checked (0x0F ∷ opcode ∷ []) lock rex (Two opcode) rest refl))
 
-pub told_opcode : (lock : Bool) (rex : Option ℕ) (bytes : List ℕ) → Told (opcode_at lock rex) [] lock rex bytes (opcode_at lock rex bytes)
+pub told_opcode : (lock : Bool) (rex : Option ℕ) (bytes : List ℕ)
+    → Told (opcode_at lock rex) [] lock rex bytes (opcode_at lock rex bytes)
 unfolding opcode_at
 told_opcode lock rex [] = (0x01 ∷ [], One 0x01, takes_01 lock rex, refl)
 told_opcode lock rex (opcode ∷ rest) =
     let P : Read Front → Type 0 = λ q. Told (opcode_at lock rex) [] lock rex (opcode ∷ rest) q in
     let last = ending (0x0F ∷ 0x1E ∷ 0xFA ∷ []) (front_of lock rex Endbr) in
-    let whole = checked (front_of lock rex (One opcode)) in
+    let whole = checked_front (front_of lock rex (One opcode)) in
     by_test P (eqb opcode 0x0F) (second_at lock rex rest) (cond (eqb opcode 0xF3) (last rest) (whole rest))
     (λ t. let is : 0x0F ≡ opcode = sym (eqb-true _ _ t) in
     told_behind (opcode_at lock rex) (second_at lock rex) [] opcode lock rex rest (λ more. rw t refl) (second_at lock rex rest)
-    (subst (λ (k : ℕ). Told (second_at lock rex) (k ∷ []) lock rex rest (second_at lock rex rest)) is (told_second lock rex rest)))
+    (subst (λ (k : ℕ). Told (second_at lock rex) (k ∷ []) lock rex rest (second_at lock rex rest)) is
+    (told_second lock rex rest)))
     (λ f. by_test P (eqb opcode 0xF3) (last rest) (whole rest)
     (λ t. let is = eqb-true _ _ t in
     told_behind (opcode_at lock rex) last [] opcode lock rex rest (λ more. rw (f, t) refl) (last rest)

@@ -14,27 +14,33 @@ not_true false e = refl
 abbrev pub GoodSib : Option ℕ → Option ℕ → Type 0
 GoodSib modrm sib = (is_sib_field modrm sib ≡ true) × IsByte sib
 
-sib_takes : (modrm : Option ℕ) (wanted : Bool) → wants_sib modrm ≡ wanted → (bytes : List ℕ) (sib : Option ℕ) (rest : List ℕ) → IsBytes bytes
+sib_takes : (modrm : Option ℕ) (wanted : Bool) → wants_sib modrm ≡ wanted → (bytes : List ℕ) (sib : Option ℕ) (rest : List ℕ)
+    → IsBytes bytes
     → cond wanted (any_byte bytes) (Ok (None, bytes)) ≡ Ok (sib, rest) → GoodSib modrm sib × (bytes ≡ option_to_list sib ++ rest)
 sib_takes modrm true w [] sib rest fits e = absurd cc
 sib_takes modrm true w (byte ∷ behind) sib rest fits e =
     let lt : byte < 256 = fits 0 in
-    subst (λ (z : Option ℕ × List ℕ). GoodSib modrm z.0 × (byte ∷ behind ≡ option_to_list z.0 ++ z.1)) (ok_is (Some byte, behind) (sib, rest) e) ((w, lt), refl)
+    subst (λ (z : Option ℕ × List ℕ). GoodSib modrm z.0 × (byte ∷ behind ≡ option_to_list z.0 ++ z.1))
+    (ok_is (Some byte, behind) (sib, rest) e) ((w, lt), refl)
 sib_takes modrm false w bytes sib rest fits e =
     let none : is_sib_field modrm None ≡ true = ap (λ (b : Bool). not b) w in
-    subst (λ (z : Option ℕ × List ℕ). GoodSib modrm z.0 × (bytes ≡ option_to_list z.0 ++ z.1)) (ok_is (None, bytes) (sib, rest) e) ((none, tt), refl)
+    subst (λ (z : Option ℕ × List ℕ). GoodSib modrm z.0 × (bytes ≡ option_to_list z.0 ++ z.1)) (ok_is (None, bytes) (sib, rest) e)
+    ((none, tt), refl)
 
-sib_again : (modrm sib : Option ℕ) (rest : List ℕ) → GoodSib modrm sib → sib_at modrm (option_to_list sib ++ rest) ≡ Ok (sib, rest)
+sib_again : (modrm sib : Option ℕ) (rest : List ℕ) → GoodSib modrm sib
+    → sib_at modrm (option_to_list sib ++ rest) ≡ Ok (sib, rest)
 unfolding sib_at
 sib_again modrm None rest good = let none : wants_sib modrm ≡ false = not_true _ good.0 in rw none refl
 sib_again modrm (Some sib) rest good = let some : wants_sib modrm ≡ true = good.0 in rw some refl
 
-sib_final : (modrm : Option ℕ) (wanted : Bool) (bytes : List ℕ) → cond wanted (any_byte bytes) (Ok (None, bytes)) ≡ Err Undecoded → ⊥
+sib_final : (modrm : Option ℕ) (wanted : Bool) (bytes : List ℕ)
+    → cond wanted (any_byte bytes) (Ok (None, bytes)) ≡ Err Undecoded → ⊥
 sib_final modrm true [] e = cc
 sib_final modrm true (byte ∷ behind) e = cc
 sib_final modrm false bytes e = cc
 
-sib_opens : (modrm : Option ℕ) (wanted : Bool) → wants_sib modrm ≡ wanted → (bytes : List ℕ) → cond wanted (any_byte bytes) (Ok (None, bytes)) ≡ Err Short
+sib_opens : (modrm : Option ℕ) (wanted : Bool) → wants_sib modrm ≡ wanted → (bytes : List ℕ)
+    → cond wanted (any_byte bytes) (Ok (None, bytes)) ≡ Err Short
     → (more : List ℕ) × (sib : Option ℕ) × GoodSib modrm sib × (bytes ++ more ≡ option_to_list sib)
 sib_opens modrm true w [] e = (0 ∷ [], Some 0, (w, lit< tt), refl)
 sib_opens modrm true w (byte ∷ behind) e = absurd cc

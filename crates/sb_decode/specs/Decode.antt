@@ -16,7 +16,8 @@ Decodes bytes (Err Undecoded) = IsUndecoded bytes
 
 -- no spelling begins another
 abbrev pub NoneBeginsAnother : Type 0
-NoneBeginsAnother = (first second : Insn) (rest : List ℕ) → IsValid first → IsValid second → spelling second ≡ spelling first ++ rest → first ≡ second
+NoneBeginsAnother = (first second : Insn) (rest : List ℕ) → IsValid first → IsValid second
+    → spelling second ≡ spelling first ++ rest → first ≡ second
 
 -- bytes begin with one instruction at most
 abbrev pub OneBegins : Type 0
@@ -28,4 +29,5 @@ SpelledApart = (bytes : List ℕ) (first second : Insn) → Spells bytes first �
 
 -- the grammar gives one answer
 abbrev pub OneAnswer : Type 0
-OneAnswer = (bytes : List ℕ) (first second : Result (Insn × ℕ) DecodeFault) → Decodes bytes first → Decodes bytes second → first ≡ second
+OneAnswer = (bytes : List ℕ) (first second : Result (Insn × ℕ) DecodeFault) → Decodes bytes first → Decodes bytes second
+    → first ≡ second

@@ -10,7 +10,7 @@ use Rattle.sb_insn.specs.declared.insn.DispKind.TheVariants as disp_kind
 use Rattle.sb_insn.specs.declared.insn.ImmKind.{ImmKind}
 use Rattle.sb_insn.specs.declared.insn.ImmKind.TheVariants as imm_kind
 use Rattle.sb_insn.specs.declared.opcode_map.Cell.{Cell}
-use Rattle.sb_insn.specs.declared.opcode_map.Cell.TheVariants.{Absent, Plain, ModRm, Extended}
+use Rattle.sb_insn.specs.declared.opcode_map.Cell.TheVariants.{Absent, NoModRm, ModRm, Extended}
 use Rattle.sb_insn.specs.Fields.{is_modrm_field, wants_sib}
 use Rattle.sb_decode.specs.declared.fault.DecodeFault.TheVariants.{Short, Undecoded}
 use Rattle.sb_decode.specs.Reading.{Read}
@@ -20,14 +20,15 @@ use Rattle.sb_decode.specs.Reading.{Read}
 -- the opcode has no ModRM byte
 abbrev pub is_alone : Cell → Bool
 is_alone Absent = false
-is_alone (Plain plain) = true
+is_alone (NoModRm plain) = true
 is_alone (ModRm operand) = false
 is_alone (Extended group form imm) = false
 
 -- a byte that the opcode permits behind these prefixes
 abbrev pub modrm_byte : Cell → Bool → Option ℕ → List ℕ → Read (Option ℕ)
 modrm_byte cell lock rex [] = Err Short
-modrm_byte cell lock rex (modrm ∷ rest) = if is_modrm_field cell lock rex (Some modrm) then Ok (Some modrm, rest) else Err Undecoded
+modrm_byte cell lock rex (modrm ∷ rest) =
+    if is_modrm_field cell lock rex (Some modrm) then Ok (Some modrm, rest) else Err Undecoded
 
 unfoldable pub modrm_at : Cell → Bool → Option ℕ → List ℕ → Read (Option ℕ)
 modrm_at cell lock rex bytes = if is_alone cell then Ok (None, bytes) else modrm_byte cell lock rex bytes

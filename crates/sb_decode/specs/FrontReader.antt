@@ -5,7 +5,7 @@ use Rattle.sb_insn.specs.declared.insn.Op.TheVariants.{One, Two, Endbr, Vmfunc}
 use Rattle.sb_insn.specs.declared.opcode_map.Group.{Group}
 use Rattle.sb_insn.specs.declared.opcode_map.Group.TheVariants.{Group1, Group2, Group3, Group5, Group11, Group16}
 use Rattle.sb_insn.specs.declared.opcode_map.Cell.{Cell}
-use Rattle.sb_insn.specs.declared.opcode_map.Cell.TheVariants.{Absent, Plain, ModRm, Extended}
+use Rattle.sb_insn.specs.declared.opcode_map.Cell.TheVariants.{Absent, NoModRm, ModRm, Extended}
 use Rattle.sb_insn.specs.OpcodeMap.{cell_of}
 use Rattle.sb_insn.specs.Fields.{is_rex, permits_rex}
 use Rattle.sb_decode.specs.declared.fault.DecodeFault.TheVariants.{Short, Undecoded}
@@ -29,7 +29,7 @@ group_locks Group16 = false
 -- some instruction with an opcode of this cell has these prefixes
 abbrev pub takes_prefixes : Cell → Bool → Option ℕ → Bool
 takes_prefixes Absent lock rex = false
-takes_prefixes (Plain plain) lock rex = not lock && permits_rex plain.rex rex
+takes_prefixes (NoModRm plain) lock rex = not lock && permits_rex plain.rex rex
 takes_prefixes (ModRm operand) lock rex = not lock || operand.lock
 takes_prefixes (Extended group form imm) lock rex = not lock || group_locks group
 
@@ -37,20 +37,20 @@ abbrev pub is_front : Front → Bool
 is_front front = takes_prefixes (cell_of front.op) front.lock front.rex
 
 -- the whole front is read: does its opcode go with its prefixes?
-abbrev pub checked : Front → List ℕ → Read Front
-checked front rest = if is_front front then Ok (front, rest) else Err Undecoded
+abbrev pub checked_front : Front → List ℕ → Read Front
+checked_front front rest = if is_front front then Ok (front, rest) else Err Undecoded
 
 -- ---- opcodes of more bytes
 
 -- these bytes, and no others, may stand here
-abbrev pub expected : List ℕ → Front → List ℕ → Read Front
-expected [] front bytes = Ok (front, bytes)
-expected (want ∷ wanted) front [] = Err Short
-expected (want ∷ wanted) front (byte ∷ rest) = if byte == want then expected wanted front rest else Err Undecoded
+abbrev pub expected_byte : List ℕ → Front → List ℕ → Read Front
+expected_byte [] front bytes = Ok (front, bytes)
+expected_byte (want ∷ wanted) front [] = Err Short
+expected_byte (want ∷ wanted) front (byte ∷ rest) = if byte == want then expected_byte wanted front rest else Err Undecoded
 
 -- an opcode whose last bytes are these
 abbrev pub ending : List ℕ → Front → List ℕ → Read Front
-ending wanted front bytes = if is_front front then expected wanted front bytes else Err Undecoded
+ending wanted front bytes = if is_front front then expected_byte wanted front bytes else Err Undecoded
 
 -- ---- the front
 
@@ -59,7 +59,7 @@ unfoldable pub second_at : Bool → Option ℕ → List ℕ → Read Front
 second_at lock rex [] = Err Short
 second_at lock rex (opcode ∷ rest) =
     if opcode == 0x01 then ending (0xD4 ∷ []) (front_of lock rex Vmfunc) rest
-    else checked (front_of lock rex (Two opcode)) rest
+    else checked_front (front_of lock rex (Two opcode)) rest
 
 -- behind the prefixes: the one-byte map, the way to the two-byte map, and ENDBR64
 unfoldable pub opcode_at : Bool → Option ℕ → List ℕ → Read Front
@@ -67,7 +67,7 @@ opcode_at lock rex [] = Err Short
 opcode_at lock rex (opcode ∷ rest) =
     if opcode == 0x0F then second_at lock rex rest
     else if opcode == 0xF3 then ending (0x0F ∷ 0x1E ∷ 0xFA ∷ []) (front_of lock rex Endbr) rest
-    else checked (front_of lock rex (One opcode)) rest
+    else checked_front (front_of lock rex (One opcode)) rest
 
 -- behind LOCK: REX, if it stands
 unfoldable pub rex_at : Bool → List ℕ → Read Front

@@ -15,7 +15,16 @@ abbrev pub Parts : Type 0
 Parts = Front × (Option ℕ × (Option ℕ × (Disp × Imm)))
 
 abbrev pub insn_of : Parts → Insn
-insn_of parts = record { lock = parts.0.lock; rex = parts.0.rex; op = parts.0.op; modrm = parts.1.0; sib = parts.1.1.0; disp = parts.1.1.1.0; imm = parts.1.1.1.1 }
+insn_of parts =
+    record {
+      lock = parts.0.lock;
+      rex = parts.0.rex;
+      op = parts.0.op;
+      modrm = parts.1.0;
+      sib = parts.1.1.0;
+      disp = parts.1.1.1.0;
+      imm = parts.1.1.1.1;
+    }
 
 unfoldable pub parts_at : List ℕ → Read Parts
 parts_at =

@@ -22,10 +22,12 @@ GivesFront (Err fault) read = read ≡ Err fault
 
 -- go on with what was read
 infixl 10 ◌>>=◌
-abbrev pub ◌>>=◌ : {First Second : Type 0} → Result First DecodeFault → (First → Result Second DecodeFault) → Result Second DecodeFault
+abbrev pub ◌>>=◌ : {First Second : Type 0} → Result First DecodeFault → (First → Result Second DecodeFault)
+    → Result Second DecodeFault
 (Ok got) >>= next = next got
 (Err fault) >>= next = Err fault
 
 -- one field, and then one that it decides
-abbrev pub and_then : {First Second : Type 0} → (List ℕ → Read First) → (First → List ℕ → Read Second) → List ℕ → Read (First × Second)
+abbrev pub and_then : {First Second : Type 0} → (List ℕ → Read First) → (First → List ℕ → Read Second) → List ℕ
+    → Read (First × Second)
 and_then read next bytes = read bytes >>= λ first. next first.0 first.1 >>= λ second. Ok ((first.0, second.0), second.1)

@@ -14,7 +14,7 @@ use sb_insn::{Cell, Disp, DispKind, Imm, ImmKind, permits_modrm, wants_sib};
 fn is_alone(cell: Cell) -> bool
     ensures { result ≡ is_alone cell }
 {
-    matches!(cell, Cell::Plain(_))
+    matches!(cell, Cell::NoModRm(_))
 }
 
 /// ModRM, where the opcode has it.

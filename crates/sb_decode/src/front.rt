@@ -1,7 +1,7 @@
 //! The front of an instruction: its prefixes and its opcode.
 
 ghost use Rattle.std.specs.Prelude.{◌≡◌, [], ◌∷◌};
-ghost use Rattle.sb_decode.specs.FrontReader.{front_of, group_locks, takes_prefixes, is_front, checked, ending, second_at, opcode_at, rex_at, front_at};
+ghost use Rattle.sb_decode.specs.FrontReader.{front_of, group_locks, takes_prefixes, is_front, checked_front, ending, second_at, opcode_at, rex_at, front_at};
 ghost use Rattle.sb_decode.specs.Reading.{GivesFront};
 
 use crate::fault::DecodeFault;
@@ -36,7 +36,7 @@ fn takes_prefixes(cell: Cell, lock: bool, rex: Option<u8>) -> bool
 {
     match cell {
         Cell::Absent => false,
-        Cell::Plain(plain) => match plain.rex {
+        Cell::NoModRm(plain) => match plain.rex {
             RexRule::Permitted => !lock,
             RexRule::Refused => !lock && rex.is_none(),
         },
@@ -48,7 +48,7 @@ fn takes_prefixes(cell: Cell, lock: bool, rex: Option<u8>) -> bool
 /// The whole front is read: does its opcode go with its prefixes?
 #[inline(always)]
 fn checked(front: Front, rest: &[u8]) -> Result<((Front, Cell), &[u8]), DecodeFault>
-    ensures { GivesFront result (checked front rest.now) }
+    ensures { GivesFront result (checked_front front rest.now) }
 {
     let cell = cell_of(front.op);
     if takes_prefixes(cell, front.lock, front.rex) {

@@ -17,4 +17,5 @@ decodes_back insn bytes valid is = subst (λ (b : List ℕ). DecodesBack insn b)
 pub encodes_back : EncodesBack
 encodes_back bytes insn len decodes =
     let parts : bytes ≡ spelling insn ++ decodes.0.1.0 = decodes.0.1.1 in
-    sym (ap (λ (k : ℕ). take k bytes) decodes.1 ∙ ap (λ (b : List ℕ). take (length (spelling insn)) b) parts ∙ take-append_seam (spelling insn) decodes.0.1.0)
+    sym (ap (λ (k : ℕ). take k bytes) decodes.1 ∙ ap (λ (b : List ℕ). take (length (spelling insn)) b) parts
+    ∙ take-append_seam (spelling insn) decodes.0.1.0)

@@ -7,7 +7,8 @@ use Rattle.sb_decode.specs.Decode.{Decodes}
 
 -- decoding these bytes, whatever stands behind them, has one answer: this instruction, and their length
 abbrev pub DecodesBack : Insn → List ℕ → Type 0
-DecodesBack insn bytes = (behind : List ℕ) (answer : Result (Insn × ℕ) DecodeFault) → Decodes (bytes ++ behind) answer → answer ≡ Ok (insn, length bytes)
+DecodesBack insn bytes = (behind : List ℕ) (answer : Result (Insn × ℕ) DecodeFault) → Decodes (bytes ++ behind) answer
+    → answer ≡ Ok (insn, length bytes)
 
 -- what is decoded from bytes is spelled as those that were read
 abbrev pub EncodesBack : Type 0

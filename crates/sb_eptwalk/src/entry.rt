@@ -1,7 +1,7 @@
 //! What an entry of an extended page table says (SDM volume 3, section 28.3.2).
 
 ghost use Rattle.std.specs.Prelude.{◌≡◌, ◌<◌, IfOk};
-ghost use Rattle.sb_walks.specs.Ept.{ept_judged, ept_permits, is_large as large_entry, is_misconfigured as misconfigured_entry};
+ghost use Rattle.sb_walks.specs.Ept.{ept_entry_answer, ept_permits, is_large, is_misconfigured};
 
 use sb_memory::{Access, EptStop};
 use sb_walks::{PS, WRITE_BACK, frame_number, has_bit};
@@ -26,7 +26,7 @@ fn permits(access: Access, entry: u64) -> bool
 
 /// Whether write is permitted without read, or a page has another memory type than write-back.
 fn is_misconfigured(level: u8, entry: u64) -> bool
-    ensures { result ≡ misconfigured_entry level entry }
+    ensures { result ≡ is_misconfigured level entry }
 {
     has_bit(entry, WRITABLE) && !has_bit(entry, READABLE)
         || level == 1 && (entry >> 3) & 7 != WRITE_BACK
@@ -34,15 +34,15 @@ fn is_misconfigured(level: u8, entry: u64) -> bool
 
 /// Whether an entry maps a large page.
 fn is_large(level: u8, entry: u64) -> bool
-    ensures { result ≡ large_entry level entry }
+    ensures { result ≡ is_large level entry }
 {
     (level == 3 || level == 2) && has_bit(entry, PS)
 }
 
 /// The number of the next frame in a memory of so many frames, or the first reason to refuse the entry.
-#[tactic(auto, unfolding(sb_walks::specs::Ept::ept_judged))]
+#[tactic(auto, unfolding(sb_walks::specs::Ept::ept_entry_answer))]
 pub fn judge(frames: u32, access: Access, level: u8, entry: u64) -> Result<u64, EptStop>
-    ensures answer { result ≡ ept_judged frames access level entry }
+    ensures answer { result ≡ ept_entry_answer frames access level entry }
     ensures inside { IfOk result (λ next. next < frames) }
 {
     if entry & 7 == 0 {

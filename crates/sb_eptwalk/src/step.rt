@@ -3,13 +3,12 @@
 ghost use Rattle.std.specs.Prelude.{◌≡◌, ◌<◌, ◌≤◌, ◌*◌, ◌%◌, ◌^◌, IfOk, IsTrue};
 ghost use Rattle.sb_memory.specs.declared.page.TheConstants.{PAGE_SIZE};
 ghost use Rattle.sb_memory.specs.Physical.{frame_count};
-ghost use Rattle.sb_memory.specs.Accounts.{ReadWord, after_words};
+ghost use Rattle.sb_memory.specs.Accounts.{ReadWord, account_after_words};
 ghost use Rattle.sb_walks.specs.Entry.{entry_place, frame_in};
-ghost use Rattle.sb_walks.specs.Ept.{ept_step, ept_walk_reads, ept_walked, is_eptp};
+ghost use Rattle.sb_walks.specs.Ept.{ept_step, ept_walk_reads, ept_walk, is_eptp};
 
 use crate::entry::judge;
-use sb_memory::PAGE_SIZE;
-use sb_memory::{Access, EptStop, GuestPhys, Phys, PhysAddr};
+use sb_memory::{Access, EptStop, GuestPhys, PAGE_SIZE, Phys, PhysAddr};
 use sb_walks::{entry_place, frame_number};
 
 /// One level: from the frame of a table to the frame to which the entry for the address leads.
@@ -43,7 +42,7 @@ fn step<P: Phys>(
 /// of: `Missing`, the memory does not have the frame of the table; `NotPresent`, the entry permits nothing; `Misconfigured`,
 /// write without read, or at level 1 another memory type than 6; `Large`, at level 3 or 2; `Outside`, the next frame lies past
 /// the end of memory; `Denied`, the entry does not permit the access.
-#[tactic(auto, unfolding(sb_walks::specs::Ept::ept_walked, sb_walks::specs::Ept::ept_walk_reads))]
+#[tactic(auto, unfolding(sb_walks::specs::Ept::ept_walk, sb_walks::specs::Ept::ept_walk_reads))]
 pub fn ept_walk<P: Phys>(
     phys: &mut P,
     eptp: u64,
@@ -52,11 +51,11 @@ pub fn ept_walk<P: Phys>(
 ) -> Result<PhysAddr, EptStop>
     requires eptp { IsTrue (is_eptp eptp) }
     requires root { frame_in eptp < frame_count (P.meaning phys.old) }
-    ensures answer { result ≡ ept_walked (P.meaning phys.old) eptp at.0 access }
+    ensures answer { result ≡ ept_walk (P.meaning phys.old) eptp at.0 access }
     ensures inside { IfOk result (λ place. place.0 < PAGE_SIZE * frame_count (P.meaning phys.old)) }
     ensures offset { IfOk result (λ place. place.0 % PAGE_SIZE ≡ at.0 % PAGE_SIZE) }
     ensures same { P.meaning phys.new ≡ P.meaning phys.old }
-    ensures account { P.account phys.new ≡ after_words P.rule (P.meaning phys.old) (ept_walk_reads (P.meaning phys.old) eptp at.0 access) (P.account phys.old) }
+    ensures account { P.account phys.new ≡ account_after_words P.rule (P.meaning phys.old) (ept_walk_reads (P.meaning phys.old) eptp at.0 access) (P.account phys.old) }
     ensures kept { P.kept phys.new ≡ P.kept phys.old }
 {
     if at.0 >> 48 != 0 {

@@ -29,14 +29,16 @@ after_store row regs meaning account loaded answer = record {
   account = account;
 }
 
-at_runs : {M A : Type 0} (bus : Interface M A) (row : Row) (regs : Regs) (meaning : M) (account : A) (loaded : ℕ) (answer : Result (Unit {0}) BusStop)
+at_runs : {M A : Type 0} (bus : Interface M A) (row : Row) (regs : Regs) (meaning : M) (account : A) (loaded : ℕ)
+    (answer : Result (Unit {0}) BusStop)
     → after_store row regs meaning account loaded answer
     ≡ execution_by row regs (run_on (run bus []) (and_then answer (λ _. Ok loaded)) meaning account)
 at_runs bus row regs meaning account loaded (Ok stored) = refl
 at_runs bus row regs meaning account loaded (Err stop) = refl
 
 -- after the load, which gave this number
-store_runs : {M A : Type 0} (bus : Interface M A) (first : Load) (last : Store) (after : ℕ → After) (effect : Effect) (regs : Regs) (meaning : M) (account : A) (loaded : ℕ)
+store_runs : {M A : Type 0} (bus : Interface M A) (first : Load) (last : Store) (after : ℕ
+    → After) (effect : Effect) (regs : Regs) (meaning : M) (account : A) (loaded : ℕ)
     → store_after_load bus (row_from first last after effect) regs meaning account (Ok loaded)
     ≡ execution_by (row_from first last after effect) regs (run bus (store_accesses last after) meaning account loaded)
 store_runs bus first store.Nothing after effect regs meaning account loaded = refl
@@ -44,18 +46,23 @@ store_runs bus first (store.At address size) after effect regs meaning account l
     at_runs bus (row_from first (store.At address size) after effect) regs _ _ loaded _
 
 -- the load gave this answer
-load_runs : {M A : Type 0} (bus : Interface M A) (first : Load) (last : Store) (after : ℕ → After) (effect : Effect) (regs : Regs) (meaning : M) (account : A)
+load_runs : {M A : Type 0} (bus : Interface M A) (first : Load) (last : Store) (after : ℕ
+    → After) (effect : Effect) (regs : Regs) (meaning : M) (account : A)
     (answer : Result ℕ BusStop)
     → store_after_load bus (row_from first last after effect) regs meaning account answer
     ≡ execution_by (row_from first last after effect) regs (run_on (run bus (store_accesses last after)) answer meaning account)
-load_runs bus first last after effect regs meaning account (Ok loaded) = store_runs bus first last after effect regs meaning account loaded
+load_runs bus first last after effect regs meaning account (Ok loaded) =
+    store_runs bus first last after effect regs meaning account loaded
 load_runs bus first last after effect regs meaning account (Err stop) = refl
 
-parts_run : {M A : Type 0} (bus : Interface M A) (first : Load) (last : Store) (after : ℕ → After) (effect : Effect) (regs : Regs) (meaning : M) (account : A)
+parts_run : {M A : Type 0} (bus : Interface M A) (first : Load) (last : Store) (after : ℕ
+    → After) (effect : Effect) (regs : Regs) (meaning : M) (account : A)
     → load_then_store bus (row_from first last after effect) regs meaning account
-    ≡ execution_by (row_from first last after effect) regs (run bus (accesses (row_from first last after effect)) meaning account 0)
+    ≡ execution_by (row_from first last after effect) regs
+    (run bus (accesses (row_from first last after effect)) meaning account 0)
 unfolding load_then_store
-parts_run bus load.Nothing last after effect regs meaning account = store_runs bus load.Nothing last after effect regs meaning account 0
+parts_run bus load.Nothing last after effect regs meaning account =
+    store_runs bus load.Nothing last after effect regs meaning account 0
 parts_run bus (load.Read address size) last after effect regs meaning account =
     load_runs bus (load.Read address size) last after effect regs meaning _ _
 parts_run bus (load.ReadToWrite address size) last after effect regs meaning account =
@@ -68,10 +75,16 @@ unfolding execution_of
 two_steps bus row regs meaning account = sym (parts_run bus row.load row.store row.after row.effect regs meaning account)
 
 -- a row that stores nothing and whose load gives this number changes the registers alone
-pub row_without_store_runs : {M A : Type 0} (bus : Interface M A) (loads : Load) (after : ℕ → Regs) (regs : Regs) (meaning : M) (account : A)
+pub row_without_store_runs : {M A : Type 0} (bus : Interface M A) (loads : Load) (after : ℕ
+    → Regs) (regs : Regs) (meaning : M) (account : A)
     (loaded : ℕ) → row_load_answer bus loads meaning ≡ Ok loaded
     → execution_of bus (row_without_store loads after) regs meaning account
-    ≡ record { answer = Ok Next; registers = after loaded; meaning = meaning; account = row_load_account bus loads meaning account }
+    ≡ record {
+      answer = Ok Next;
+      registers = after loaded;
+      meaning = meaning;
+      account = row_load_account bus loads meaning account;
+    }
 unfolding load_then_store
 row_without_store_runs bus loads after regs meaning account loaded found =
     two_steps bus (row_without_store loads after) regs meaning account ∙ rw found refl

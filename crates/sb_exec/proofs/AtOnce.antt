@@ -9,11 +9,14 @@ use Rattle.sb_bus.specs.declared.stop.BusStop.{BusStop}
 use Rattle.sb_exec.specs.Fetching.{Stands, HasShortFronts, Fetches}
 
 -- no instruction begins a proper front of a spelling
-none_before : (insn other : Insn) (count : ℕ) → IsValid insn → count < length (spelling insn) → BeginsWith (take count (spelling insn)) other → ⊥
+none_before : (insn other : Insn) (count : ℕ) → IsValid insn → count < length (spelling insn)
+    → BeginsWith (take count (spelling insn)) other → ⊥
 none_before insn other count valid below begins =
-    let whole : take count (spelling insn) ++ drop count (spelling insn) ≡ spelling insn = take-append-drop count (spelling insn) in
+    let whole : take count (spelling insn) ++ drop count (spelling insn) ≡ spelling insn =
+    take-append-drop count (spelling insn) in
     let longer : spelling insn ≡ spelling other ++ (begins.1.0 ++ drop count (spelling insn)) =
-    sym whole ∙ ap (λ (t : List ℕ). t ++ drop count (spelling insn)) begins.1.1 ∙ append_assoc (spelling other) begins.1.0 (drop count (spelling insn)) in
+    sym whole ∙ ap (λ (t : List ℕ). t ++ drop count (spelling insn)) begins.1.1
+    ∙ append_assoc (spelling other) begins.1.0 (drop count (spelling insn)) in
     let same : other ≡ insn = none_begins_another other insn (begins.1.0 ++ drop count (spelling insn)) begins.0 valid longer in
     omega (
       arith,

@@ -7,7 +7,7 @@ use Rattle.sb_insn.specs.declared.insn.Insn.{Insn}
 use Rattle.sb_insn.specs.Spelling.{spelling}
 use Rattle.sb_insn.specs.Grammar.{Spells, BeginsWith, IsShort}
 use Rattle.sb_bus.specs.declared.stop.BusStop.{BusStop}
-use Rattle.sb_exec.specs.Fetching.{further, Stands, HasShortFronts}
+use Rattle.sb_exec.specs.Fetching.{bytes_from_fetch, Stands, HasShortFronts}
 
 pub no_fronts : HasShortFronts []
 unfolding HasShortFronts
@@ -27,30 +27,32 @@ fronts_push byte bytes fronts short count below =
     ])
 
 stands_push : (fetch : ℕ → Result ℕ BusStop) (address byte : ℕ) (bytes : List ℕ) → Stands fetch address bytes
-    → fetch (further address (length bytes)) ≡ Ok byte → Stands fetch address (bytes ++ byte ∷ [])
+    → fetch (bytes_from_fetch address (length bytes)) ≡ Ok byte → Stands fetch address (bytes ++ byte ∷ [])
 stands_push fetch address byte bytes stands next index below =
     let long : length (bytes ++ byte ∷ []) ≡ length bytes + 1 = length-append bytes (byte ∷ []) in
     elim (cases_lt index (length bytes)) [
       | inl inside ↦ stands index inside ∙ ap (λ (b : ℕ). Ok b) (sym (get_or_append_left bytes (byte ∷ []) 0 index inside))
       | inr last ↦
           let same : length bytes ≡ index = omega arith in
-          subst (λ (n : ℕ). fetch (further address n) ≡ Ok (get_or (bytes ++ byte ∷ []) n 0)) same
+          subst (λ (n : ℕ). fetch (bytes_from_fetch address n) ≡ Ok (get_or (bytes ++ byte ∷ []) n 0)) same
           (next ∙ ap (λ (b : ℕ). Ok b) (sym (get_or-append_seam bytes byte [] 0)))
     ]
 
 -- the array has one byte more
-pub more_fronts : (count byte : ℕ) (array : List ℕ) → count < length array → HasShortFronts (take count array) → IsShort (take count array)
+pub more_fronts : (count byte : ℕ) (array : List ℕ) → count < length array → HasShortFronts (take count array)
+    → IsShort (take count array)
     → HasShortFronts (take (count + 1) (slice_set array count byte))
 more_fronts count byte array inside fronts short =
-    subst (λ (t : List ℕ). HasShortFronts t) (sym (take_more_set array count byte inside)) (fronts_push byte (take count array) fronts short)
+    subst (λ (t : List ℕ). HasShortFronts t) (sym (take_more_set array count byte inside))
+    (fronts_push byte (take count array) fronts short)
 
 pub more_stands : (fetch : ℕ → Result ℕ BusStop) (address count byte : ℕ) (array : List ℕ) → count < length array
-    → Stands fetch address (take count array) → fetch (further address count) ≡ Ok byte
+    → Stands fetch address (take count array) → fetch (bytes_from_fetch address count) ≡ Ok byte
     → Stands fetch address (take (count + 1) (slice_set array count byte))
 more_stands fetch address count byte array inside stands next =
     let long : length (take count array) ≡ count = length-take-le count array (omega arith) in
     subst (λ (t : List ℕ). Stands fetch address t) (sym (take_more_set array count byte inside))
-    (stands_push fetch address byte (take count array) stands (ap (λ (n : ℕ). fetch (further address n)) long ∙ next))
+    (stands_push fetch address byte (take count array) stands (ap (λ (n : ℕ). fetch (bytes_from_fetch address n)) long ∙ next))
 
 -- ---- no byte too many
 

@@ -8,15 +8,15 @@ use Rattle.sb_insn.specs.declared.opcode_map.Mnemonic.TheVariants as mnemonic
 use Rattle.sb_insn.specs.declared.opcode_map.Instruction.{Instruction}
 use Rattle.sb_insn.specs.declared.opcode_map.OperandForm.{OperandForm}
 use Rattle.sb_insn.specs.declared.opcode_map.ImmRule.{ImmRule}
-use Rattle.sb_insn.specs.declared.opcode_map.Operand.{Operand}
+use Rattle.sb_insn.specs.declared.opcode_map.ModRmOpcode.{ModRmOpcode}
 use Rattle.sb_insn.specs.declared.opcode_map.Group.{Group}
 use Rattle.sb_insn.specs.declared.opcode_map.Group.TheVariants.{Group1, Group2, Group3, Group5, Group11, Group16}
 use Rattle.sb_insn.specs.declared.opcode_map.Cell.{Cell}
-use Rattle.sb_insn.specs.declared.opcode_map.Cell.TheVariants.{Absent, Plain, ModRm, Extended}
+use Rattle.sb_insn.specs.declared.opcode_map.Cell.TheVariants.{Absent, NoModRm, ModRm, Extended}
 use Rattle.sb_insn.specs.OpcodeMap.{Row, look_up, is_of, one_byte, one_byte_rows, two_byte, two_byte_rows, cell_of}
 use Rattle.sb_insn.specs.Groups.{Extension, extended_by, extensions, group_operand}
 use Rattle.sb_insn.specs.Fields.{reg_field}
-use Rattle.sb_insn.specs.Listing.{named, extended, instruction_in}
+use Rattle.sb_insn.specs.Listing.{named_instruction, extended_instruction, instruction_in}
 use Rattle.sb_exec.specs.declared.action.Effect.{Effect}
 use Rattle.sb_exec.specs.declared.action.Effect.TheVariants as effect
 
@@ -44,7 +44,7 @@ goes_on instruction = is_next (mnemonic_effect instruction.mnemonic)
 -- groups are looked at on their own
 abbrev cell_goes_on : Cell → Bool
 cell_goes_on Absent = true
-cell_goes_on (Plain plain) = goes_on plain.instruction
+cell_goes_on (NoModRm plain) = goes_on plain.instruction
 cell_goes_on (ModRm operand) = goes_on operand.instruction
 cell_goes_on (Extended group form imm) = true
 
@@ -69,12 +69,14 @@ next_ends effect.Undefined holds = absurd cc
 
 -- ---- groups
 
-chosen_ends : (test : Bool) (first : Operand) (second : Option Operand) → goes_on first.instruction ≡ true → Ends (named second) effect.Next
-    → Ends (named (if test then Some first else second)) effect.Next
+chosen_ends : (test : Bool) (first : ModRmOpcode) (second : Option ModRmOpcode) → goes_on first.instruction ≡ true
+    → Ends (named_instruction second) effect.Next
+    → Ends (named_instruction (if test then Some first else second)) effect.Next
 chosen_ends true first second one two = next_ends _ one
 chosen_ends false first second one two = two
 
-extended_ends : (reg : ℕ) (rows : List Extension) → extensions_go_on rows ≡ true → Ends (named (extended_by reg rows)) effect.Next
+extended_ends : (reg : ℕ) (rows : List Extension) → extensions_go_on rows ≡ true
+    → Ends (named_instruction (extended_by reg rows)) effect.Next
 extended_ends reg [] all = tt
 extended_ends reg (row ∷ rows) all =
     let parts = both (goes_on row.operand.instruction) (extensions_go_on rows) all in
@@ -88,16 +90,18 @@ group_goes_on Group5 form imm = refl
 group_goes_on Group11 form imm = refl
 group_goes_on Group16 form imm = refl
 
-group_ends : (group : Group) (form : OperandForm) (imm : ImmRule) (modrm : Option ℕ) → Ends (extended group form imm modrm) effect.Next
+group_ends : (group : Group) (form : OperandForm) (imm : ImmRule) (modrm : Option ℕ)
+    → Ends (extended_instruction group form imm modrm) effect.Next
 unfolding group_operand
 group_ends group form imm None = tt
-group_ends group form imm (Some modrm) = extended_ends (reg_field modrm) (extensions group form imm) (group_goes_on group form imm)
+group_ends group form imm (Some modrm) =
+    extended_ends (reg_field modrm) (extensions group form imm) (group_goes_on group form imm)
 
 -- ---- maps
 
 cell_ends : (cell : Cell) (modrm : Option ℕ) → cell_goes_on cell ≡ true → Ends (instruction_in cell modrm) effect.Next
 cell_ends Absent modrm all = tt
-cell_ends (Plain plain) modrm all = next_ends _ all
+cell_ends (NoModRm plain) modrm all = next_ends _ all
 cell_ends (ModRm operand) modrm all = next_ends _ all
 cell_ends (Extended group form imm) modrm all = group_ends group form imm modrm
 
@@ -122,12 +126,14 @@ abbrev pub two_byte_effect : Bool → Bool → Effect
 two_byte_effect is_syscall is_ud2 = if is_syscall then effect.Syscall else if is_ud2 then effect.Undefined else effect.Next
 
 two_byte_ends : (opcode : ℕ) (modrm : Option ℕ) (is_syscall is_ud2 : Bool)
-    → Ends (instruction_in (if is_syscall then two_byte 0x05 else if is_ud2 then two_byte 0x0B else look_up opcode (after_two two_byte_rows)) modrm)
+    → Ends (instruction_in
+    (if is_syscall then two_byte 0x05 else if is_ud2 then two_byte 0x0B else look_up opcode (after_two two_byte_rows)) modrm)
     (two_byte_effect is_syscall is_ud2)
 unfolding two_byte
 two_byte_ends opcode modrm true is_ud2 = refl
 two_byte_ends opcode modrm false true = refl
-two_byte_ends opcode modrm false false = cell_ends (look_up opcode (after_two two_byte_rows)) modrm (look_up_goes_on opcode (after_two two_byte_rows) refl)
+two_byte_ends opcode modrm false false =
+    cell_ends (look_up opcode (after_two two_byte_rows)) modrm (look_up_goes_on opcode (after_two two_byte_rows) refl)
 
 -- ---- opcodes
 

@@ -9,7 +9,7 @@ use Rattle.sb_decode.proofs.Exact.{spelled_apart, none_begins_another}
 use Rattle.sb_decode.proofs.OneAnswer.{short_undecoded}
 use Rattle.sb_bus.specs.declared.stop.BusStop.{BusStop}
 use Rattle.sb_bus.specs.Interface.{Interface}
-use Rattle.sb_exec.specs.Fetching.{further, Stands, HasShortFronts, EndsFetch, Fetches, OneFetch, fetch_of, after_fetches, OneFetchOn}
+use Rattle.sb_exec.specs.Fetching.{bytes_from_fetch, Stands, HasShortFronts, EndsFetch, Fetches, OneFetch, fetch_of, after_fetches, OneFetchOn}
 
 same_ok : (first second : ℕ) (answer : Result ℕ BusStop) → answer ≡ Ok first → answer ≡ Ok second → first ≡ second
 same_ok first second answer one other = cc
@@ -21,14 +21,15 @@ not_both : (byte : ℕ) (stop : BusStop) (answer : Result ℕ BusStop) → answe
 not_both byte stop answer one other = cc
 
 -- of two lists that stand at one address the one that is not longer is the front of the other
-front_stands : (fetch : ℕ → Result ℕ BusStop) (address : ℕ) (short long : List ℕ) → Stands fetch address short → Stands fetch address long
+front_stands : (fetch : ℕ → Result ℕ BusStop) (address : ℕ) (short long : List ℕ) → Stands fetch address short
+    → Stands fetch address long
     → length short ≤ length long → take (length short) long ≡ short
 front_stands fetch address short long in_short in_long within =
     let same : length (take (length short) long) ≡ length short = length-take-le (length short) long within in
     ext_get_or 0 (take (length short) long) short same
     (λ index below. let there : index < length short = omega arith in
     get_or-take (length short) long index 0 there
-    ∙ same_ok _ _ (fetch (further address index)) (in_long index (omega arith)) (in_short index there))
+    ∙ same_ok _ _ (fetch (bytes_from_fetch address index)) (in_long index (omega arith)) (in_short index there))
 
 -- ---- the bytes say one of three things
 
@@ -46,19 +47,21 @@ spelled_or_undecoded bytes insn spelled undecoded =
 
 -- fetching that ends after some bytes does not go on
 ends_there : (fetch : ℕ → Result ℕ BusStop) (address : ℕ) (short long : List ℕ) (result : Result Insn BusStop) (asked : ℕ)
-    → EndsFetch fetch address short result asked → Stands fetch address long → take (length short) long ≡ short → HasShortFronts long
+    → EndsFetch fetch address short result asked → Stands fetch address long → take (length short) long ≡ short
+    → HasShortFronts long
     → length short < length long → ⊥
 unfolding HasShortFronts
 ends_there fetch address short long (Ok insn) asked ends stands front fronts below =
     spelled_or_short short insn ends.0 (subst (λ (t : List ℕ). IsShort t) front (fronts (length short) below))
 ends_there fetch address short long (Err stop) asked ends stands front fronts below = elim ends [
   | inl undecoded ↦ short_undecoded short (subst (λ (t : List ℕ). IsShort t) front (fronts (length short) below)) undecoded.0
-  | inr more ↦ not_both _ stop (fetch (further address (length short))) (stands (length short) below) more.1
+  | inr more ↦ not_both _ stop (fetch (bytes_from_fetch address (length short))) (stands (length short) below) more.1
 ]
 
 -- what is asked for and answered after these bytes is one thing
 same_end : (fetch : ℕ → Result ℕ BusStop) (address : ℕ) (bytes : List ℕ) (first second : Result Insn BusStop) (asked others : ℕ)
-    → EndsFetch fetch address bytes first asked → EndsFetch fetch address bytes second others → (first ≡ second) × (asked ≡ others)
+    → EndsFetch fetch address bytes first asked → EndsFetch fetch address bytes second others
+    → (first ≡ second) × (asked ≡ others)
 same_end fetch address bytes (Ok one) (Ok two) asked others ends also =
     (ap (λ (insn : Insn). Ok insn) (spelled_apart bytes one two ends.0 also.0), ends.1 ∙ sym also.1)
 same_end fetch address bytes (Ok insn) (Err stop) asked others ends also = elim also [
@@ -86,12 +89,15 @@ same_bytes : (fetch : ℕ → Result ℕ BusStop) (address : ℕ) (first second 
 same_bytes fetch address first second asked others one two =
     elim (cases_lt (length one.bytes) (length two.bytes)) [
       | inl below ↦
-          let front : take (length one.bytes) two.bytes ≡ one.bytes = front_stands fetch address one.bytes two.bytes one.stands two.stands (omega arith) in
+          let front : take (length one.bytes) two.bytes ≡ one.bytes =
+          front_stands fetch address one.bytes two.bytes one.stands two.stands (omega arith) in
           absurd (ends_there fetch address one.bytes two.bytes first asked one.ends two.stands front two.fronts below)
       | inr within ↦
-          let front : take (length two.bytes) one.bytes ≡ two.bytes = front_stands fetch address two.bytes one.bytes two.stands one.stands within in
+          let front : take (length two.bytes) one.bytes ≡ two.bytes =
+          front_stands fetch address two.bytes one.bytes two.stands one.stands within in
           elim (cases_lt (length two.bytes) (length one.bytes)) [
-            | inl below ↦ absurd (ends_there fetch address two.bytes one.bytes second others two.ends one.stands front one.fronts below)
+            | inl below ↦ absurd
+                (ends_there fetch address two.bytes one.bytes second others two.ends one.stands front one.fronts below)
             | inr also ↦ sym (take_all (length two.bytes) one.bytes also) ∙ front
           ]
     ]
@@ -115,7 +121,8 @@ prefix_begins : (insn other : Insn) (count : ℕ) (rest : List ℕ) → IsValid 
 prefix_begins insn other count rest valid also below front =
     let behind = drop count (spelling insn) in
     let whole : spelling insn ≡ spelling other ++ (rest ++ behind) =
-    sym (take-append-drop count (spelling insn)) ∙ ap (λ (t : List ℕ). t ++ behind) front ∙ append_assoc (spelling other) rest behind in
+    sym (take-append-drop count (spelling insn)) ∙ ap (λ (t : List ℕ). t ++ behind) front
+    ∙ append_assoc (spelling other) rest behind in
     let same : other ≡ insn = none_begins_another other insn (rest ++ behind) also valid whole in
     let size : length (take count (spelling insn)) ≡ count = length-take-le count (spelling insn) (omega arith) in
     let parts : length (take count (spelling insn)) ≡ length (spelling other) + length rest =
@@ -136,7 +143,8 @@ short_fronts insn valid count below = (
 )
 
 -- where the bytes of an instruction are, it is fetched
-pub spelled_fetches : (fetch : ℕ → Result ℕ BusStop) (address : ℕ) (insn : Insn) → IsValid insn → Stands fetch address (spelling insn)
+pub spelled_fetches : (fetch : ℕ → Result ℕ BusStop) (address : ℕ) (insn : Insn) → IsValid insn
+    → Stands fetch address (spelling insn)
     → Fetches fetch address (Ok insn) (length (spelling insn))
 spelled_fetches fetch address insn valid stands = record {
   bytes = spelling insn;

@@ -26,7 +26,8 @@ answer_effect effect end (Ok loaded) same = cc
 answer_effect effect end (Err stop) same = cc
 
 -- a valid instruction with this answer has an opcode with this effect
-op_answers : {M A : Type 0} (bus : Interface M A) (insn : Insn) (regs : Regs) (meaning : M) (account : A) (end : Effect) → IsValid insn
+op_answers : {M A : Type 0} (bus : Interface M A) (insn : Insn) (regs : Regs) (meaning : M) (account : A) (end : Effect)
+    → IsValid insn
     → (execution_of bus (row_of insn regs) regs meaning account).answer ≡ Ok end → op_effect insn.op ≡ end
 unfolding execution_of row_of
 op_answers bus insn regs meaning account end valid answers =
@@ -41,7 +42,8 @@ Answers bus insn regs meaning account end op =
 
 -- ---- SYSCALL
 
-two_syscall : (opcode : ℕ) (is_syscall is_ud2 : Bool) → nat_eq opcode 5 ≡ is_syscall → two_byte_effect is_syscall is_ud2 ≡ effect.Syscall → Two opcode ≡ Two 5
+two_syscall : (opcode : ℕ) (is_syscall is_ud2 : Bool) → nat_eq opcode 5 ≡ is_syscall
+    → two_byte_effect is_syscall is_ud2 ≡ effect.Syscall → Two opcode ≡ Two 5
 two_syscall opcode true is_ud2 test ends = let is : opcode ≡ 5 = grind (arith, common_steps, test) in ap (λ number. Two number) is
 two_syscall opcode false true test ends = cc
 two_syscall opcode false false test ends = cc
@@ -54,7 +56,8 @@ op_syscall Vmfunc ends = cc
 
 pub syscall_ends : {M A : Type 0} (bus : Interface M A) (insn : Insn) (regs : Regs) (meaning : M) (account : A) → IsValid insn
     → (execution_of bus (row_of insn regs) regs meaning account).answer ≡ Ok effect.Syscall → insn.op ≡ Two 5
-syscall_ends bus insn regs meaning account valid ends = op_syscall insn.op (op_answers bus insn regs meaning account effect.Syscall valid ends)
+syscall_ends bus insn regs meaning account valid ends =
+    op_syscall insn.op (op_answers bus insn regs meaning account effect.Syscall valid ends)
 
 pub syscall_begins : {M A : Type 0} (bus : Interface M A) (insn : Insn) (regs : Regs) (meaning : M) (account : A)
     → insn.op ≡ Two 5 → (execution_of bus (row_of insn regs) regs meaning account).answer ≡ Ok effect.Syscall
@@ -76,7 +79,8 @@ op_switch Vmfunc ends = refl
 
 pub switch_ends : {M A : Type 0} (bus : Interface M A) (insn : Insn) (regs : Regs) (meaning : M) (account : A) → IsValid insn
     → (execution_of bus (row_of insn regs) regs meaning account).answer ≡ Ok effect.Switch → insn.op ≡ Vmfunc
-switch_ends bus insn regs meaning account valid ends = op_switch insn.op (op_answers bus insn regs meaning account effect.Switch valid ends)
+switch_ends bus insn regs meaning account valid ends =
+    op_switch insn.op (op_answers bus insn regs meaning account effect.Switch valid ends)
 
 pub switch_begins : {M A : Type 0} (bus : Interface M A) (insn : Insn) (regs : Regs) (meaning : M) (account : A)
     → insn.op ≡ Vmfunc → (execution_of bus (row_of insn regs) regs meaning account).answer ≡ Ok effect.Switch
@@ -85,9 +89,11 @@ switch_begins bus insn regs meaning account is = subst (Answers bus insn regs me
 
 -- ---- UD2
 
-two_undefined : (opcode : ℕ) (is_syscall is_ud2 : Bool) → nat_eq opcode 11 ≡ is_ud2 → two_byte_effect is_syscall is_ud2 ≡ effect.Undefined → Two opcode ≡ Two 11
+two_undefined : (opcode : ℕ) (is_syscall is_ud2 : Bool) → nat_eq opcode 11 ≡ is_ud2
+    → two_byte_effect is_syscall is_ud2 ≡ effect.Undefined → Two opcode ≡ Two 11
 two_undefined opcode true is_ud2 test ends = cc
-two_undefined opcode false true test ends = let is : opcode ≡ 11 = grind (arith, common_steps, test) in ap (λ number. Two number) is
+two_undefined opcode false true test ends = let is : opcode ≡ 11 = grind (arith, common_steps, test) in
+    ap (λ number. Two number) is
 two_undefined opcode false false test ends = cc
 
 op_undefined : (op : Op) → op_effect op ≡ effect.Undefined → op ≡ Two 11
@@ -98,7 +104,8 @@ op_undefined Vmfunc ends = cc
 
 pub undefined_ends : {M A : Type 0} (bus : Interface M A) (insn : Insn) (regs : Regs) (meaning : M) (account : A) → IsValid insn
     → (execution_of bus (row_of insn regs) regs meaning account).answer ≡ Ok effect.Undefined → insn.op ≡ Two 11
-undefined_ends bus insn regs meaning account valid ends = op_undefined insn.op (op_answers bus insn regs meaning account effect.Undefined valid ends)
+undefined_ends bus insn regs meaning account valid ends =
+    op_undefined insn.op (op_answers bus insn regs meaning account effect.Undefined valid ends)
 
 pub undefined_begins : {M A : Type 0} (bus : Interface M A) (insn : Insn) (regs : Regs) (meaning : M) (account : A)
     → insn.op ≡ Two 11 → (execution_of bus (row_of insn regs) regs meaning account).answer ≡ Ok effect.Undefined

@@ -20,26 +20,33 @@ access_stops M A bus claim all (Loads address size) meaning loaded =
     load_stops claim (byte_for (bus.byte meaning) access.Read) (λ at. all meaning at access.Read) address size
 access_stops M A bus claim all (LoadsToWrite address size) meaning loaded =
     load_stops claim (byte_for_write (bus.byte meaning))
-    (λ at. then_stops ℕ ℕ claim (bus.byte meaning at access.Write) (λ _. bus.byte meaning at access.Read) (all meaning at access.Write) (λ _. all meaning at access.Read))
+    (λ at. then_stops ℕ ℕ claim (bus.byte meaning at access.Write) (λ _. bus.byte meaning at access.Read)
+    (all meaning at access.Write) (λ _. all meaning at access.Read))
     address size
 access_stops M A bus claim all (Stores address size value) meaning loaded =
     then_stops (Unit {0}) ℕ claim (store_answer (byte_for (bus.byte meaning) access.Write) address size) (λ _. Ok loaded)
     (store_stops claim (byte_for (bus.byte meaning) access.Write) (λ at. all meaning at access.Write) address size) (λ _. tt)
 
-run_on_stops : (M A : Type 0) (claim : BusStop → Type 0) (next : M → A → ℕ → Run M A) (answer : Result ℕ BusStop) (meaning : M) (account : A)
-    → IfErr answer claim → ((loaded : ℕ) → IfErr (next meaning account loaded).answer claim) → IfErr (run_on next answer meaning account).answer claim
+run_on_stops : (M A : Type 0) (claim : BusStop → Type 0) (next : M → A → ℕ
+    → Run M A) (answer : Result ℕ BusStop) (meaning : M) (account : A)
+    → IfErr answer claim → ((loaded : ℕ) → IfErr (next meaning account loaded).answer claim)
+    → IfErr (run_on next answer meaning account).answer claim
 run_on_stops M A claim next (Ok loaded) meaning account one all = all loaded
 run_on_stops M A claim next (Err stop) meaning account one all = one
 
 run_stops : (M A : Type 0) (bus : Interface M A) (claim : BusStop → Type 0) → ByteStops M A bus claim
-    → (list : List MemoryAccess) (meaning : M) (account : A) (loaded : ℕ) → IfErr (run bus list meaning account loaded).answer claim
+    → (list : List MemoryAccess) (meaning : M) (account : A) (loaded : ℕ)
+    → IfErr (run bus list meaning account loaded).answer claim
 run_stops M A bus claim all [] meaning account loaded = tt
 run_stops M A bus claim all (one ∷ others) meaning account loaded =
-    run_on_stops M A claim (run bus others) (access_answer bus one meaning loaded) (meaning_after bus one meaning loaded) (bus.rule (call_of one loaded) meaning account)
+    run_on_stops M A claim (run bus others) (access_answer bus one meaning loaded) (meaning_after bus one meaning loaded)
+    (bus.rule (call_of one loaded) meaning account)
     (access_stops M A bus claim all one meaning loaded)
-    (λ next. run_stops M A bus claim all others (meaning_after bus one meaning loaded) (bus.rule (call_of one loaded) meaning account) next)
+    (λ next. run_stops M A bus claim all others (meaning_after bus one meaning loaded)
+    (bus.rule (call_of one loaded) meaning account) next)
 
-effect_stops : (claim : BusStop → Type 0) (effect : Effect) (answer : Result ℕ BusStop) → IfErr answer claim → IfErr (effect_after effect answer) claim
+effect_stops : (claim : BusStop → Type 0) (effect : Effect) (answer : Result ℕ BusStop) → IfErr answer claim
+    → IfErr (effect_after effect answer) claim
 effect_stops claim effect (Ok loaded) one = tt
 effect_stops claim effect (Err stop) one = one
 
@@ -49,7 +56,8 @@ pub execution_stops : (M A : Type 0) (bus : Interface M A) (claim : BusStop → 
     → (row : Row) (regs : Regs) (meaning : M) (account : A) → IfErr (execution_of bus row regs meaning account).answer claim
 unfolding execution_of
 execution_stops M A bus claim all row regs meaning account =
-    effect_stops claim row.effect (run bus (accesses row) meaning account 0).answer (run_stops M A bus claim all (accesses row) meaning account 0)
+    effect_stops claim row.effect (run bus (accesses row) meaning account 0).answer
+    (run_stops M A bus claim all (accesses row) meaning account 0)
 
 pub fetch_stops : (M A : Type 0) (bus : Interface M A) (claim : BusStop → Type 0) → ByteStops M A bus claim
     → (meaning : M) (address : ℕ) (account account' : A) → claim (undefined_at address)

@@ -5,7 +5,7 @@ use Rattle.sb_insn.specs.declared.opcode_map.Instruction.{Instruction}
 use Rattle.sb_insn.specs.declared.opcode_map.Mnemonic.{Mnemonic}
 use Rattle.sb_insn.specs.declared.opcode_map.Mnemonic.TheVariants as mnemonic
 use Rattle.sb_insn.specs.declared.opcode_map.OperandForm.{OperandForm}
-use Rattle.sb_insn.specs.declared.opcode_map.Operand.{Operand}
+use Rattle.sb_insn.specs.declared.opcode_map.ModRmOpcode.{ModRmOpcode}
 use Rattle.sb_insn.specs.Listing.{instruction_of, operand_for}
 use Rattle.sb_alu.specs.declared.size.Size.{Size}
 use Rattle.sb_alu.specs.declared.size.Size.TheVariants.{Byte}
@@ -18,7 +18,7 @@ use Rattle.sb_exec.specs.Operand.{operand_size, opcode_of}
 
 -- ---- what the table looks at beside the instruction
 
-abbrev pub byte_or : Option Operand → Size → Size
+abbrev pub byte_or : Option ModRmOpcode → Size → Size
 byte_or None size = size
 byte_or (Some operand) size = if operand.byte_rm then Byte else size
 
@@ -48,13 +48,13 @@ action_by mnemonic.Neg form insn = Compute operation.Negate form (operand_size i
 action_by mnemonic.Imul form insn = Compute operation.Multiply form (operand_size insn)
 action_by mnemonic.Shl form insn = Compute operation.ShiftLeft form (operand_size insn)
 action_by mnemonic.Shr form insn = Compute operation.ShiftRight form (operand_size insn)
-action_by mnemonic.Sar form insn = Compute operation.ShiftSigned form (operand_size insn)
+action_by mnemonic.Sar form insn = Compute operation.ShiftArithmetic form (operand_size insn)
 action_by mnemonic.Inc form insn = Compute operation.Increment form (operand_size insn)
 action_by mnemonic.Dec form insn = Compute operation.Decrement form (operand_size insn)
 action_by mnemonic.Bsf form insn = Compute operation.ScanForward form (operand_size insn)
-action_by mnemonic.Xchg form insn = Exchange exchange.Swap (operand_size insn)
-action_by mnemonic.Xadd form insn = Exchange exchange.Add (operand_size insn)
-action_by mnemonic.Cmpxchg form insn = Exchange exchange.Compare (operand_size insn)
+action_by mnemonic.Xchg form insn = Exchange exchange.Xchg (operand_size insn)
+action_by mnemonic.Xadd form insn = Exchange exchange.Xadd (operand_size insn)
+action_by mnemonic.Cmpxchg form insn = Exchange exchange.Cmpxchg (operand_size insn)
 action_by mnemonic.Push form insn = Push form
 action_by mnemonic.Pop form insn = Pop
 action_by mnemonic.Jmp form insn = Jump form

@@ -6,7 +6,7 @@ use Rattle.sb_insn.specs.declared.registers.Flags.{Flags}
 use Rattle.sb_insn.specs.declared.opcode_map.OperandForm.{OperandForm}
 use Rattle.sb_insn.specs.declared.opcode_map.OperandForm.TheVariants.{Relative}
 use Rattle.sb_insn.specs.declared.registers.TheConstants.{RSP}
-use Rattle.sb_alu.specs.declared.size.Size.TheVariants.{Quad}
+use Rattle.sb_alu.specs.declared.size.Size.TheVariants.{Quadword}
 use Rattle.sb_exec.specs.Operand.{general, with_register, next_rip}
 use Rattle.sb_alu.specs.Shift.{differ}
 use Rattle.sb_exec.specs.WriteBack.{last_operand}
@@ -14,19 +14,19 @@ use Rattle.sb_exec.specs.WriteBack.{last_operand}
 -- ---- the stack, whose top is at the address in RSP
 
 -- the top after 8 bytes are pushed
-abbrev pub top_pushed : Regs → ℕ
-top_pushed regs = (general regs RSP + (2 ^ 64 - 8)) % 2 ^ 64
+abbrev pub rsp_after_push : Regs → ℕ
+rsp_after_push regs = (general regs RSP + (2 ^ 64 - 8)) % 2 ^ 64
 
-abbrev pub pushed : Regs → Regs
-pushed regs = with_register Quad RSP (top_pushed regs) regs
+abbrev pub regs_after_push : Regs → Regs
+regs_after_push regs = with_register Quadword RSP (rsp_after_push regs) regs
 
 -- the registers after 8 bytes are popped
-abbrev pub popped : Regs → Regs
-popped regs = with_register Quad RSP ((general regs RSP + 8) % 2 ^ 64) regs
+abbrev pub regs_after_pop : Regs → Regs
+regs_after_pop regs = with_register Quadword RSP ((general regs RSP + 8) % 2 ^ 64) regs
 
 -- the popped value is written last, so POP RSP leaves it
-abbrev pub popped_into : ℕ → ℕ → Regs → Regs
-popped_into number value regs = with_register Quad number value (popped regs)
+abbrev pub regs_after_pop_into : ℕ → ℕ → Regs → Regs
+regs_after_pop_into number value regs = with_register Quadword number value (regs_after_pop regs)
 
 -- ---- jumps
 
@@ -35,7 +35,7 @@ at_rip rip regs = record regs { rip = rip }
 
 -- where a jump or call leads
 abbrev pub target_of : OperandForm → Insn → Regs → ℕ → ℕ
-target_of form insn regs loaded = last_operand form Quad insn regs loaded
+target_of form insn regs loaded = last_operand form Quadword insn regs loaded
 
 -- ---- conditions (SDM volume 2, appendix B.1.4.7)
 
@@ -56,6 +56,6 @@ abbrev pub condition : ℕ → Flags → Bool
 condition number flags = differ (even_condition (number / 2) flags) (number % 2 == 1)
 
 -- a jump where the condition holds
-abbrev pub jumped_if : ℕ → Insn → Regs → Regs
-jumped_if number insn regs =
+abbrev pub regs_after_jcc : ℕ → Insn → Regs → Regs
+regs_after_jcc number insn regs =
     at_rip (if condition number regs.flags then target_of Relative insn regs 0 else next_rip insn regs) regs

@@ -9,14 +9,14 @@ use Rattle.sb_bus.specs.declared.stop.FaultKind.TheVariants.{Undefined}
 use Rattle.sb_bus.specs.Interface.{Interface, FetchByte}
 
 -- the address so many bytes further on
-abbrev pub further : ℕ → ℕ → ℕ
-further address count = (address + count) % 2 ^ 64
+abbrev pub bytes_from_fetch : ℕ → ℕ → ℕ
+bytes_from_fetch address count = (address + count) % 2 ^ 64
 
 -- ---- the bytes, where each address gives a byte or a stop
 
 -- these bytes stand from the address on
 abbrev pub Stands : (ℕ → Result ℕ BusStop) → ℕ → List ℕ → Type 0
-Stands fetch address bytes = EachIndex bytes (λ index. fetch (further address index) ≡ Ok (slice_index bytes index))
+Stands fetch address bytes = EachIndex bytes (λ index. fetch (bytes_from_fetch address index) ≡ Ok (slice_index bytes index))
 
 -- each proper front of the bytes needs more: no instruction begins it, and one begins with it
 unfoldable pub HasShortFronts : List ℕ → Type 0
@@ -32,7 +32,7 @@ abbrev pub EndsFetch : (ℕ → Result ℕ BusStop) → ℕ → List ℕ → Res
 EndsFetch fetch address bytes (Ok insn) asked = Spells bytes insn × (asked ≡ length bytes)
 EndsFetch fetch address bytes (Err stop) asked =
     (IsUndecoded bytes × (stop ≡ undefined_at address) × (asked ≡ length bytes))
-    ⊎ (IsShort bytes × (fetch (further address (length bytes)) ≡ Err stop) × (asked ≡ suc (length bytes)))
+    ⊎ (IsShort bytes × (fetch (bytes_from_fetch address (length bytes)) ≡ Err stop) × (asked ≡ suc (length bytes)))
 
 -- Bytes are fetched one after another, as long as those so far are a proper front of an instruction.
 pub record Fetches (fetch : ℕ → Result ℕ BusStop) (address : ℕ) (result : Result Insn BusStop) (asked : ℕ)
@@ -58,7 +58,7 @@ fetch_of bus meaning address = bus.byte meaning address Fetch
 abbrev pub after_fetches : {M A : Type 0} → Interface M A → M → ℕ → ℕ → A → A
 after_fetches bus meaning address zero account = account
 after_fetches bus meaning address (suc count) account =
-    bus.rule (FetchByte (further address count)) meaning (after_fetches bus meaning address count account)
+    bus.rule (FetchByte (bytes_from_fetch address count)) meaning (after_fetches bus meaning address count account)
 
 -- an instruction is fetched, and the account is that of the fetches that were asked for
 pub record FetchesOn {M A : Type 0} (bus : Interface M A) (meaning : M) (address : ℕ)

@@ -12,7 +12,7 @@ use Rattle.sb_exec.specs.declared.action.Store.TheVariants as store
 use Rattle.sb_alu.specs.Size.{size_bytes}
 use Rattle.sb_bus.specs.Interface.{Interface, LoadBytes, LoadForWrite, StoreBytes}
 use Rattle.sb_bus.specs.Access.{loaded_from, store_answer, byte_for, byte_for_write, where_stored}
-use Rattle.sb_exec.specs.WriteBack.{keeping}
+use Rattle.sb_exec.specs.WriteBack.{without_store}
 use Rattle.sb_exec.specs.Row.{Row}
 use Rattle.sb_exec.specs.Execution.{Execution}
 
@@ -88,4 +88,4 @@ load_then_store bus row regs meaning account =
 -- it loads this, and the registers after it follow from the loaded number
 abbrev pub row_without_store : Load → (ℕ → Regs) → Row
 row_without_store loads after =
-    record { load = loads; store = store.Nothing; after = λ loaded. keeping (after loaded); effect = Next }
+    record { load = loads; store = store.Nothing; after = λ loaded. without_store (after loaded); effect = Next }

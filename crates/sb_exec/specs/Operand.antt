@@ -7,7 +7,7 @@ use Rattle.sb_insn.specs.declared.registers.Regs.{Regs}
 use Rattle.sb_insn.specs.Spelling.{spelling}
 use Rattle.sb_insn.specs.Fields.{reg_field, rm_field, rex_w, rex_r, rex_b}
 use Rattle.sb_alu.specs.declared.size.Size.{Size}
-use Rattle.sb_alu.specs.declared.size.Size.TheVariants.{Byte, Double, Quad}
+use Rattle.sb_alu.specs.declared.size.Size.TheVariants.{Byte, Doubleword, Quadword}
 use Rattle.sb_exec.specs.declared.action.Place.{Place}
 use Rattle.sb_exec.specs.declared.action.Place.TheVariants.{Register, Memory}
 use Rattle.sb_alu.specs.Size.{low}
@@ -39,7 +39,7 @@ opcode_number insn = opcode_of insn.op % 8 + 8 * rex_b insn.rex
 
 -- 64 bits with REX.W, else 32
 abbrev pub operand_size : Insn → Size
-operand_size insn = if rex_w insn.rex == 1 then Quad else Double
+operand_size insn = if rex_w insn.rex == 1 then Quadword else Doubleword
 
 -- ---- the next instruction
 
@@ -58,15 +58,15 @@ abbrev pub register : Size → ℕ → Regs → ℕ
 register size number regs = low size (general regs number)
 
 -- What a register holds after a value is written to it: 32 bits clear its upper half, a byte leaves the bits above it.
-unfoldable pub merged : Size → ℕ → ℕ → ℕ
-merged Byte old value = old / 256 * 256 + value % 256
-merged Double old value = value % 2 ^ 32
-merged Quad old value = value
+unfoldable pub register_after_write : Size → ℕ → ℕ → ℕ
+register_after_write Byte old value = old / 256 * 256 + value % 256
+register_after_write Doubleword old value = value % 2 ^ 32
+register_after_write Quadword old value = value
 
 -- the registers after a value of this size is written to one of them
 abbrev pub with_register : Size → ℕ → ℕ → Regs → Regs
 with_register size number value regs =
-    record regs { general = slice_set regs.general number (merged size (general regs number) value) }
+    record regs { general = slice_set regs.general number (register_after_write size (general regs number) value) }
 
 -- ---- places
 

@@ -6,7 +6,7 @@ use Rattle.sb_insn.specs.declared.opcode_map.OperandForm.{OperandForm}
 use Rattle.sb_insn.specs.declared.opcode_map.OperandForm.TheVariants as form
 use Rattle.sb_insn.specs.declared.registers.TheConstants.{RSP}
 use Rattle.sb_alu.specs.declared.size.Size.{Size}
-use Rattle.sb_alu.specs.declared.size.Size.TheVariants.{Byte, Quad}
+use Rattle.sb_alu.specs.declared.size.Size.TheVariants.{Byte, Quadword}
 use Rattle.sb_exec.specs.declared.action.Effect.{Effect}
 use Rattle.sb_exec.specs.declared.action.Effect.TheVariants.{Next}
 use Rattle.sb_alu.specs.declared.operation.Operation.{Operation}
@@ -24,9 +24,9 @@ use Rattle.sb_exec.specs.declared.action.Store.TheVariants as store
 use Rattle.sb_exec.specs.declared.action.After.{After}
 use Rattle.sb_exec.specs.Operand.{reg_number, opcode_number, general, with_register, next_rip}
 use Rattle.sb_exec.specs.Address.{linear, operand_address, rm_place}
-use Rattle.sb_exec.specs.WriteBack.{stepped, keeping, storing, rm_value, last_operand, computed}
+use Rattle.sb_exec.specs.WriteBack.{regs_at_next, without_store, with_store, rm_value, last_operand, compute_result}
 use Rattle.sb_exec.specs.Exchanged.{exchange_after}
-use Rattle.sb_exec.specs.Branch.{top_pushed, pushed, popped, popped_into, at_rip, target_of, jumped_if}
+use Rattle.sb_exec.specs.Branch.{rsp_after_push, regs_after_push, regs_after_pop, regs_after_pop_into, at_rip, target_of, regs_after_jcc}
 use Rattle.sb_exec.specs.Row.{Row}
 use Rattle.sb_exec.specs.Actions.{action_of}
 
@@ -34,23 +34,24 @@ use Rattle.sb_exec.specs.Actions.{action_of}
 
 -- a value that is written to the register that reg names
 abbrev pub into_reg : Size → ℕ → Insn → Regs → After
-into_reg size value insn regs = keeping (with_register size (reg_number insn) value (stepped insn regs))
+into_reg size value insn regs = without_store (with_register size (reg_number insn) value (regs_at_next insn regs))
 
 -- what is left after an action that loaded this number
 unfoldable pub after_action : Action → Insn → Regs → ℕ → After
-after_action (Compute operation form size) insn regs loaded = computed operation form size insn regs loaded
+after_action (Compute operation form size) insn regs loaded = compute_result operation form size insn regs loaded
 after_action (ZeroExtend size) insn regs loaded = into_reg size (rm_value Byte insn regs loaded) insn regs
 after_action (LoadAddress size) insn regs loaded = into_reg size (operand_address insn regs) insn regs
 after_action (Exchange exchange size) insn regs loaded = exchange_after exchange size insn regs loaded
-after_action (Push form) insn regs loaded = storing (pushed (stepped insn regs)) (last_operand form Quad insn regs loaded)
-after_action Pop insn regs loaded = keeping (popped_into (opcode_number insn) loaded (stepped insn regs))
-after_action Return insn regs loaded = keeping (at_rip loaded (popped regs))
-after_action (Jump form) insn regs loaded = keeping (at_rip (target_of form insn regs loaded) regs)
-after_action (JumpIf number) insn regs loaded = keeping (jumped_if number insn regs)
+after_action (Push form) insn regs loaded =
+    with_store (regs_after_push (regs_at_next insn regs)) (last_operand form Quadword insn regs loaded)
+after_action Pop insn regs loaded = without_store (regs_after_pop_into (opcode_number insn) loaded (regs_at_next insn regs))
+after_action Return insn regs loaded = without_store (at_rip loaded (regs_after_pop regs))
+after_action (Jump form) insn regs loaded = without_store (at_rip (target_of form insn regs loaded) regs)
+after_action (JumpIf number) insn regs loaded = without_store (regs_after_jcc number insn regs)
 after_action (Call form) insn regs loaded =
-    storing (at_rip (target_of form insn regs loaded) (pushed regs)) (next_rip insn regs)
-after_action Pass insn regs loaded = keeping (stepped insn regs)
-after_action (Stop effect) insn regs loaded = keeping regs
+    with_store (at_rip (target_of form insn regs loaded) (regs_after_push regs)) (next_rip insn regs)
+after_action Pass insn regs loaded = without_store (regs_at_next insn regs)
+after_action (Stop effect) insn regs loaded = without_store regs
 
 -- ---- accesses
 
@@ -71,7 +72,7 @@ destination_use operation.Decrement = memory_use.Update
 destination_use operation.Multiply = memory_use.Update
 destination_use operation.ShiftLeft = memory_use.Update
 destination_use operation.ShiftRight = memory_use.Update
-destination_use operation.ShiftSigned = memory_use.Update
+destination_use operation.ShiftArithmetic = memory_use.Update
 destination_use operation.ScanForward = memory_use.Update
 
 -- what is done to the operand that mod and rm name: it is the destination, a source, or none
@@ -108,7 +109,7 @@ store_by memory_use.Nothing size (Memory address) = store.Nothing
 
 -- what is pushed or jumped to is loaded, if it is in memory
 abbrev pub load_source : OperandForm → Insn → Regs → Load
-load_source form insn regs = load_by (rm_use form memory_use.Read) Quad (rm_place insn regs)
+load_source form insn regs = load_by (rm_use form memory_use.Read) Quadword (rm_place insn regs)
 
 -- what an action loads
 unfoldable pub load_of : Action → Insn → Regs → Load
@@ -118,8 +119,8 @@ load_of (Exchange exchange size) insn regs = load_by memory_use.Update size (rm_
 load_of (Push form) insn regs = load_source form insn regs
 load_of (Jump form) insn regs = load_source form insn regs
 load_of (Call form) insn regs = load_source form insn regs
-load_of Pop insn regs = load.Read (linear (general regs RSP)) Quad
-load_of Return insn regs = load.Read (linear (general regs RSP)) Quad
+load_of Pop insn regs = load.Read (linear (general regs RSP)) Quadword
+load_of Return insn regs = load.Read (linear (general regs RSP)) Quadword
 load_of (LoadAddress size) insn regs = load.Nothing
 load_of (JumpIf number) insn regs = load.Nothing
 load_of Pass insn regs = load.Nothing
@@ -127,7 +128,7 @@ load_of (Stop effect) insn regs = load.Nothing
 
 -- 8 bytes are stored below the top of the stack
 abbrev pub store_below : Regs → Store
-store_below regs = store.At (linear (top_pushed regs)) Quad
+store_below regs = store.At (linear (rsp_after_push regs)) Quadword
 
 -- what an action stores
 unfoldable pub store_of : Action → Insn → Regs → Store

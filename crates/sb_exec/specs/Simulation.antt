@@ -45,7 +45,8 @@ IsAnywhere address size = Unit {0}
 -- ---- what two memories keep
 
 -- a store at one of these places that both permit keeps them related
-pub record StoresKeepAt {M N A B : Type 0} (At : ℕ → ℕ → Type 0) (Related : M → N → Type 0) (left : Interface M A) (right : Interface N B)
+pub record StoresKeepAt {M N A B : Type 0} (At : ℕ → ℕ → Type 0) (Related : M → N
+    → Type 0) (left : Interface M A) (right : Interface N B)
     : Type 0 where
   pub stored : (first : M) (second : N) → Related first second → (address size value : ℕ) → At address size
       → store_answer (byte_for (left.byte first) access.Write) address size ≡ Ok tt
@@ -81,12 +82,14 @@ AgreeAt naming left right (Stores address size value) first second =
     AgreeFrom naming (byte_for (left.byte first) access.Write) (byte_for (right.byte second) access.Write) address size
 
 -- the accesses agree in their order, up to and with the first that stops
-abbrev pub AgreeAlong : {M N A B : Type 0} → (BusStop → BusStop) → Interface M A → Interface N B → List MemoryAccess → M → N → ℕ → Type 0
+abbrev pub AgreeAlong : {M N A B : Type 0} → (BusStop → BusStop) → Interface M A → Interface N B → List MemoryAccess → M → N
+    → ℕ → Type 0
 AgreeAlong naming left right [] first second loaded = Unit {0}
 AgreeAlong naming left right (one_access ∷ accesses) first second loaded =
     AgreeAt naming left right one_access first second
     × WhereOk (access_answer left one_access first loaded)
-    (AgreeAlong naming left right accesses (meaning_after left one_access first loaded) (meaning_after right one_access second loaded))
+    (AgreeAlong naming left right accesses (meaning_after left one_access first loaded)
+    (meaning_after right one_access second loaded))
 
 -- related memories agree at each access at one of these places
 pub record AccessesAgreeAt {M N A B : Type 0} (At : ℕ → ℕ → Type 0) (Related : M → N → Type 0) (naming : BusStop → BusStop)
@@ -197,6 +200,7 @@ RowsIn {M} {N} {A} {B} Related left right =
 -- what each permitted store keeps, each row keeps
 abbrev pub RowsKeep : {M A : Type 0} → (M → Type 0) → Interface M A → Type 0
 RowsKeep {M} {A} Claim bus =
-    ((first : M) → Claim first → (address size value : ℕ) → store_answer (byte_for (bus.byte first) access.Write) address size ≡ Ok tt
+    ((first : M) → Claim first → (address size value : ℕ)
+    → store_answer (byte_for (bus.byte first) access.Write) address size ≡ Ok tt
     → Claim (bus.stored first address size value))
     → (row : Row) (regs : Regs) (first : M) (account : A) → Claim first → Claim (execution_of bus row regs first account).meaning

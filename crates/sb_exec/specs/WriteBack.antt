@@ -17,30 +17,30 @@ use Rattle.sb_exec.specs.declared.action.After.{After}
 use Rattle.sb_alu.specs.Size.{low}
 use Rattle.sb_exec.specs.Operand.{reg_number, opcode_number, operand_value, register, with_register, next_rip}
 use Rattle.sb_exec.specs.Address.{rm_place}
-use Rattle.sb_alu.specs.Operated.{operated}
+use Rattle.sb_alu.specs.Operated.{operation_outcome}
 
 -- ---- registers after an instruction
 
 -- the registers at the next instruction
-abbrev pub stepped : Insn → Regs → Regs
-stepped insn regs = record regs { rip = next_rip insn regs }
+abbrev pub regs_at_next : Insn → Regs → Regs
+regs_at_next insn regs = record regs { rip = next_rip insn regs }
 
 -- the registers with other flags
 abbrev pub with_flags : Flags → Regs → Regs
 with_flags flags regs = record regs { flags = flags }
 
 -- nothing is stored
-abbrev pub keeping : Regs → After
-keeping regs = record { regs = regs; stored = 0 }
+abbrev pub without_store : Regs → After
+without_store regs = record { regs = regs; stored = 0 }
 
 -- this number is stored
-abbrev pub storing : Regs → ℕ → After
-storing regs value = record { regs = regs; stored = value }
+abbrev pub with_store : Regs → ℕ → After
+with_store regs value = record { regs = regs; stored = value }
 
 -- a value that is written to a place: into its register, or as what is stored
-unfoldable pub written : Size → Place → ℕ → Regs → After
-written size (Register number) value regs = keeping (with_register size number value regs)
-written size (Memory address) value regs = storing regs value
+unfoldable pub write_result : Size → Place → ℕ → Regs → After
+write_result size (Register number) value regs = without_store (with_register size number value regs)
+write_result size (Memory address) value regs = with_store regs value
 
 -- ---- operands
 
@@ -99,17 +99,18 @@ last_operand Nothing size insn regs loaded = 0
 -- ---- write back
 
 -- a result that is written back, if there is one
-unfoldable pub written_back : Size → Place → Option ℕ → Regs → After
-written_back size place None regs = keeping regs
-written_back size place (Some value) regs = written size place value regs
+unfoldable pub result_or_nothing : Size → Place → Option ℕ → Regs → After
+result_or_nothing size place None regs = without_store regs
+result_or_nothing size place (Some value) regs = write_result size place value regs
 
 -- an outcome that is written back, with its flags
-abbrev pub back : Size → Place → Outcome → Regs → After
-back size place outcome regs = written_back size place outcome.value (with_flags outcome.flags regs)
+abbrev pub write_back : Size → Place → Outcome → Regs → After
+write_back size place outcome regs = result_or_nothing size place outcome.value (with_flags outcome.flags regs)
 
 -- the result of an operation on the operands of a form, written back
-unfoldable pub computed : Operation → OperandForm → Size → Insn → Regs → ℕ → After
-computed operation form size insn regs loaded =
-    back size (destination form insn regs)
-    (operated operation size (first_operand form size insn regs loaded) (last_operand form size insn regs loaded) regs.flags)
-    (stepped insn regs)
+unfoldable pub compute_result : Operation → OperandForm → Size → Insn → Regs → ℕ → After
+compute_result operation form size insn regs loaded =
+    write_back size (destination form insn regs)
+    (operation_outcome operation size (first_operand form size insn regs loaded)
+    (last_operand form size insn regs loaded) regs.flags)
+    (regs_at_next insn regs)

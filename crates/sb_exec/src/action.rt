@@ -21,11 +21,11 @@ pub enum Effect {
 #[derive(Clone, Copy, Debug, PartialEq, Eq)]
 pub enum Exchange {
     /// XCHG.
-    Swap,
+    Xchg,
     /// XADD.
-    Add,
+    Xadd,
     /// CMPXCHG.
-    Compare,
+    Cmpxchg,
 }
 
 /// What is done to the operand that mod and rm name, where it is in memory.

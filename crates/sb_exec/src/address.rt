@@ -4,14 +4,14 @@ ghost use Rattle.std.specs.Prelude.{◌≡◌, ◌<◌};
 ghost use Rattle.sb_exec.specs.Operand.{IsPlace};
 ghost use Rattle.sb_exec.specs.Address.{
   sib_of,
-  index_number as index_number_of,
-  base_number as base_number_of,
-  scaled_index as scaled_index_of,
-  sib_base as sib_base_of,
-  disp_value as disp_value_of,
-  base_value as base_value_of,
-  operand_address as operand_address_of,
-  rm_place as rm_place_of,
+  index_number,
+  base_number,
+  scaled_index,
+  sib_base,
+  disp_value,
+  base_value,
+  operand_address,
+  rm_place,
 };
 
 use crate::action::Place;
@@ -30,7 +30,7 @@ fn sib(insn: &Insn) -> u8
 
 /// The register that index names; 4 is no index.
 fn index_number(insn: &Insn) -> usize
-    ensures value { result ≡ index_number_of insn.now }
+    ensures value { result ≡ index_number insn.now }
     ensures range { result < 16 }
 {
     usize::from(index(sib(insn)) + 8 * rex_x(insn.rex))
@@ -38,7 +38,7 @@ fn index_number(insn: &Insn) -> usize
 
 /// The register that base names.
 fn base_number(insn: &Insn) -> usize
-    ensures value { result ≡ base_number_of insn.now }
+    ensures value { result ≡ base_number insn.now }
     ensures range { result < 16 }
 {
     usize::from(base(sib(insn)) + 8 * rex_b(insn.rex))
@@ -46,7 +46,7 @@ fn base_number(insn: &Insn) -> usize
 
 /// The index times 1, 2, 4 or 8.
 fn scaled_index(insn: &Insn, regs: &Regs) -> u64
-    ensures { result ≡ scaled_index_of insn.now regs.now }
+    ensures { result ≡ scaled_index insn.now regs.now }
 {
     let number = index_number(insn);
     if number == 4 {
@@ -58,7 +58,7 @@ fn scaled_index(insn: &Insn, regs: &Regs) -> u64
 
 /// The base; with mod 0 a base field of 5 is no base.
 fn sib_base(insn: &Insn, regs: &Regs) -> u64
-    ensures { result ≡ sib_base_of insn.now regs.now }
+    ensures { result ≡ sib_base insn.now regs.now }
 {
     if mod_field(modrm(insn)) == 0 && base(sib(insn)) == 5 {
         0
@@ -71,7 +71,7 @@ fn sib_base(insn: &Insn, regs: &Regs) -> u64
 
 /// The displacement, sign-extended to 64 bits.
 fn disp_value(disp: Disp) -> u64
-    ensures { result ≡ disp_value_of disp }
+    ensures { result ≡ disp_value disp }
 {
     match disp {
         Disp::None => 0,
@@ -82,7 +82,7 @@ fn disp_value(disp: Disp) -> u64
 
 /// What the displacement is added to.
 fn base_value(insn: &Insn, regs: &Regs) -> u64
-    ensures { result ≡ base_value_of insn.now regs.now }
+    ensures { result ≡ base_value insn.now regs.now }
 {
     let rm = rm_field(modrm(insn));
     if mod_field(modrm(insn)) == 0 && rm == 5 {
@@ -97,7 +97,7 @@ fn base_value(insn: &Insn, regs: &Regs) -> u64
 /// The address of the memory operand.
 #[tactic(auto, unfolding(crate::specs::Address::operand_address))]
 pub fn operand_address(insn: &Insn, regs: &Regs) -> u64
-    ensures { result ≡ operand_address_of insn.now regs.now }
+    ensures { result ≡ operand_address insn.now regs.now }
 {
     base_value(insn, regs).wrapping_add(disp_value(insn.disp))
 }
@@ -105,7 +105,7 @@ pub fn operand_address(insn: &Insn, regs: &Regs) -> u64
 /// The operand that ModRM names: mod 3 names a register, any other memory.
 #[tactic(auto, unfolding(crate::specs::Address::rm_place))]
 pub fn rm_place(insn: &Insn, regs: &Regs) -> Place
-    ensures value { result ≡ rm_place_of insn.now regs.now }
+    ensures value { result ≡ rm_place insn.now regs.now }
     ensures range { IsPlace result }
 {
     if mod_field(modrm(insn)) == 3 {

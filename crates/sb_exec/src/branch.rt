@@ -4,14 +4,14 @@ ghost use Rattle.std.specs.Prelude.{◌≡◌, ◌<◌};
 ghost use Rattle.sb_exec.specs.Operand.{general};
 ghost use Rattle.sb_insn.specs.declared.registers.TheConstants.{RSP};
 ghost use Rattle.sb_exec.specs.Branch.{
-  top_pushed as top_pushed_of,
-  pushed as pushed_of,
-  popped as popped_of,
-  popped_into as popped_into_of,
+  rsp_after_push,
+  regs_after_push,
+  regs_after_pop,
+  regs_after_pop_into,
   target_of,
-  even_condition as even_condition_of,
-  condition as condition_of,
-  jumped_if as jumped_if_of,
+  even_condition,
+  condition,
+  regs_after_jcc,
 };
 
 use crate::operand::{next_rip, set_register};
@@ -31,36 +31,36 @@ pub fn stack_top(regs: &Regs) -> u64
 
 /// The top of the stack after 8 bytes are pushed.
 pub fn top_pushed(regs: &Regs) -> u64
-    ensures { result ≡ top_pushed_of regs.now }
+    ensures { result ≡ rsp_after_push regs.now }
 {
     stack_top(regs).wrapping_sub(8)
 }
 
 /// The registers after 8 bytes are pushed.
-pub fn pushed(mut regs: Regs) -> Regs
-    ensures { result ≡ pushed_of regs }
+pub fn regs_after_push(mut regs: Regs) -> Regs
+    ensures { result ≡ regs_after_push regs }
 {
     let top = top_pushed(&regs);
-    set_register(Size::Quad, RSP, top, &mut regs);
+    set_register(Size::Quadword, RSP, top, &mut regs);
     regs
 }
 
 /// The registers after 8 bytes are popped.
-pub fn popped(mut regs: Regs) -> Regs
-    ensures { result ≡ popped_of regs }
+pub fn regs_after_pop(mut regs: Regs) -> Regs
+    ensures { result ≡ regs_after_pop regs }
 {
     let top = stack_top(&regs).wrapping_add(8);
-    set_register(Size::Quad, RSP, top, &mut regs);
+    set_register(Size::Quadword, RSP, top, &mut regs);
     regs
 }
 
 /// The registers after 8 bytes are popped into one of them, which is written last.
 pub fn popped_into(number: usize, value: u64, regs: Regs) -> Regs
     requires { number < 16 }
-    ensures { result ≡ popped_into_of number value regs }
+    ensures { result ≡ regs_after_pop_into number value regs }
 {
-    let mut next = popped(regs);
-    set_register(Size::Quad, number, value, &mut next);
+    let mut next = regs_after_pop(regs);
+    set_register(Size::Quadword, number, value, &mut next);
     next
 }
 
@@ -70,12 +70,12 @@ pub fn popped_into(number: usize, value: u64, regs: Regs) -> Regs
 pub fn target(form: OperandForm, insn: &Insn, regs: &Regs, loaded: u64) -> u64
     ensures { result ≡ target_of form insn.now regs.now loaded }
 {
-    last_operand(form, Size::Quad, insn, regs, loaded)
+    last_operand(form, Size::Quadword, insn, regs, loaded)
 }
 
 /// The condition of an even number, by its half.
 fn even_condition(half: u8, flags: &Flags) -> bool
-    ensures { result ≡ even_condition_of half flags.now }
+    ensures { result ≡ even_condition half flags.now }
 {
     match half {
         0 => flags.of,
@@ -91,14 +91,14 @@ fn even_condition(half: u8, flags: &Flags) -> bool
 
 /// Whether a condition holds (SDM volume 2, appendix B.1.4.7): the odd numbers are the negations.
 fn condition(number: u8, flags: &Flags) -> bool
-    ensures { result ≡ condition_of number flags.now }
+    ensures { result ≡ condition number flags.now }
 {
     even_condition(number / 2, flags) != (number % 2 == 1)
 }
 
 /// The registers after a jump that is made where the condition holds.
 pub fn jumped_if(number: u8, insn: &Insn, regs: &Regs) -> Regs
-    ensures { result ≡ jumped_if_of number insn.now regs.now }
+    ensures { result ≡ regs_after_jcc number insn.now regs.now }
 {
     let rip = if condition(number, &regs.flags) {
         target(OperandForm::Relative, insn, regs, 0)

@@ -4,57 +4,57 @@ ghost use Rattle.std.specs.Prelude.{◌≡◌, ◌<◌};
 ghost use Rattle.sb_alu.specs.Size.{modulus};
 ghost use Rattle.sb_exec.specs.Operand.{IsPlace};
 ghost use Rattle.sb_exec.specs.Exchanged.{
-  exchanged as exchanged_of,
-  sum_exchanged as sum_exchanged_of,
-  not_exchanged as not_exchanged_of,
-  compare_exchanged as compare_exchanged_of,
+  xchg_result,
+  xadd_result,
+  cmpxchg_unequal,
+  cmpxchg_result,
   exchange_of,
-  exchange_after as exchange_after_of,
+  exchange_after,
 };
 
 use crate::action::{After, Exchange, Place};
 use crate::address::rm_place;
 use crate::operand::{reg_number, register, set_register};
-use crate::write_back::{rm_value, stepped, written};
+use crate::write_back::{regs_at_next, rm_value, written};
 use sb_alu::{Size, added, subtracted, sum};
 use sb_insn::registers::RAX;
 use sb_insn::{Insn, Regs};
 
 /// reg gets what rm held, and then rm the new value.
-fn exchanged(size: Size, number: usize, place: Place, old: u64, value: u64, mut regs: Regs) -> After
+fn xchg_result(
+    size: Size,
+    number: usize,
+    place: Place,
+    old: u64,
+    value: u64,
+    mut regs: Regs,
+) -> After
     requires number { number < 16 }
     requires place { IsPlace place }
-    ensures { result ≡ exchanged_of size number place old value regs }
+    ensures { result ≡ xchg_result size number place old value regs }
 {
     set_register(size, number, old, &mut regs);
     written(size, place, value, regs)
 }
 
 /// XADD: the new value is the sum.
-fn sum_exchanged(
-    size: Size,
-    number: usize,
-    place: Place,
-    old: u64,
-    source: u64,
-    regs: Regs,
-) -> After
+fn xadd_result(size: Size, number: usize, place: Place, old: u64, source: u64, regs: Regs) -> After
     requires number { number < 16 }
     requires place { IsPlace place }
     requires old { old < modulus size }
     requires source { source < modulus size }
-    ensures { result ≡ sum_exchanged_of size number place old source regs }
+    ensures { result ≡ xadd_result size number place old source regs }
 {
     let next = Regs {
         flags: added(size, old, source).flags,
         ..regs
     };
-    exchanged(size, number, place, old, sum(size, old, source), next)
+    xchg_result(size, number, place, old, sum(size, old, source), next)
 }
 
 /// The accumulator gets what rm held, which is stored again.
-fn not_exchanged(size: Size, place: Place, old: u64, mut regs: Regs) -> After
-    ensures { result ≡ not_exchanged_of size place old regs }
+fn cmpxchg_unequal(size: Size, place: Place, old: u64, mut regs: Regs) -> After
+    ensures { result ≡ cmpxchg_unequal size place old regs }
 {
     set_register(size, RAX, old, &mut regs);
     match place {
@@ -64,10 +64,10 @@ fn not_exchanged(size: Size, place: Place, old: u64, mut regs: Regs) -> After
 }
 
 /// CMPXCHG: rm gets the new value where it equals the accumulator.
-fn compare_exchanged(size: Size, place: Place, old: u64, source: u64, regs: Regs) -> After
+fn cmpxchg_result(size: Size, place: Place, old: u64, source: u64, regs: Regs) -> After
     requires place { IsPlace place }
     requires old { old < modulus size }
-    ensures { result ≡ compare_exchanged_of size place old source regs }
+    ensures { result ≡ cmpxchg_result size place old source regs }
 {
     let accumulator = register(size, RAX, &regs);
     let next = Regs {
@@ -77,7 +77,7 @@ fn compare_exchanged(size: Size, place: Place, old: u64, source: u64, regs: Regs
     if accumulator == old {
         written(size, place, source, next)
     } else {
-        not_exchanged(size, place, old, next)
+        cmpxchg_unequal(size, place, old, next)
     }
 }
 
@@ -98,15 +98,15 @@ fn exchange(
     ensures { result ≡ exchange_of kind size number place old source regs }
 {
     match kind {
-        Exchange::Swap => exchanged(size, number, place, old, source, regs),
-        Exchange::Add => sum_exchanged(size, number, place, old, source, regs),
-        Exchange::Compare => compare_exchanged(size, place, old, source, regs),
+        Exchange::Xchg => xchg_result(size, number, place, old, source, regs),
+        Exchange::Xadd => xadd_result(size, number, place, old, source, regs),
+        Exchange::Cmpxchg => cmpxchg_result(size, place, old, source, regs),
     }
 }
 
 /// The exchange of an instruction's operands.
 pub fn exchange_after(kind: Exchange, size: Size, insn: &Insn, regs: &Regs, loaded: u64) -> After
-    ensures { result ≡ exchange_after_of kind size insn.now regs.now loaded }
+    ensures { result ≡ exchange_after kind size insn.now regs.now loaded }
 {
     let number = reg_number(insn);
     let old = rm_value(size, insn, regs, loaded);
@@ -118,6 +118,6 @@ pub fn exchange_after(kind: Exchange, size: Size, insn: &Insn, regs: &Regs, load
         rm_place(insn, regs),
         old,
         source,
-        stepped(insn, regs),
+        regs_at_next(insn, regs),
     )
 }

@@ -4,16 +4,16 @@ ghost use Rattle.std.specs.Prelude.{◌≡◌, ◌<◌};
 ghost use Rattle.sb_alu.specs.Size.{modulus};
 ghost use Rattle.sb_exec.specs.Operand.{
   modrm_of,
-  reg_number as reg_number_of,
-  rm_number as rm_number_of,
+  reg_number,
+  rm_number,
   opcode_of,
-  opcode_number as opcode_number_of,
-  operand_size as operand_size_of,
-  next_rip as next_rip_of,
-  register as register_of,
+  opcode_number,
+  operand_size,
+  next_rip,
+  register,
   with_register,
-  operand_value as operand_value_of,
-  merged as merged_of,
+  operand_value,
+  register_after_write,
   IsPlace,
 };
 
@@ -32,7 +32,7 @@ pub fn modrm(insn: &Insn) -> u8
 
 /// The register that reg names.
 pub fn reg_number(insn: &Insn) -> usize
-    ensures value { result ≡ reg_number_of insn.now }
+    ensures value { result ≡ reg_number insn.now }
     ensures range { result < 16 }
 {
     usize::from(reg_field(modrm(insn)) + 8 * rex_r(insn.rex))
@@ -40,7 +40,7 @@ pub fn reg_number(insn: &Insn) -> usize
 
 /// The register that rm names.
 pub fn rm_number(insn: &Insn) -> usize
-    ensures value { result ≡ rm_number_of insn.now }
+    ensures value { result ≡ rm_number insn.now }
     ensures range { result < 16 }
 {
     usize::from(rm_field(modrm(insn)) + 8 * rex_b(insn.rex))
@@ -59,7 +59,7 @@ pub fn opcode(op: Op) -> u8
 
 /// The register that the opcode names.
 pub fn opcode_number(insn: &Insn) -> usize
-    ensures value { result ≡ opcode_number_of insn.now }
+    ensures value { result ≡ opcode_number insn.now }
     ensures range { result < 16 }
 {
     usize::from(opcode(insn.op) % 8 + 8 * rex_b(insn.rex))
@@ -67,12 +67,12 @@ pub fn opcode_number(insn: &Insn) -> usize
 
 /// 64 bits with REX.W, else 32.
 pub fn operand_size(insn: &Insn) -> Size
-    ensures { result ≡ operand_size_of insn.now }
+    ensures { result ≡ operand_size insn.now }
 {
     if rex_w(insn.rex) == 1 {
-        Size::Quad
+        Size::Quadword
     } else {
-        Size::Double
+        Size::Doubleword
     }
 }
 
@@ -80,7 +80,7 @@ pub fn operand_size(insn: &Insn) -> Size
 
 /// The address of the next instruction.
 pub fn next_rip(insn: &Insn, regs: &Regs) -> u64
-    ensures { result ≡ next_rip_of insn.now regs.now }
+    ensures { result ≡ next_rip insn.now regs.now }
 {
     regs.rip.wrapping_add(insn.length() as u64)
 }
@@ -90,21 +90,21 @@ pub fn next_rip(insn: &Insn, regs: &Regs) -> u64
 /// The lowest bits of a register.
 pub fn register(size: Size, number: usize, regs: &Regs) -> u64
     requires { number < 16 }
-    ensures value { result ≡ register_of size number regs.now }
+    ensures value { result ≡ register size number regs.now }
     ensures range { result < modulus size }
 {
     size.low(regs.general[number])
 }
 
 /// What a register holds after a value is written to it: 32 bits clear its upper half (SDM volume 1, section 3.4.1.1).
-#[tactic(auto, unfolding(crate::specs::Operand::merged))]
-fn merged(size: Size, old: u64, value: u64) -> u64
-    ensures { result ≡ merged_of size old value }
+#[tactic(auto, unfolding(crate::specs::Operand::register_after_write))]
+fn register_after_write(size: Size, old: u64, value: u64) -> u64
+    ensures { result ≡ register_after_write size old value }
 {
     match size {
         Size::Byte => old / 0x100 * 0x100 + value % 0x100,
-        Size::Double => value % 0x1_0000_0000,
-        Size::Quad => value,
+        Size::Doubleword => value % 0x1_0000_0000,
+        Size::Quadword => value,
     }
 }
 
@@ -113,13 +113,13 @@ pub fn set_register(size: Size, number: usize, value: u64, regs: &mut Regs)
     requires { number < 16 }
     ensures { regs.new ≡ with_register size number value regs.old }
 {
-    regs.general[number] = merged(size, regs.general[number], value);
+    regs.general[number] = register_after_write(size, regs.general[number], value);
 }
 
 /// The value of an operand, whose bytes were loaded if it is in memory.
 pub fn operand_value(size: Size, place: Place, regs: &Regs, loaded: u64) -> u64
     requires { IsPlace place }
-    ensures value { result ≡ operand_value_of size place regs.now loaded }
+    ensures value { result ≡ operand_value size place regs.now loaded }
     ensures range { result < modulus size }
 {
     match place {

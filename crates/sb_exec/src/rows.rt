@@ -1,27 +1,29 @@
 //! The row of each action: what it loads and stores, the registers after it, and its effect.
 
 ghost use Rattle.std.specs.Prelude.{◌≡◌};
-ghost use Rattle.sb_exec.specs.WriteBack.{keeping as keeping_of};
+ghost use Rattle.sb_exec.specs.WriteBack.{without_store};
 ghost use Rattle.sb_exec.specs.Rows.{
-  into_reg as into_reg_of,
+  into_reg,
   after_action,
-  destination_use as destination_use_of,
-  rm_use as rm_use_of,
-  load_by as load_by_of,
-  store_by as store_by_of,
-  load_source as load_source_of,
+  destination_use,
+  rm_use,
+  load_by,
+  store_by,
+  load_source,
   load_of,
-  store_below as store_below_of,
+  store_below,
   store_of,
   effect_of,
 };
 
 use crate::action::{Action, After, Effect, Load, MemoryUse, Place, Store};
 use crate::address::{operand_address, rm_place};
-use crate::branch::{jumped_if, popped, popped_into, pushed, stack_top, target, top_pushed};
+use crate::branch::{
+    jumped_if, popped_into, regs_after_pop, regs_after_push, stack_top, target, top_pushed,
+};
 use crate::exchanged::exchange_after;
 use crate::operand::{next_rip, opcode_number, reg_number, set_register};
-use crate::write_back::{computed, last_operand, rm_value, stepped};
+use crate::write_back::{compute_result, last_operand, regs_at_next, rm_value};
 use sb_alu::{Operation, Size};
 use sb_insn::{Insn, OperandForm, Regs};
 use sb_memory::Linear;
@@ -30,16 +32,16 @@ use sb_memory::Linear;
 
 /// Nothing is stored.
 fn keeping(regs: Regs) -> After
-    ensures { result ≡ keeping_of regs }
+    ensures { result ≡ without_store regs }
 {
     After { regs, stored: 0 }
 }
 
 /// A value that is written to the register that reg names.
 fn into_reg(size: Size, value: u64, insn: &Insn, regs: &Regs) -> After
-    ensures { result ≡ into_reg_of size value insn.now regs.now }
+    ensures { result ≡ into_reg size value insn.now regs.now }
 {
-    let mut next = stepped(insn, regs);
+    let mut next = regs_at_next(insn, regs);
     set_register(size, reg_number(insn), value, &mut next);
     keeping(next)
 }
@@ -50,7 +52,7 @@ pub fn after(action: Action, insn: &Insn, regs: &Regs, loaded: u64) -> After
     ensures { result ≡ after_action action insn.now regs.now loaded }
 {
     match action {
-        Action::Compute(operation, form, size) => computed(
+        Action::Compute(operation, form, size) => compute_result(
             operation, form, size, insn, regs, loaded,
         ),
         Action::ZeroExtend(size) => into_reg(
@@ -62,13 +64,13 @@ pub fn after(action: Action, insn: &Insn, regs: &Regs, loaded: u64) -> After
         Action::LoadAddress(size) => into_reg(size, operand_address(insn, regs), insn, regs),
         Action::Exchange(kind, size) => exchange_after(kind, size, insn, regs, loaded),
         Action::Push(form) => After {
-            regs: pushed(stepped(insn, regs)),
-            stored: last_operand(form, Size::Quad, insn, regs, loaded),
+            regs: regs_after_push(regs_at_next(insn, regs)),
+            stored: last_operand(form, Size::Quadword, insn, regs, loaded),
         },
-        Action::Pop => keeping(popped_into(opcode_number(insn), loaded, stepped(insn, regs))),
+        Action::Pop => keeping(popped_into(opcode_number(insn), loaded, regs_at_next(insn, regs))),
         Action::Return => keeping(Regs {
             rip: loaded,
-            ..popped(*regs)
+            ..regs_after_pop(*regs)
         }),
         Action::Jump(form) => keeping(Regs {
             rip: target(form, insn, regs, loaded),
@@ -78,11 +80,11 @@ pub fn after(action: Action, insn: &Insn, regs: &Regs, loaded: u64) -> After
         Action::Call(form) => After {
             regs: Regs {
                 rip: target(form, insn, regs, loaded),
-                ..pushed(*regs)
+                ..regs_after_push(*regs)
             },
             stored: next_rip(insn, regs),
         },
-        Action::Pass => keeping(stepped(insn, regs)),
+        Action::Pass => keeping(regs_at_next(insn, regs)),
         Action::Stop(_) => keeping(*regs),
     }
 }
@@ -91,7 +93,7 @@ pub fn after(action: Action, insn: &Insn, regs: &Regs, loaded: u64) -> After
 
 /// What is done to the destination: comparisons only read it, MOV only writes it.
 fn destination_use(operation: Operation) -> MemoryUse
-    ensures { result ≡ destination_use_of operation }
+    ensures { result ≡ destination_use operation }
 {
     match operation {
         Operation::Compare | Operation::Test => MemoryUse::Read,
@@ -108,7 +110,7 @@ fn destination_use(operation: Operation) -> MemoryUse
         | Operation::Multiply
         | Operation::ShiftLeft
         | Operation::ShiftRight
-        | Operation::ShiftSigned
+        | Operation::ShiftArithmetic
         | Operation::ScanForward => MemoryUse::Update,
     }
 }
@@ -116,7 +118,7 @@ fn destination_use(operation: Operation) -> MemoryUse
 /// What is done to the operand that mod and rm name: it is the destination, a source, or none.
 #[tactic(auto, unfolding(crate::specs::Rows::rm_use))]
 fn rm_use(form: OperandForm, usage: MemoryUse) -> MemoryUse
-    ensures { result ≡ rm_use_of form usage }
+    ensures { result ≡ rm_use form usage }
 {
     match form {
         OperandForm::RmReg
@@ -136,7 +138,7 @@ fn rm_use(form: OperandForm, usage: MemoryUse) -> MemoryUse
 
 /// What is loaded of an operand that is in memory.
 fn load_by(usage: MemoryUse, size: Size, place: Place) -> Load
-    ensures { result ≡ load_by_of usage size place }
+    ensures { result ≡ load_by usage size place }
 {
     match place {
         Place::Register(_) => Load::Nothing,
@@ -150,7 +152,7 @@ fn load_by(usage: MemoryUse, size: Size, place: Place) -> Load
 
 /// What is stored to an operand that is in memory.
 fn store_by(usage: MemoryUse, size: Size, place: Place) -> Store
-    ensures { result ≡ store_by_of usage size place }
+    ensures { result ≡ store_by usage size place }
 {
     match place {
         Place::Register(_) => Store::Nothing,
@@ -163,11 +165,11 @@ fn store_by(usage: MemoryUse, size: Size, place: Place) -> Store
 
 /// What is pushed or jumped to is loaded, if it is in memory.
 fn load_source(form: OperandForm, insn: &Insn, regs: &Regs) -> Load
-    ensures { result ≡ load_source_of form insn.now regs.now }
+    ensures { result ≡ load_source form insn.now regs.now }
 {
     load_by(
         rm_use(form, MemoryUse::Read),
-        Size::Quad,
+        Size::Quadword,
         rm_place(insn, regs),
     )
 }
@@ -188,7 +190,7 @@ pub fn load(action: Action, insn: &Insn, regs: &Regs) -> Load
         Action::Push(form) | Action::Jump(form) | Action::Call(form) => load_source(
             form, insn, regs,
         ),
-        Action::Pop | Action::Return => Load::Read(Linear(stack_top(regs)), Size::Quad),
+        Action::Pop | Action::Return => Load::Read(Linear(stack_top(regs)), Size::Quadword),
         Action::LoadAddress(_) | Action::JumpIf(_) | Action::Pass | Action::Stop(_) =>
             Load::Nothing,
     }
@@ -196,9 +198,9 @@ pub fn load(action: Action, insn: &Insn, regs: &Regs) -> Load
 
 /// 8 bytes are stored below the top of the stack.
 fn store_below(regs: &Regs) -> Store
-    ensures { result ≡ store_below_of regs.now }
+    ensures { result ≡ store_below regs.now }
 {
-    Store::At(Linear(top_pushed(regs)), Size::Quad)
+    Store::At(Linear(top_pushed(regs)), Size::Quadword)
 }
 
 /// What an action stores.

@@ -1,7 +1,7 @@
 //! The table of instructions: which action each has (SDM volume 2, chapters 3 to 5).
 
 ghost use Rattle.std.specs.Prelude.{◌≡◌};
-ghost use Rattle.sb_exec.specs.Actions.{moved_size as moved_size_of, condition_number as condition_number_of, action_by, action_of};
+ghost use Rattle.sb_exec.specs.Actions.{moved_size, condition_number, action_by, action_of};
 
 use crate::action::{Action, Effect, Exchange};
 use crate::operand::{opcode, operand_size};
@@ -10,7 +10,7 @@ use sb_insn::{Insn, Mnemonic, OperandForm, instruction_of, operand_for};
 
 /// The size of what MOV moves: a byte where the opcode says so.
 fn moved_size(insn: &Insn) -> Size
-    ensures { result ≡ moved_size_of insn.now }
+    ensures { result ≡ moved_size insn.now }
 {
     match operand_for(insn) {
         Some(operand) => {
@@ -26,7 +26,7 @@ fn moved_size(insn: &Insn) -> Size
 
 /// The condition of a jump: the lowest four bits of the opcode.
 fn condition_number(insn: &Insn) -> u8
-    ensures { result ≡ condition_number_of insn.now }
+    ensures { result ≡ condition_number insn.now }
 {
     opcode(insn.op) % 16
 }
@@ -53,13 +53,13 @@ fn named_action(mnemonic: Mnemonic, form: OperandForm, insn: &Insn) -> Action
         Mnemonic::Imul => Action::Compute(Operation::Multiply, form, size),
         Mnemonic::Shl => Action::Compute(Operation::ShiftLeft, form, size),
         Mnemonic::Shr => Action::Compute(Operation::ShiftRight, form, size),
-        Mnemonic::Sar => Action::Compute(Operation::ShiftSigned, form, size),
+        Mnemonic::Sar => Action::Compute(Operation::ShiftArithmetic, form, size),
         Mnemonic::Inc => Action::Compute(Operation::Increment, form, size),
         Mnemonic::Dec => Action::Compute(Operation::Decrement, form, size),
         Mnemonic::Bsf => Action::Compute(Operation::ScanForward, form, size),
-        Mnemonic::Xchg => Action::Exchange(Exchange::Swap, size),
-        Mnemonic::Xadd => Action::Exchange(Exchange::Add, size),
-        Mnemonic::Cmpxchg => Action::Exchange(Exchange::Compare, size),
+        Mnemonic::Xchg => Action::Exchange(Exchange::Xchg, size),
+        Mnemonic::Xadd => Action::Exchange(Exchange::Xadd, size),
+        Mnemonic::Cmpxchg => Action::Exchange(Exchange::Cmpxchg, size),
         Mnemonic::Push => Action::Push(form),
         Mnemonic::Pop => Action::Pop,
         Mnemonic::Jmp => Action::Jump(form),

@@ -4,14 +4,14 @@ ghost use Rattle.std.specs.Prelude.{◌≡◌, ◌<◌};
 ghost use Rattle.sb_alu.specs.Size.{modulus};
 ghost use Rattle.sb_exec.specs.Operand.{IsPlace};
 ghost use Rattle.sb_exec.specs.WriteBack.{
-  stepped as stepped_of,
-  written as written_of,
-  rm_value as rm_value_of,
-  destination as destination_of,
-  first_operand as first_operand_of,
-  last_operand as last_operand_of,
-  written_back as written_back_of,
-  computed as computed_of,
+  regs_at_next,
+  write_result,
+  rm_value,
+  destination,
+  first_operand,
+  last_operand,
+  result_or_nothing,
+  compute_result,
 };
 
 use crate::action::{After, Place};
@@ -22,8 +22,8 @@ use sb_insn::registers::{RAX, RCX};
 use sb_insn::{Insn, OperandForm, Regs};
 
 /// The registers at the next instruction.
-pub fn stepped(insn: &Insn, regs: &Regs) -> Regs
-    ensures { result ≡ stepped_of insn.now regs.now }
+pub fn regs_at_next(insn: &Insn, regs: &Regs) -> Regs
+    ensures { result ≡ regs_at_next insn.now regs.now }
 {
     Regs {
         rip: next_rip(insn, regs),
@@ -32,10 +32,10 @@ pub fn stepped(insn: &Insn, regs: &Regs) -> Regs
 }
 
 /// A value that is written to a place: into its register, or as what is stored.
-#[tactic(auto, unfolding(crate::specs::WriteBack::written))]
+#[tactic(auto, unfolding(crate::specs::WriteBack::write_result))]
 pub fn written(size: Size, place: Place, value: u64, mut regs: Regs) -> After
     requires { IsPlace place }
-    ensures { result ≡ written_of size place value regs }
+    ensures { result ≡ write_result size place value regs }
 {
     match place {
         Place::Register(number) => {
@@ -53,7 +53,7 @@ pub fn written(size: Size, place: Place, value: u64, mut regs: Regs) -> After
 
 /// The operand that ModRM names by mod and rm.
 pub fn rm_value(size: Size, insn: &Insn, regs: &Regs, loaded: u64) -> u64
-    ensures value { result ≡ rm_value_of size insn.now regs.now loaded }
+    ensures value { result ≡ rm_value size insn.now regs.now loaded }
     ensures range { result < modulus size }
 {
     operand_value(size, rm_place(insn, regs), regs, loaded)
@@ -62,7 +62,7 @@ pub fn rm_value(size: Size, insn: &Insn, regs: &Regs, loaded: u64) -> u64
 /// Where the result goes: the accumulator where the form names no place.
 #[tactic(auto, unfolding(crate::specs::WriteBack::destination))]
 fn destination(form: OperandForm, insn: &Insn, regs: &Regs) -> Place
-    ensures value { result ≡ destination_of form insn.now regs.now }
+    ensures value { result ≡ destination form insn.now regs.now }
     ensures range { IsPlace result }
 {
     match form {
@@ -81,7 +81,7 @@ fn destination(form: OperandForm, insn: &Insn, regs: &Regs) -> Place
 /// The first number of an operation.
 #[tactic(auto, unfolding(crate::specs::WriteBack::first_operand))]
 fn first_operand(form: OperandForm, size: Size, insn: &Insn, regs: &Regs, loaded: u64) -> u64
-    ensures value { result ≡ first_operand_of form size insn.now regs.now loaded }
+    ensures value { result ≡ first_operand form size insn.now regs.now loaded }
     ensures range { result < modulus size }
 {
     match form {
@@ -106,7 +106,7 @@ fn first_operand(form: OperandForm, size: Size, insn: &Insn, regs: &Regs, loaded
 /// The last operand of a form. A relative one is the address that lies so far from the next instruction.
 #[tactic(auto, unfolding(crate::specs::WriteBack::last_operand))]
 pub fn last_operand(form: OperandForm, size: Size, insn: &Insn, regs: &Regs, loaded: u64) -> u64
-    ensures value { result ≡ last_operand_of form size insn.now regs.now loaded }
+    ensures value { result ≡ last_operand form size insn.now regs.now loaded }
     ensures range { result < modulus size }
 {
     match form {
@@ -128,10 +128,10 @@ pub fn last_operand(form: OperandForm, size: Size, insn: &Insn, regs: &Regs, loa
 // ---- write back
 
 /// A result that is written back, if there is one.
-#[tactic(auto, unfolding(crate::specs::WriteBack::written_back))]
+#[tactic(auto, unfolding(crate::specs::WriteBack::result_or_nothing))]
 fn written_back(size: Size, place: Place, value: Option<u64>, regs: Regs) -> After
     requires { IsPlace place }
-    ensures { result ≡ written_back_of size place value regs }
+    ensures { result ≡ result_or_nothing size place value regs }
 {
     match value {
         Some(value) => written(size, place, value, regs),
@@ -140,8 +140,8 @@ fn written_back(size: Size, place: Place, value: Option<u64>, regs: Regs) -> Aft
 }
 
 /// The result of an operation on the operands of a form, written back.
-#[tactic(auto, unfolding(crate::specs::WriteBack::computed))]
-pub fn computed(
+#[tactic(auto, unfolding(crate::specs::WriteBack::compute_result))]
+pub fn compute_result(
     operation: Operation,
     form: OperandForm,
     size: Size,
@@ -149,14 +149,14 @@ pub fn computed(
     regs: &Regs,
     loaded: u64,
 ) -> After
-    ensures { result ≡ computed_of operation form size insn.now regs.now loaded }
+    ensures { result ≡ compute_result operation form size insn.now regs.now loaded }
 {
     let first = first_operand(form, size, insn, regs, loaded);
     let last = last_operand(form, size, insn, regs, loaded);
     let outcome = operate(operation, size, first, last, regs.flags);
     let next = Regs {
         flags: outcome.flags,
-        ..stepped(insn, regs)
+        ..regs_at_next(insn, regs)
     };
     written_back(size, destination(form, insn, regs), outcome.value, next)
 }

@@ -13,11 +13,13 @@ twice (Ok byte) = refl
 twice (Err stop) = refl
 
 both_rights : (writable : Bool) (address : ℕ) (answer : Result ℕ BusStop)
-    → and_then (if writable then answer else Err (refused_at address)) (λ _. answer) ≡ (if writable then answer else Err (refused_at address))
+    → and_then (if writable then answer else Err (refused_at address)) (λ _. answer)
+    ≡ (if writable then answer else Err (refused_at address))
 both_rights true address answer = twice answer
 both_rights false address answer = refl
 
-one_byte : (memory : TestMemory) (address : ℕ) → byte_for_write (test_byte memory) address ≡ byte_for (test_byte memory) Write address
+one_byte : (memory : TestMemory) (address : ℕ)
+    → byte_for_write (test_byte memory) address ≡ byte_for (test_byte memory) Write address
 unfolding test_byte
 one_byte memory address = both_rights memory.writable address (data_byte memory.bytes address)
 

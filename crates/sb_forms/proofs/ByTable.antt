@@ -13,9 +13,9 @@ use Rattle.sb_insn.specs.Listing.{instruction_of}
 use Rattle.sb_scan.specs.Holding.{holds_pattern}
 use Rattle.sb_scan.proofs.Held.{nothing_holds, byte_holds}
 use Rattle.sb_forms.specs.declared.slots.Site.{Site}
-use Rattle.sb_forms.specs.Pieces.{exchanged}
+use Rattle.sb_forms.specs.Pieces.{sib_exchanged}
 use Rattle.sb_forms.specs.Mains.{with_displacement}
-use Rattle.sb_forms.specs.Table.{Replacement, Keep, InPlace, Unmovable, moved, is_vmfunc, is_add_esp_edx, begins_at_modrm}
+use Rattle.sb_forms.specs.Table.{Replacement, Keep, InPlace, Unmovable, move_outcome, is_vmfunc, is_add_esp_edx, begins_at_modrm}
 use Rattle.sb_forms.specs.Table.{completes_pattern, nop, add_from_rm, has_memory, is_call, is_jump, jump_form, wide_constant_form}
 use Rattle.sb_forms.specs.Table.{address_and_constant_form, address_form, constant_form, form_by, slot_form, slot_form_of}
 use Rattle.sb_forms.specs.Table.{is_exchangeable, held_form, replacement}
@@ -36,8 +36,8 @@ pub record TableCases (P : Replacement → Type 0) (insn : Insn) (site : Site) :
   pub vmfunc : is_vmfunc insn.op ≡ true → P (InPlace (nop ∷ nop ∷ nop ∷ []))
   pub completes : is_add_esp_edx insn ≡ true → P (InPlace (add_from_rm ∷ []))
   pub keep : holds_pattern (spelling insn) ≡ false → P Keep
-  pub exchange : IsHeld insn → is_exchangeable insn ≡ true → P (InPlace (exchanged insn ∷ []))
-  pub displace : IsHeld insn → begins_at_modrm insn ≡ true → P (moved site [] (with_displacement insn) [])
+  pub exchange : IsHeld insn → is_exchangeable insn ≡ true → P (InPlace (sib_exchanged insn ∷ []))
+  pub displace : IsHeld insn → begins_at_modrm insn ≡ true → P (move_outcome site [] (with_displacement insn) [])
   pub unmovable : P Unmovable
   pub through : (instruction : Instruction) → IsListedHeld insn instruction → has_memory insn.modrm ≡ true
       → is_jump instruction.mnemonic ≡ true → P (jump_form instruction insn site)
@@ -102,11 +102,11 @@ by_slot P insn site cases held (Some instruction) is =
 by_held : (P : Replacement → Type 0) (insn : Insn) (site : Site) → TableCases P insn site → IsHeld insn → P (held_form insn site)
 unfolding held_form
 by_held P insn site cases held =
-    let displaced = moved site [] (with_displacement insn) [] in
+    let displaced = move_outcome site [] (with_displacement insn) [] in
     let behind = slot_form_of (instruction_of insn) insn site in
     cond_both
     (is_exchangeable insn)
-    (InPlace (exchanged insn ∷ []))
+    (InPlace (sib_exchanged insn ∷ []))
     (if begins_at_modrm insn then displaced else behind)
     P
     (λ e. cases.exchange held e)

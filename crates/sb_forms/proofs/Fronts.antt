@@ -23,7 +23,8 @@ IsRex (Some rex) = (0x40 ≤ rex) × (rex ≤ 0x4F)
 
 pub valid_rex : (rex : Option ℕ) → is_rex_field rex ≡ true → IsRex rex
 valid_rex None e = tt
-valid_rex (Some rex) e = let parts = and_parts (nat_le 0x40 rex) (nat_le rex 0x4F) e in (leb-true 0x40 rex parts.0, leb-true rex 0x4F parts.1)
+valid_rex (Some rex) e = let parts = and_parts (nat_le 0x40 rex) (nat_le rex 0x4F) e in
+    (leb-true 0x40 rex parts.0, leb-true rex 0x4F parts.1)
 
 rex_range : (rex r x b : ℕ) → r ≤ 1 → x ≤ 1 → b ≤ 1 → (0x40 ≤ rex_byte rex r x b) × (rex_byte rex r x b ≤ 0x4F)
 rex_range rex r x b rr xx bb = (omega arith, omega arith)
@@ -81,11 +82,16 @@ other_absent : (opcode : ℕ) → opcode ≡ 0x0F → two_byte opcode ≡ Absent
 unfolding two_byte
 other_absent opcode is = ap (λ (byte : ℕ). two_byte byte) is
 
-pub valid_op : (op : Op) (lock : Bool) (rex modrm : Option ℕ) → is_vmfunc op ≡ false → is_modrm_field (cell_of op) lock rex modrm ≡ true → IsOpcode op
-valid_op (One opcode) lock rex modrm other e =
-    (λ is. absent_cell (one_byte opcode) lock rex modrm (one_absent opcode is) e, λ is. absent_cell (one_byte opcode) lock rex modrm (aam_absent opcode is) e)
-valid_op (Two opcode) lock rex modrm other e =
-    (λ is. absent_cell (two_byte opcode) lock rex modrm (two_absent opcode is) e, λ is. absent_cell (two_byte opcode) lock rex modrm (other_absent opcode is) e)
+pub valid_op : (op : Op) (lock : Bool) (rex modrm : Option ℕ) → is_vmfunc op ≡ false
+    → is_modrm_field (cell_of op) lock rex modrm ≡ true → IsOpcode op
+valid_op (One opcode) lock rex modrm other e = (
+  λ is. absent_cell (one_byte opcode) lock rex modrm (one_absent opcode is) e,
+  λ is. absent_cell (one_byte opcode) lock rex modrm (aam_absent opcode is) e,
+)
+valid_op (Two opcode) lock rex modrm other e = (
+  λ is. absent_cell (two_byte opcode) lock rex modrm (two_absent opcode is) e,
+  λ is. absent_cell (two_byte opcode) lock rex modrm (other_absent opcode is) e,
+)
 valid_op Endbr lock rex modrm other e = tt
 valid_op Vmfunc lock rex modrm other e = absurd cc
 
@@ -95,7 +101,8 @@ op_holds : (op : Op) (rest : List ℕ) → IsOpcode op → holds_pattern (op_byt
 unfolding holds_pattern
 op_holds (One opcode) rest known = skip opcode rest known.0
 op_holds (Two opcode) rest known =
-    skip_0f (opcode ∷ rest) (and_left (opcode == 0x01) (begins_with last_one rest) (ne_eqb opcode 0x01 known.0)) ∙ skip opcode rest known.1
+    skip_0f (opcode ∷ rest) (and_left (opcode == 0x01) (begins_with last_one rest) (ne_eqb opcode 0x01 known.0))
+    ∙ skip opcode rest known.1
 op_holds Endbr rest known = refl
 op_holds Vmfunc rest known = absurd known
 
@@ -107,9 +114,11 @@ lock_holds : (lock : Bool) (rest : List ℕ) → holds_pattern (lock_bytes lock 
 lock_holds false rest = refl
 lock_holds true rest = skip 0xF0 rest (λ is. omega (arith, is))
 
-pub front_holds : (lock : Bool) (rex : Option ℕ) (op : Op) (rest : List ℕ) → IsRex rex → IsOpcode op → holds_pattern (front_bytes lock rex op ++ rest) ≡ holds_pattern rest
+pub front_holds : (lock : Bool) (rex : Option ℕ) (op : Op) (rest : List ℕ) → IsRex rex → IsOpcode op
+    → holds_pattern (front_bytes lock rex op ++ rest) ≡ holds_pattern rest
 front_holds lock rex op rest range known =
-    ap (λ (bytes : List ℕ). holds_pattern bytes) (append_assoc (lock_bytes lock) (option_to_list rex ++ op_bytes op) rest ∙ ap (λ (bytes : List ℕ). lock_bytes lock ++ bytes) (append_assoc (option_to_list rex) (op_bytes op) rest))
+    ap (λ (bytes : List ℕ). holds_pattern bytes) (append_assoc (lock_bytes lock) (option_to_list rex ++ op_bytes op) rest
+    ∙ ap (λ (bytes : List ℕ). lock_bytes lock ++ bytes) (append_assoc (option_to_list rex) (op_bytes op) rest))
     ∙ lock_holds lock (option_to_list rex ++ (op_bytes op ++ rest))
     ∙ rex_holds rex (op_bytes op ++ rest) range
     ∙ op_holds op rest known
@@ -121,21 +130,25 @@ abbrev pub IsStart : Op → List ℕ → Type 0
 IsStart (One opcode) rest = opcode ≡ 0x01 → begins_with last_one rest ≡ false
 IsStart _ rest = Unit {0}
 
-one_start : (opcode : ℕ) (rest : List ℕ) → (opcode ≡ 0x01 → begins_with last_one rest ≡ false) → ((opcode == 0x01) && begins_with last_one rest) ≡ false
+one_start : (opcode : ℕ) (rest : List ℕ) → (opcode ≡ 0x01 → begins_with last_one rest ≡ false)
+    → ((opcode == 0x01) && begins_with last_one rest) ≡ false
 one_start opcode rest start =
     ⊎_elim
     (λ is. and_right (opcode == 0x01) (begins_with last_one rest) (start is))
     (λ other. and_left (opcode == 0x01) (begins_with last_one rest) (ne_eqb opcode 0x01 other))
     (cases_eq opcode 0x01)
 
-op_start : (op : Op) (rest : List ℕ) → IsOpcode op → IsStart op rest → (begins_with last_two (op_bytes op ++ rest) ≡ false) × (begins_with last_one (op_bytes op ++ rest) ≡ false)
-op_start (One opcode) rest known start = (one_start opcode rest start, and_left (opcode == 0xD4) true (ne_eqb opcode 0xD4 known.1))
+op_start : (op : Op) (rest : List ℕ) → IsOpcode op → IsStart op rest
+    → (begins_with last_two (op_bytes op ++ rest) ≡ false) × (begins_with last_one (op_bytes op ++ rest) ≡ false)
+op_start (One opcode) rest known start =
+    (one_start opcode rest start, and_left (opcode == 0xD4) true (ne_eqb opcode 0xD4 known.1))
 op_start (Two opcode) rest known start = (refl, refl)
 op_start Endbr rest known start = (refl, refl)
 op_start Vmfunc rest known start = absurd known
 
 rex_start : (rex : Option ℕ) (op : Op) (rest : List ℕ) → IsRex rex → IsOpcode op → IsStart op rest
-    → (begins_with last_two (option_to_list rex ++ (op_bytes op ++ rest)) ≡ false) × (begins_with last_one (option_to_list rex ++ (op_bytes op ++ rest)) ≡ false)
+    → (begins_with last_two (option_to_list rex ++ (op_bytes op ++ rest)) ≡ false)
+    × (begins_with last_one (option_to_list rex ++ (op_bytes op ++ rest)) ≡ false)
 rex_start None op rest range known start = op_start op rest known start
 rex_start (Some rex) op rest range known start = (
   and_left (rex == 0x01) (begins_with last_one (op_bytes op ++ rest)) (ne_eqb rex 0x01 (λ is. omega (arith, range.0, is))),
@@ -143,15 +156,18 @@ rex_start (Some rex) op rest range known start = (
 )
 
 front_start : (lock : Bool) (rex : Option ℕ) (op : Op) (rest : List ℕ) → IsRex rex → IsOpcode op → IsStart op rest
-    → (begins_with last_two (lock_bytes lock ++ (option_to_list rex ++ (op_bytes op ++ rest))) ≡ false) × (begins_with last_one (lock_bytes lock ++ (option_to_list rex ++ (op_bytes op ++ rest))) ≡ false)
+    → (begins_with last_two (lock_bytes lock ++ (option_to_list rex ++ (op_bytes op ++ rest))) ≡ false)
+    × (begins_with last_one (lock_bytes lock ++ (option_to_list rex ++ (op_bytes op ++ rest))) ≡ false)
 front_start true rex op rest range known start = (refl, refl)
 front_start false rex op rest range known start = rex_start rex op rest range known start
 
 -- An instruction is quiet where the bytes behind its opcode are, and it does not begin with 01 D4.
-pub front_quiet : (lock : Bool) (rex : Option ℕ) (op : Op) (rest : List ℕ) → IsRex rex → IsOpcode op → IsStart op rest → holds_pattern rest ≡ false → IsQuiet (front_bytes lock rex op ++ rest)
+pub front_quiet : (lock : Bool) (rex : Option ℕ) (op : Op) (rest : List ℕ) → IsRex rex → IsOpcode op → IsStart op rest
+    → holds_pattern rest ≡ false → IsQuiet (front_bytes lock rex op ++ rest)
 front_quiet lock rex op rest range known start none =
     let same : (front_bytes lock rex op ++ rest) ≡ lock_bytes lock ++ (option_to_list rex ++ (op_bytes op ++ rest)) =
-    append_assoc (lock_bytes lock) (option_to_list rex ++ op_bytes op) rest ∙ ap (λ (bytes : List ℕ). lock_bytes lock ++ bytes) (append_assoc (option_to_list rex) (op_bytes op) rest) in
+    append_assoc (lock_bytes lock) (option_to_list rex ++ op_bytes op) rest
+    ∙ ap (λ (bytes : List ℕ). lock_bytes lock ++ bytes) (append_assoc (option_to_list rex) (op_bytes op) rest) in
     let starts = front_start lock rex op rest range known start in
     record {
       none = front_holds lock rex op rest range known ∙ none;

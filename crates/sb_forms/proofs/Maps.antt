@@ -12,30 +12,31 @@ use Rattle.sb_insn.specs.declared.opcode_map.Mnemonic.TheVariants as mnemonic
 use Rattle.sb_insn.specs.declared.opcode_map.ImmRule.{ImmRule}
 use Rattle.sb_insn.specs.declared.opcode_map.ImmRule.TheVariants as rules
 use Rattle.sb_insn.specs.declared.opcode_map.Instruction.{Instruction}
-use Rattle.sb_insn.specs.declared.opcode_map.Operand.{Operand}
+use Rattle.sb_insn.specs.declared.opcode_map.ModRmOpcode.{ModRmOpcode}
 use Rattle.sb_insn.specs.declared.opcode_map.Cell.{Cell}
-use Rattle.sb_insn.specs.declared.opcode_map.Cell.TheVariants.{Absent, Plain, ModRm, Extended}
+use Rattle.sb_insn.specs.declared.opcode_map.Cell.TheVariants.{Absent, NoModRm, ModRm, Extended}
 use Rattle.sb_insn.specs.OpcodeMap.{one_byte, one_byte_rows, two_byte, two_byte_rows, cell_of}
 use Rattle.sb_insn.specs.Groups.{extensions, group_operand, operand_of}
 use Rattle.sb_insn.specs.Spelling.{op_bytes, imm_bytes}
 use Rattle.sb_insn.specs.Fields.{is_none, is_register, permits_rm, needs_rex, permits, some_permits, is_modrm_field, reg_field, operand_rule, rule_of, imm_kind_of, kind_of_imm}
-use Rattle.sb_insn.specs.Listing.{named, instruction_in, instruction_of}
+use Rattle.sb_insn.specs.Listing.{named_instruction, instruction_in, instruction_of}
 use Rattle.sb_insn.specs.Grammar.{IsValid}
 use Rattle.sb_insn.proofs.Rows.{looked_up, every_extension, some_holds, extended}
 use Rattle.sb_forms.specs.Table.{has_memory}
 
 -- ---- what holds of each operand in the maps
 
-abbrev pub of_cell : (Operand → Bool) → Cell → Bool
+abbrev pub of_cell : (ModRmOpcode → Bool) → Cell → Bool
 of_cell holds Absent = true
-of_cell holds (Plain plain) = true
+of_cell holds (NoModRm plain) = true
 of_cell holds (ModRm operand) = holds operand
 of_cell holds (Extended group form imm) = every_extension holds (extensions group form imm)
 
-pub of_operand : (holds : Operand → Bool) (cell : Cell) (reg : ℕ) → of_cell holds cell ≡ true → some_holds holds (operand_of cell reg) ≡ true
+pub of_operand : (holds : ModRmOpcode → Bool) (cell : Cell) (reg : ℕ) → of_cell holds cell ≡ true
+    → some_holds holds (operand_of cell reg) ≡ true
 unfolding group_operand
 of_operand holds Absent reg e = refl
-of_operand holds (Plain plain) reg e = refl
+of_operand holds (NoModRm plain) reg e = refl
 of_operand holds (ModRm operand) reg e = e
 of_operand holds (Extended group form imm) reg e = extended holds reg (extensions group form imm) e
 
@@ -44,7 +45,7 @@ abbrev pub narrow : ImmRule → Bool
 narrow rules.Wide = false
 narrow _ = true
 
-abbrev pub is_narrow : Operand → Bool
+abbrev pub is_narrow : ModRmOpcode → Bool
 is_narrow operand = narrow operand.imm
 
 -- no immediate
@@ -52,7 +53,7 @@ abbrev pub bare : ImmRule → Bool
 bare rules.None = true
 bare _ = false
 
-abbrev pub is_bare : Operand → Bool
+abbrev pub is_bare : ModRmOpcode → Bool
 is_bare operand = bare operand.imm
 
 abbrev is_imul : Mnemonic → Bool
@@ -60,7 +61,7 @@ is_imul mnemonic.Imul = true
 is_imul _ = false
 
 -- no IMUL that LOCK may stand before
-abbrev is_lockable : Operand → Bool
+abbrev is_lockable : ModRmOpcode → Bool
 is_lockable operand = not (operand.lock && is_imul operand.instruction.mnemonic)
 
 pub one_narrow : (opcode : ℕ) → of_cell is_narrow (one_byte opcode) ≡ true
@@ -87,35 +88,45 @@ lockable Vmfunc = refl
 
 -- ---- LOCK never stands before IMUL
 
-locked_row : (operand : Operand) (rex : Option ℕ) (modrm : ℕ) → is_lockable operand ≡ true → permits operand true rex modrm ≡ true → operand.instruction.mnemonic ≡ mnemonic.Imul → ⊥
+locked_row : (operand : ModRmOpcode) (rex : Option ℕ) (modrm : ℕ) → is_lockable operand ≡ true
+    → permits operand true rex modrm ≡ true → operand.instruction.mnemonic ≡ mnemonic.Imul → ⊥
 unfolding permits
 locked_row operand rex modrm lockable e name =
-    let parts = and_parts (operand.lock && not (is_register modrm)) (permits_rm operand.rm modrm && not (is_none rex && needs_rex operand modrm)) e in
+    let parts =
+    and_parts (operand.lock && not (is_register modrm))
+    (permits_rm operand.rm modrm && not (is_none rex && needs_rex operand modrm)) e in
     let lock = (and_parts operand.lock (not (is_register modrm)) parts.0).0 in
-    both_ways (operand.lock && is_imul operand.instruction.mnemonic) (not-true (operand.lock && is_imul operand.instruction.mnemonic) lockable)
+    both_ways (operand.lock && is_imul operand.instruction.mnemonic)
+    (not-true (operand.lock && is_imul operand.instruction.mnemonic) lockable)
     (and_from operand.lock (is_imul operand.instruction.mnemonic) lock (ap (λ m. is_imul m) name))
 
-locked : (operand : Option Operand) (rex : Option ℕ) (modrm : ℕ) (instruction : Instruction) → some_holds (λ row. is_lockable row) operand ≡ true → some_permits operand true rex modrm ≡ true
-    → named operand ≡ Some instruction → instruction.mnemonic ≡ mnemonic.Imul → ⊥
+locked : (operand : Option ModRmOpcode) (rex : Option ℕ) (modrm : ℕ) (instruction : Instruction)
+    → some_holds (λ row. is_lockable row) operand ≡ true → some_permits operand true rex modrm ≡ true
+    → named_instruction operand ≡ Some instruction → instruction.mnemonic ≡ mnemonic.Imul → ⊥
 locked None rex modrm instruction lockable e is name = cc
 locked (Some operand) rex modrm instruction lockable e is name = locked_row operand rex modrm lockable e (cc)
 
-unlocked_in : (cell : Cell) (lock : Bool) (rex modrm : Option ℕ) (instruction : Instruction) → of_cell is_lockable cell ≡ true → is_modrm_field cell lock rex modrm ≡ true
+unlocked_in : (cell : Cell) (lock : Bool) (rex modrm : Option ℕ) (instruction : Instruction) → of_cell is_lockable cell ≡ true
+    → is_modrm_field cell lock rex modrm ≡ true
     → instruction_in cell modrm ≡ Some instruction → instruction.mnemonic ≡ mnemonic.Imul → lock ≡ false
 unlocked_in cell false rex modrm instruction lockable e is name = refl
 unlocked_in Absent true rex None instruction lockable e is name = absurd cc
 unlocked_in Absent true rex (Some modrm) instruction lockable e is name = absurd cc
-unlocked_in (Plain plain) true rex None instruction lockable e is name = absurd cc
-unlocked_in (Plain plain) true rex (Some modrm) instruction lockable e is name = absurd cc
+unlocked_in (NoModRm plain) true rex None instruction lockable e is name = absurd cc
+unlocked_in (NoModRm plain) true rex (Some modrm) instruction lockable e is name = absurd cc
 unlocked_in (ModRm operand) true rex None instruction lockable e is name = absurd cc
-unlocked_in (ModRm operand) true rex (Some modrm) instruction lockable e is name = absurd (locked (Some operand) rex modrm instruction lockable e is name)
+unlocked_in (ModRm operand) true rex (Some modrm) instruction lockable e is name =
+    absurd (locked (Some operand) rex modrm instruction lockable e is name)
 unlocked_in (Extended group form imm) true rex None instruction lockable e is name = absurd cc
 unlocked_in (Extended group form imm) true rex (Some modrm) instruction lockable e is name =
-    absurd (locked (group_operand group form imm (reg_field modrm)) rex modrm instruction (of_operand (λ row. is_lockable row) (Extended group form imm) (reg_field modrm) lockable) e is name)
+    absurd (locked (group_operand group form imm (reg_field modrm)) rex modrm instruction
+    (of_operand (λ row. is_lockable row) (Extended group form imm) (reg_field modrm) lockable) e is name)
 
-pub imul_unlocked : (insn : Insn) (instruction : Instruction) → IsValid insn → instruction_of insn ≡ Some instruction → instruction.mnemonic ≡ mnemonic.Imul → insn.lock ≡ false
+pub imul_unlocked : (insn : Insn) (instruction : Instruction) → IsValid insn → instruction_of insn ≡ Some instruction
+    → instruction.mnemonic ≡ mnemonic.Imul → insn.lock ≡ false
 unfolding instruction_of
-imul_unlocked insn instruction valid is name = unlocked_in (cell_of insn.op) insn.lock insn.rex insn.modrm instruction (lockable insn.op) valid.modrm is name
+imul_unlocked insn instruction valid is name =
+    unlocked_in (cell_of insn.op) insn.lock insn.rex insn.modrm instruction (lockable insn.op) valid.modrm is name
 
 -- ---- behind a ModRM byte an immediate has four bytes at most, and none behind a two-byte opcode
 
@@ -125,14 +136,16 @@ wide rules.I8 value rex e k = cc
 wide rules.I32 value rex e k = cc
 wide rules.Wide value rex e k = cc
 
-narrow_imm : (operand : Option Operand) (immediate : Imm) (rex : Option ℕ) → some_holds (λ row. is_narrow row) operand ≡ true → kind_of_imm immediate ≡ imm_kind_of (operand_rule operand) rex → length (imm_bytes immediate) ≤ 4
+narrow_imm : (operand : Option ModRmOpcode) (immediate : Imm) (rex : Option ℕ) → some_holds (λ row. is_narrow row) operand ≡ true
+    → kind_of_imm immediate ≡ imm_kind_of (operand_rule operand) rex → length (imm_bytes immediate) ≤ 4
 narrow_imm operand imm.None rex e k = omega arith
 narrow_imm operand (imm.I8 value) rex e k = omega arith
 narrow_imm operand (imm.I32 value) rex e k = omega arith
 narrow_imm None (imm.I64 value) rex e k = absurd cc
 narrow_imm (Some operand) (imm.I64 value) rex e k = absurd (wide operand.imm value rex e k)
 
-bare_rule : (rule : ImmRule) (immediate : Imm) (rex : Option ℕ) → bare rule ≡ true → kind_of_imm immediate ≡ imm_kind_of rule rex → length (imm_bytes immediate) ≡ 0
+bare_rule : (rule : ImmRule) (immediate : Imm) (rex : Option ℕ) → bare rule ≡ true
+    → kind_of_imm immediate ≡ imm_kind_of rule rex → length (imm_bytes immediate) ≡ 0
 bare_rule rules.None imm.None rex e k = refl
 bare_rule rules.None (imm.I8 value) rex e k = absurd cc
 bare_rule rules.None (imm.I32 value) rex e k = absurd cc
@@ -141,24 +154,38 @@ bare_rule rules.I8 immediate rex e k = absurd cc
 bare_rule rules.I32 immediate rex e k = absurd cc
 bare_rule rules.Wide immediate rex e k = absurd cc
 
-pub bare_imm : (operand : Option Operand) (immediate : Imm) (rex : Option ℕ) → some_holds (λ row. is_bare row) operand ≡ true → kind_of_imm immediate ≡ imm_kind_of (operand_rule operand) rex → length (imm_bytes immediate) ≡ 0
+pub bare_imm : (operand : Option ModRmOpcode) (immediate : Imm) (rex : Option ℕ) → some_holds (λ row. is_bare row) operand ≡ true
+    → kind_of_imm immediate ≡ imm_kind_of (operand_rule operand) rex → length (imm_bytes immediate) ≡ 0
 bare_imm None immediate rex e k = bare_rule rules.None immediate rex refl k
 bare_imm (Some operand) immediate rex e k = bare_rule operand.imm immediate rex e k
 
-short_in : (op : Op) (lock : Bool) (rex : Option ℕ) (modrm : ℕ) (immediate : Imm) → is_modrm_field (cell_of op) lock rex (Some modrm) ≡ true
-    → kind_of_imm immediate ≡ imm_kind_of (operand_rule (operand_of (cell_of op) (reg_field modrm))) rex → length (op_bytes op) + length (imm_bytes immediate) ≤ 5
+short_in : (op : Op) (lock : Bool) (rex : Option ℕ) (modrm : ℕ) (immediate : Imm)
+    → is_modrm_field (cell_of op) lock rex (Some modrm) ≡ true
+    → kind_of_imm immediate ≡ imm_kind_of (operand_rule (operand_of (cell_of op) (reg_field modrm))) rex
+    → length (op_bytes op) + length (imm_bytes immediate) ≤ 5
 short_in (One opcode) lock rex modrm immediate e k =
-    omega (arith, narrow_imm (operand_of (one_byte opcode) (reg_field modrm)) immediate rex (of_operand (λ row. is_narrow row) (one_byte opcode) (reg_field modrm) (one_narrow opcode)) k)
+    omega (
+      arith,
+      narrow_imm (operand_of (one_byte opcode) (reg_field modrm)) immediate rex
+          (of_operand (λ row. is_narrow row) (one_byte opcode) (reg_field modrm) (one_narrow opcode)) k,
+    )
 short_in (Two opcode) lock rex modrm immediate e k =
-    omega (arith, bare_imm (operand_of (two_byte opcode) (reg_field modrm)) immediate rex (of_operand (λ row. is_bare row) (two_byte opcode) (reg_field modrm) (two_bare opcode)) k)
+    omega (
+      arith,
+      bare_imm (operand_of (two_byte opcode) (reg_field modrm)) immediate rex
+          (of_operand (λ row. is_bare row) (two_byte opcode) (reg_field modrm) (two_bare opcode)) k,
+    )
 short_in Endbr lock rex modrm immediate e k = absurd cc
 short_in Vmfunc lock rex modrm immediate e k = absurd cc
 
-short_by : (op : Op) (lock : Bool) (rex modrm : Option ℕ) (immediate : Imm) → has_memory modrm ≡ true → is_modrm_field (cell_of op) lock rex modrm ≡ true
-    → kind_of_imm immediate ≡ imm_kind_of (rule_of (cell_of op) modrm) rex → length (op_bytes op) + length (imm_bytes immediate) ≤ 5
+short_by : (op : Op) (lock : Bool) (rex modrm : Option ℕ) (immediate : Imm) → has_memory modrm ≡ true
+    → is_modrm_field (cell_of op) lock rex modrm ≡ true
+    → kind_of_imm immediate ≡ imm_kind_of (rule_of (cell_of op) modrm) rex
+    → length (op_bytes op) + length (imm_bytes immediate) ≤ 5
 short_by op lock rex None immediate memory e k = absurd cc
 short_by op lock rex (Some modrm) immediate memory e k = short_in op lock rex modrm immediate e k
 
 -- an opcode and an immediate around a memory operand have five bytes at most
-pub short_5 : (insn : Insn) → IsValid insn → has_memory insn.modrm ≡ true → length (op_bytes insn.op) + length (imm_bytes insn.imm) ≤ 5
+pub short_5 : (insn : Insn) → IsValid insn → has_memory insn.modrm ≡ true
+    → length (op_bytes insn.op) + length (imm_bytes insn.imm) ≤ 5
 short_5 insn valid memory = short_by insn.op insn.lock insn.rex insn.modrm insn.imm memory valid.modrm valid.imm

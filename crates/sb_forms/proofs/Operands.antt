@@ -14,13 +14,16 @@ pub no_sib_7 : (modrm : ℕ) (sib : Option ℕ) → rm_field modrm ≡ 7 → is_
 unfolding has_sib
 no_sib_7 modrm None seven stands = refl
 no_sib_7 modrm (Some sib) seven stands =
-    absurd (both_ways (has_sib modrm) (and_right (not (is_register modrm)) (rm_field modrm == 4) (ne_eqb (rm_field modrm) 4 (λ is. omega (arith, seven, is)))) stands)
+    absurd (both_ways (has_sib modrm)
+    (and_right (not (is_register modrm)) (rm_field modrm == 4) (ne_eqb (rm_field modrm) 4 (λ is. omega (arith, seven, is))))
+    stands)
 
 pub no_disp_7 : (modrm : ℕ) → mod_field modrm ≡ 0 → rm_field modrm ≡ 7 → modrm_disp modrm None ≡ kinds.None
 unfolding modrm_disp
 no_disp_7 modrm zero_mod seven =
     cond-true (mod_field modrm == 0) _ _ (eq-eqb (mod_field modrm) 0 zero_mod)
-    ∙ cond-false ((rm_field modrm == 5) || false) kinds.D32 kinds.None (or_from (rm_field modrm == 5) false (ne_eqb (rm_field modrm) 5 (λ is. omega (arith, seven, is))) refl)
+    ∙ cond-false ((rm_field modrm == 5) || false) kinds.D32 kinds.None
+    (or_from (rm_field modrm == 5) false (ne_eqb (rm_field modrm) 5 (λ is. omega (arith, seven, is))) refl)
 
 pub kind_none : (displacement : Disp) → kind_of_disp displacement ≡ kinds.None → displacement ≡ disp.None
 kind_none disp.None e = refl
@@ -35,7 +38,8 @@ sib_of_0f : (modrm sib : Option ℕ) → modrm ≡ Some 0x0F → is_sib_field mo
 sib_of_0f modrm sib is stands = no_sib_7 0x0F sib refl (ap (λ m. is_sib_field m sib) (sym is) ∙ stands)
 
 -- ModRM 0F has neither SIB nor a displacement behind it
-pub bare_0f : (modrm : ℕ) (sib : Option ℕ) (displacement : Disp) → modrm ≡ 0x0F → is_sib_field (Some modrm) sib ≡ true → kind_of_disp displacement ≡ disp_kind_of (Some modrm) sib → (sib ≡ None) × (displacement ≡ disp.None)
+pub bare_0f : (modrm : ℕ) (sib : Option ℕ) (displacement : Disp) → modrm ≡ 0x0F → is_sib_field (Some modrm) sib ≡ true
+    → kind_of_disp displacement ≡ disp_kind_of (Some modrm) sib → (sib ≡ None) × (displacement ≡ disp.None)
 bare_0f modrm sib displacement is stands kind =
     let seven : rm_field modrm ≡ 7 = omega (arith, is) in
     let none = no_sib_7 modrm sib seven stands in
@@ -52,7 +56,9 @@ register_mod modrm e = not-false (is_register modrm) e
 no_sib_register : (modrm : ℕ) (sib : Option ℕ) → is_register modrm ≡ true → is_sib_field (Some modrm) sib ≡ true → sib ≡ None
 unfolding has_sib
 no_sib_register modrm None register stands = refl
-no_sib_register modrm (Some sib) register stands = absurd (both_ways (has_sib modrm) (and_left (not (is_register modrm)) (rm_field modrm == 4) (not_from_true (is_register modrm) register)) stands)
+no_sib_register modrm (Some sib) register stands =
+    absurd (both_ways (has_sib modrm)
+    (and_left (not (is_register modrm)) (rm_field modrm == 4) (not_from_true (is_register modrm) register)) stands)
 
 no_disp_register : (modrm : ℕ) (sib : Option ℕ) → mod_field modrm ≡ 3 → modrm_disp modrm sib ≡ kinds.None
 unfolding modrm_disp
@@ -62,10 +68,13 @@ no_disp_register modrm sib three =
     ∙ cond-false (mod_field modrm == 2) _ _ (ne_eqb (mod_field modrm) 2 (λ is. omega (arith, three, is)))
 
 -- no memory operand: neither SIB nor a displacement
-pub no_memory : (modrm sib : Option ℕ) (displacement : Disp) → has_memory modrm ≡ false → is_sib_field modrm sib ≡ true → kind_of_disp displacement ≡ disp_kind_of modrm sib
+pub no_memory : (modrm sib : Option ℕ) (displacement : Disp) → has_memory modrm ≡ false → is_sib_field modrm sib ≡ true
+    → kind_of_disp displacement ≡ disp_kind_of modrm sib
     → (sib ≡ None) × (displacement ≡ disp.None)
 no_memory None None displacement e stands kind = (refl, kind_none displacement kind)
 no_memory None (Some sib) displacement e stands kind = absurd cc
 no_memory (Some modrm) sib displacement e stands kind =
-    let register = register_mod modrm e in
-    (no_sib_register modrm sib register stands, kind_none displacement (kind ∙ no_disp_register modrm sib (eqb-true (mod_field modrm) 3 register)))
+    let register = register_mod modrm e in (
+      no_sib_register modrm sib register stands,
+      kind_none displacement (kind ∙ no_disp_register modrm sib (eqb-true (mod_field modrm) 3 register)),
+    )

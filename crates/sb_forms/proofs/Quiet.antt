@@ -8,7 +8,7 @@ use Rattle.sb_insn.specs.Spelling.{spelling}
 use Rattle.sb_scan.specs.Pattern.{pattern}
 use Rattle.sb_forms.specs.Holding.{begins_with, holds_pattern}
 use Rattle.sb_forms.specs.Answers.{IsClean}
-use Rattle.sb_forms.specs.Table.{spelled}
+use Rattle.sb_forms.specs.Table.{spelled_bytes}
 use Rattle.sb_forms.proofs.Held.{not_held}
 
 -- the last two bytes of the pattern, and the last
@@ -39,7 +39,8 @@ joined : (first second : List ℕ) → holds_pattern first ≡ false → IsQuiet
 unfolding holds_pattern
 joined [] second none quiet = quiet.none
 joined (a ∷ []) second none quiet =
-    or_from ((a == 0x0F) && begins_with last_two second) (holds_pattern second) (and_right (a == 0x0F) (begins_with last_two second) quiet.two) quiet.none
+    or_from ((a == 0x0F) && begins_with last_two second) (holds_pattern second)
+    (and_right (a == 0x0F) (begins_with last_two second) quiet.two) quiet.none
 joined (a ∷ b ∷ []) second none quiet =
     let behind = and_right (b == 0x01) (begins_with last_one second) quiet.one in
     or_from
@@ -49,7 +50,8 @@ joined (a ∷ b ∷ []) second none quiet =
     (joined (b ∷ []) second (or_parts (begins_with pattern (a ∷ b ∷ [])) (holds_pattern (b ∷ [])) none).1 quiet)
 joined (a ∷ b ∷ c ∷ rest) second none quiet =
     let parts = or_parts (begins_with pattern (a ∷ b ∷ c ∷ rest)) (holds_pattern (b ∷ c ∷ rest)) none in
-    or_from (begins_with pattern (a ∷ b ∷ c ∷ (rest ++ second))) (holds_pattern (b ∷ c ∷ (rest ++ second))) parts.0 (joined (b ∷ c ∷ rest) second parts.1 quiet)
+    or_from (begins_with pattern (a ∷ b ∷ c ∷ (rest ++ second))) (holds_pattern (b ∷ c ∷ (rest ++ second))) parts.0
+    (joined (b ∷ c ∷ rest) second parts.1 quiet)
 
 -- ---- bytes CC
 
@@ -64,12 +66,13 @@ abbrev pub AreQuiet : List Insn → Type 0
 AreQuiet insns = AllByRecursion (λ insn. IsQuiet (spelling insn)) insns
 
 -- bytes, and instructions behind them
-followed : (bytes : List ℕ) (insns : List Insn) → holds_pattern bytes ≡ false → AreQuiet insns → holds_pattern (bytes ++ spelled insns) ≡ false
+followed : (bytes : List ℕ) (insns : List Insn) → holds_pattern bytes ≡ false → AreQuiet insns
+    → holds_pattern (bytes ++ spelled_bytes insns) ≡ false
 followed bytes [] none quiet = joined bytes [] none (filler_quiet zero)
 followed bytes (insn ∷ insns) none quiet =
     subst
     (λ (all : List ℕ). holds_pattern all ≡ false)
-    (append_assoc bytes (spelling insn) (spelled insns))
+    (append_assoc bytes (spelling insn) (spelled_bytes insns))
     (followed (bytes ++ spelling insn) insns (joined bytes (spelling insn) none quiet.0) quiet.1)
 
 -- the pattern does not stand with CC before the bytes, and so neither with CC behind them
@@ -82,47 +85,59 @@ around bytes none before behind =
     (append_assoc (replicate before 0xCC) bytes (replicate behind 0xCC))
     (joined (replicate before 0xCC ++ bytes) (replicate behind 0xCC) (none before) (filler_quiet behind)))
 
-pub in_place_clean : (insns : List Insn) → AreQuiet insns → IsClean (spelled insns)
-in_place_clean insns quiet = around (spelled insns) (λ before. followed (replicate before 0xCC) insns (filler_quiet before).none quiet)
+pub in_place_clean : (insns : List Insn) → AreQuiet insns → IsClean (spelled_bytes insns)
+in_place_clean insns quiet =
+    around (spelled_bytes insns) (λ before. followed (replicate before 0xCC) insns (filler_quiet before).none quiet)
 
 -- a byte 00 between bytes in which the pattern does not stand
-zero_between : (front second : List ℕ) → holds_pattern (front ++ 0 ∷ []) ≡ false → holds_pattern second ≡ false → holds_pattern (front ++ 0 ∷ second) ≡ false
+zero_between : (front second : List ℕ) → holds_pattern (front ++ 0 ∷ []) ≡ false → holds_pattern second ≡ false
+    → holds_pattern (front ++ 0 ∷ second) ≡ false
 unfolding holds_pattern
 zero_between [] second none other = other
-zero_between (a ∷ []) second none other = or_from ((a == 0x0F) && false) (holds_pattern (0 ∷ second)) (and_right (a == 0x0F) false refl) other
+zero_between (a ∷ []) second none other =
+    or_from ((a == 0x0F) && false) (holds_pattern (0 ∷ second)) (and_right (a == 0x0F) false refl) other
 zero_between (a ∷ b ∷ []) second none other =
     let parts = or_parts (begins_with pattern (a ∷ b ∷ 0 ∷ [])) (holds_pattern (b ∷ 0 ∷ [])) none in
-    or_from (begins_with pattern (a ∷ b ∷ 0 ∷ second)) (holds_pattern (b ∷ 0 ∷ second)) parts.0 (zero_between (b ∷ []) second parts.1 other)
+    or_from (begins_with pattern (a ∷ b ∷ 0 ∷ second)) (holds_pattern (b ∷ 0 ∷ second)) parts.0
+    (zero_between (b ∷ []) second parts.1 other)
 zero_between (a ∷ b ∷ c ∷ rest) second none other =
     let parts = or_parts (begins_with pattern (a ∷ b ∷ c ∷ (rest ++ 0 ∷ []))) (holds_pattern (b ∷ c ∷ (rest ++ 0 ∷ []))) none in
-    or_from (begins_with pattern (a ∷ b ∷ c ∷ (rest ++ 0 ∷ second))) (holds_pattern (b ∷ c ∷ (rest ++ 0 ∷ second))) parts.0 (zero_between (b ∷ c ∷ rest) second parts.1 other)
+    or_from (begins_with pattern (a ∷ b ∷ c ∷ (rest ++ 0 ∷ second))) (holds_pattern (b ∷ c ∷ (rest ++ 0 ∷ second))) parts.0
+    (zero_between (b ∷ c ∷ rest) second parts.1 other)
 
 -- bytes behind some that end with 00
-behind_zero : (first front second : List ℕ) → first ≡ front ++ 0 ∷ [] → holds_pattern first ≡ false → holds_pattern second ≡ false → holds_pattern (first ++ second) ≡ false
+behind_zero : (first front second : List ℕ) → first ≡ front ++ 0 ∷ [] → holds_pattern first ≡ false
+    → holds_pattern second ≡ false → holds_pattern (first ++ second) ≡ false
 behind_zero first front second is none other =
     let ends : holds_pattern (front ++ 0 ∷ []) ≡ false = ap (λ (bytes : List ℕ). holds_pattern bytes) (sym is) ∙ none in
-    ap (λ (bytes : List ℕ). holds_pattern (bytes ++ second)) is ∙ ap (λ (bytes : List ℕ). holds_pattern bytes) (append_assoc front (0 ∷ []) second) ∙ zero_between front second ends other
+    ap (λ (bytes : List ℕ). holds_pattern (bytes ++ second)) is
+    ∙ ap (λ (bytes : List ℕ). holds_pattern bytes) (append_assoc front (0 ∷ []) second) ∙ zero_between front second ends other
 
 -- The main instruction may begin like the end of the pattern where the bytes before it end with 00.
 abbrev pub MayFollow : List ℕ → List ℕ → Type 0
 MayFollow before bytes = IsQuiet bytes ⊎ ((holds_pattern bytes ≡ false) × ((front : List ℕ) × (before ≡ front ++ 0 ∷ [])))
 
-main_follows : (fill pre main : List ℕ) → holds_pattern (fill ++ pre) ≡ false → MayFollow pre main → holds_pattern ((fill ++ pre) ++ main) ≡ false
+main_follows : (fill pre main : List ℕ) → holds_pattern (fill ++ pre) ≡ false → MayFollow pre main
+    → holds_pattern ((fill ++ pre) ++ main) ≡ false
 main_follows fill pre main none (inl quiet) = joined (fill ++ pre) main none quiet
 main_follows fill pre main none (inr (other, (front, is))) =
-    behind_zero (fill ++ pre) (fill ++ front) main (ap (λ (bytes : List ℕ). fill ++ bytes) is ∙ sym (append_assoc fill front (0 ∷ []))) none other
+    behind_zero (fill ++ pre) (fill ++ front) main (ap (λ (bytes : List ℕ). fill ++ bytes) is
+    ∙ sym (append_assoc fill front (0 ∷ []))) none other
 
 -- a slot
-pub slot_clean : (pre : List Insn) (main : Insn) (post : List Insn) → AreQuiet pre → MayFollow (spelled pre) (spelling main) → AreQuiet post → IsClean (spelled pre ++ (spelling main ++ spelled post))
+pub slot_clean : (pre : List Insn) (main : Insn) (post : List Insn) → AreQuiet pre
+    → MayFollow (spelled_bytes pre) (spelling main) → AreQuiet post
+    → IsClean (spelled_bytes pre ++ (spelling main ++ spelled_bytes post))
 slot_clean pre main post before work behind =
     around
-    (spelled pre ++ (spelling main ++ spelled post))
+    (spelled_bytes pre ++ (spelling main ++ spelled_bytes post))
     (λ count.
     let fill = replicate count 0xCC in
     let first = followed fill pre (filler_quiet count).none before in
-    let second = main_follows fill (spelled pre) (spelling main) first work in
-    let third = followed ((fill ++ spelled pre) ++ spelling main) post second behind in
+    let second = main_follows fill (spelled_bytes pre) (spelling main) first work in
+    let third = followed ((fill ++ spelled_bytes pre) ++ spelling main) post second behind in
     subst
     (λ (all : List ℕ). holds_pattern all ≡ false)
-    (append_assoc (fill ++ spelled pre) (spelling main) (spelled post) ∙ append_assoc fill (spelled pre) (spelling main ++ spelled post))
+    (append_assoc (fill ++ spelled_bytes pre) (spelling main) (spelled_bytes post)
+    ∙ append_assoc fill (spelled_bytes pre) (spelling main ++ spelled_bytes post))
     third)

@@ -41,10 +41,12 @@ any_start Endbr rest other = tt
 any_start Vmfunc rest other = tt
 
 -- an instruction with this ModRM byte
-modrm_quiet : (lock : Bool) (rex : Option ℕ) (op : Op) (modrm : ℕ) (rest : List ℕ) → IsRex rex → IsOpcode op → (modrm ≡ 0x0F → ⊥) → (modrm ≡ 0xD4 → ⊥) → holds_pattern rest ≡ false
+modrm_quiet : (lock : Bool) (rex : Option ℕ) (op : Op) (modrm : ℕ) (rest : List ℕ) → IsRex rex → IsOpcode op
+    → (modrm ≡ 0x0F → ⊥) → (modrm ≡ 0xD4 → ⊥) → holds_pattern rest ≡ false
     → IsQuiet (front_bytes lock rex op ++ modrm ∷ rest)
 modrm_quiet lock rex op modrm rest range known other last none =
-    front_quiet lock rex op (modrm ∷ rest) range known (any_start op (modrm ∷ rest) (not_d4 modrm rest last)) (skip modrm rest other ∙ none)
+    front_quiet lock rex op (modrm ∷ rest) range known (any_start op (modrm ∷ rest) (not_d4 modrm rest last))
+    (skip modrm rest other ∙ none)
 
 zero_holds : holds_pattern (0 ∷ []) ≡ false
 unfolding holds_pattern
@@ -66,7 +68,8 @@ register_opcode _ = (λ is. omega (arith, is), λ is. omega (arith, is))
 -- ---- mains
 
 -- the immediate in a helper, memory at another
-pub on_memory_quiet : (name : Mnemonic) (insn : Insn) (helper second : Helper) → IsQuiet (spelling (with_constant name insn (at_helper helper) second))
+pub on_memory_quiet : (name : Mnemonic) (insn : Insn) (helper second : Helper)
+    → IsQuiet (spelling (with_constant name insn (at_helper helper) second))
 unfolding with_constant at_helper
 on_memory_quiet name insn helper second =
     modrm_quiet
@@ -82,22 +85,30 @@ on_memory_quiet name insn helper second =
     zero_holds
 
 -- the immediate in a helper, and a register that is not a helper: ModRM may be D4 here
-register_holds : (lock : Bool) (rex : Option ℕ) (b : ℕ) (op : Op) (modrm : ℕ) → b ≤ 1 → IsOpcode op → 0xC0 ≤ modrm → holds_pattern (front_bytes lock (with_r_b rex 0 b) op ++ modrm ∷ []) ≡ false
+register_holds : (lock : Bool) (rex : Option ℕ) (b : ℕ) (op : Op) (modrm : ℕ) → b ≤ 1 → IsOpcode op → 0xC0 ≤ modrm
+    → holds_pattern (front_bytes lock (with_r_b rex 0 b) op ++ modrm ∷ []) ≡ false
 register_holds lock rex b op modrm bit known high =
-    front_holds lock (with_r_b rex 0 b) op (modrm ∷ []) (with_r_b_rex rex 0 b (omega arith) bit) known ∙ skip modrm [] (λ is. omega (arith, is, high)) ∙ nothing_holds
+    front_holds lock (with_r_b rex 0 b) op (modrm ∷ []) (with_r_b_rex rex 0 b (omega arith) bit) known
+    ∙ skip modrm [] (λ is. omega (arith, is, high)) ∙ nothing_holds
 
-own_holds : (form : OperandForm) (name : Mnemonic) (insn : Insn) (helper : Helper) → holds_pattern (spelling (with_constant name insn (own_register form insn) helper)) ≡ false
+own_holds : (form : OperandForm) (name : Mnemonic) (insn : Insn) (helper : Helper)
+    → holds_pattern (spelling (with_constant name insn (own_register form insn) helper)) ≡ false
 unfolding with_constant own_register
-own_holds AccImm name insn helper = register_holds insn.lock insn.rex 0 (register_op name) (0xC0 + 8 * number_of helper) (omega arith) (register_opcode name) (omega arith)
+own_holds AccImm name insn helper =
+    register_holds insn.lock insn.rex 0 (register_op name) (0xC0 + 8 * number_of helper) (omega arith) (register_opcode name)
+    (omega arith)
 own_holds OpcodeImm name insn helper =
-    register_holds insn.lock insn.rex (rex_b insn.rex) (register_op name) (0xC0 + opcode_of insn.op % 8 + 8 * number_of helper) (b_1 insn.rex) (register_opcode name) (omega arith)
+    register_holds insn.lock insn.rex (rex_b insn.rex) (register_op name) (0xC0 + opcode_of insn.op % 8 + 8 * number_of helper)
+    (b_1 insn.rex) (register_opcode name) (omega arith)
 own_holds _ name insn helper =
-    register_holds insn.lock insn.rex (rex_b insn.rex) (register_op name) (0xC0 + rm_field (modrm_of insn) + 8 * number_of helper) (b_1 insn.rex) (register_opcode name) (omega arith)
+    register_holds insn.lock insn.rex (rex_b insn.rex) (register_op name) (0xC0 + rm_field (modrm_of insn) + 8 * number_of helper)
+    (b_1 insn.rex) (register_opcode name) (omega arith)
 
 push_holds : (helper : Helper) → holds_pattern ((0x50 + number_of helper) ∷ []) ≡ false
 push_holds helper = skip (0x50 + number_of helper) [] (λ is. omega (arith, is)) ∙ nothing_holds
 
-pub on_register_holds : (name : Mnemonic) (form : OperandForm) (insn : Insn) (helper : Helper) → holds_pattern (spelling (on_register name form insn helper)) ≡ false
+pub on_register_holds : (name : Mnemonic) (form : OperandForm) (insn : Insn) (helper : Helper)
+    → holds_pattern (spelling (on_register name form insn helper)) ≡ false
 unfolding on_register
 on_register_holds mnemonic.Push form insn helper = push_holds helper
 on_register_holds name form insn helper = own_holds form name insn helper
@@ -122,7 +133,8 @@ behind_quiet mnemonic.Imul insn helper = (product_quiet insn helper, tt)
 behind_quiet _ insn helper = tt
 
 -- memory at a helper
-pub with_helper_quiet : (helper : Helper) (insn : Insn) → IsRex insn.rex → IsOpcode insn.op → holds_pattern (imm_bytes insn.imm) ≡ false → IsQuiet (spelling (with_helper helper insn))
+pub with_helper_quiet : (helper : Helper) (insn : Insn) → IsRex insn.rex → IsOpcode insn.op
+    → holds_pattern (imm_bytes insn.imm) ≡ false → IsQuiet (spelling (with_helper helper insn))
 unfolding with_helper at_helper
 with_helper_quiet helper insn range known none =
     modrm_quiet
@@ -182,7 +194,8 @@ rest_holds (imm.I32 value) e =
     (λ (a, b, c). omega (arith, a, second))
     (in_four (n % 256) (n / 256 % 256) (n / 65536 % 256) (n / 16777216 % 256) held))
 
-pub displaced_quiet : (insn : Insn) → IsRex insn.rex → IsOpcode insn.op → insn.sib ≡ None → begins_with_01_d4 insn.imm ≡ true → IsQuiet (spelling (with_displacement insn))
+pub displaced_quiet : (insn : Insn) → IsRex insn.rex → IsOpcode insn.op → insn.sib ≡ None → begins_with_01_d4 insn.imm ≡ true
+    → IsQuiet (spelling (with_displacement insn))
 unfolding with_displacement
 displaced_quiet insn range known no_sib e =
     modrm_quiet
@@ -195,4 +208,5 @@ displaced_quiet insn range known no_sib e =
     known
     (λ is. omega (arith, is))
     (λ is. omega (arith, is))
-    (ap (λ sib. holds_pattern (option_to_list sib ++ 0 ∷ imm_bytes insn.imm)) no_sib ∙ skip 0 (imm_bytes insn.imm) (λ is. omega (arith, is)) ∙ rest_holds insn.imm e)
+    (ap (λ sib. holds_pattern (option_to_list sib ++ 0 ∷ imm_bytes insn.imm)) no_sib
+    ∙ skip 0 (imm_bytes insn.imm) (λ is. omega (arith, is)) ∙ rest_holds insn.imm e)

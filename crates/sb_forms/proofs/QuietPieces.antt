@@ -16,7 +16,7 @@ use Rattle.sb_scan.proofs.Held.{nothing_holds, byte_holds}
 use Rattle.sb_forms.specs.Holding.{holds_pattern}
 use Rattle.sb_forms.specs.Rex.{rex_x, rex_b}
 use Rattle.sb_forms.specs.Registers.{number_of, byte_of, modrm_of}
-use Rattle.sb_forms.specs.Pieces.{first_saved, second_saved, scratch_word, upper_half, save, restore, save_half, load_number, add_number, lowered, lacking, raise, constant, exchanged, is_sib_0f, without_sib_0f, is_from_next, load_address, address_from, address_at, address_by, address, jump, jump_through}
+use Rattle.sb_forms.specs.Pieces.{first_saved, second_saved, scratch_word, upper_half, save, restore, save_half, load_number, add_number, lowered_displacement, lacking, add_step_back, load_constant, sib_exchanged, is_sib_0f, without_sib_0f, is_from_next, load_address, address_from, address_at, address_by, load_address_of_operand, jump_insn, jump_through}
 use Rattle.sb_forms.proofs.Lowered.{in_four, lowered_holds}
 use Rattle.sb_forms.proofs.Operands.{no_sib_7, no_disp_7, kind_none}
 use Rattle.sb_forms.proofs.Quiet.{IsQuiet, AreQuiet, skip}
@@ -34,7 +34,8 @@ small_holds n small = false_from_ne_true (holds_pattern (number w32 (pos n))) (�
 
 -- ---- at an address
 
-save_holds : (helper : Helper) (address : ℤ) → holds_pattern (number w32 address) ≡ false → IsQuiet (spelling (save helper address))
+save_holds : (helper : Helper) (address : ℤ) → holds_pattern (number w32 address) ≡ false
+    → IsQuiet (spelling (save helper address))
 unfolding save holds_pattern
 save_holds Rcx address e = record { none = e; two = refl; one = refl }
 save_holds Rdx address e = record { none = e; two = refl; one = refl }
@@ -42,7 +43,8 @@ save_holds Rbx address e = record { none = e; two = refl; one = refl }
 save_holds Rsi address e = record { none = e; two = refl; one = refl }
 save_holds Rdi address e = record { none = e; two = refl; one = refl }
 
-restore_holds : (helper : Helper) (address : ℤ) → holds_pattern (number w32 address) ≡ false → IsQuiet (spelling (restore helper address))
+restore_holds : (helper : Helper) (address : ℤ) → holds_pattern (number w32 address) ≡ false
+    → IsQuiet (spelling (restore helper address))
 unfolding restore holds_pattern
 restore_holds Rcx address e = record { none = e; two = refl; one = refl }
 restore_holds Rdx address e = record { none = e; two = refl; one = refl }
@@ -50,7 +52,8 @@ restore_holds Rbx address e = record { none = e; two = refl; one = refl }
 restore_holds Rsi address e = record { none = e; two = refl; one = refl }
 restore_holds Rdi address e = record { none = e; two = refl; one = refl }
 
-save_half_holds : (helper : Helper) (address : ℤ) → holds_pattern (number w32 address) ≡ false → IsQuiet (spelling (save_half helper address))
+save_half_holds : (helper : Helper) (address : ℤ) → holds_pattern (number w32 address) ≡ false
+    → IsQuiet (spelling (save_half helper address))
 unfolding save_half holds_pattern
 save_half_holds Rcx address e = record { none = e; two = refl; one = refl }
 save_half_holds Rdx address e = record { none = e; two = refl; one = refl }
@@ -102,7 +105,8 @@ jump_through_word = record { none = refl; two = refl; one = refl }
 
 -- ---- constants
 
-load_holds : (helper : Helper) (value : ℤ) → holds_pattern (number w32 value) ≡ false → IsQuiet (spelling (load_number helper value))
+load_holds : (helper : Helper) (value : ℤ) → holds_pattern (number w32 value) ≡ false
+    → IsQuiet (spelling (load_number helper value))
 unfolding load_number holds_pattern
 load_holds Rcx value e = record { none = e; two = refl; one = refl }
 load_holds Rdx value e = record { none = e; two = refl; one = refl }
@@ -110,7 +114,8 @@ load_holds Rbx value e = record { none = e; two = refl; one = refl }
 load_holds Rsi value e = record { none = e; two = refl; one = refl }
 load_holds Rdi value e = record { none = e; two = refl; one = refl }
 
-add_holds : (helper : Helper) (amount : ℤ) → holds_pattern (number w32 amount) ≡ false → IsQuiet (spelling (add_number helper amount))
+add_holds : (helper : Helper) (amount : ℤ) → holds_pattern (number w32 amount) ≡ false
+    → IsQuiet (spelling (add_number helper amount))
 unfolding add_number holds_pattern
 add_holds Rcx amount e = record { none = e; two = refl; one = refl }
 add_holds Rdx amount e = record { none = e; two = refl; one = refl }
@@ -118,14 +123,16 @@ add_holds Rbx amount e = record { none = e; two = refl; one = refl }
 add_holds Rsi amount e = record { none = e; two = refl; one = refl }
 add_holds Rdi amount e = record { none = e; two = refl; one = refl }
 
-pub raise_quiet : (helper : Helper) (value : ℤ) → AreQuiet (raise helper value)
-unfolding raise
+pub raise_quiet : (helper : Helper) (value : ℤ) → AreQuiet (add_step_back helper value)
+unfolding add_step_back
 raise_quiet helper value =
-    cond_both (holds_pattern (number w32 value)) (add_number helper (pos 0x100) ∷ []) [] (λ insns. AreQuiet insns) (λ _. (add_holds helper (pos 0x100) (small_holds 0x100 (omega arith)), tt)) (λ _. tt)
+    cond_both (holds_pattern (number w32 value)) (add_number helper (pos 0x100) ∷ []) [] (λ insns. AreQuiet insns)
+    (λ _. (add_holds helper (pos 0x100) (small_holds 0x100 (omega arith)), tt)) (λ _. tt)
 
-pub constant_quiet : (helper : Helper) (value : ℤ) → FitsSigned w32 value → AreQuiet (constant helper value)
-unfolding constant
-constant_quiet helper value fits = (load_holds helper (lowered value) (lowered_holds value fits), raise_quiet helper value)
+pub constant_quiet : (helper : Helper) (value : ℤ) → FitsSigned w32 value → AreQuiet (load_constant helper value)
+unfolding load_constant
+constant_quiet helper value fits =
+    (load_holds helper (lowered_displacement value) (lowered_holds value fits), raise_quiet helper value)
 
 -- ---- the address of a memory operand
 
@@ -133,20 +140,26 @@ lacking_100 : (value : ℤ) → lacking value ≤ 0x100
 unfolding lacking
 lacking_100 value = cond_both (holds_pattern (number w32 value)) 0x100 0 (λ n. n ≤ 0x100) (λ _. omega arith) (λ _. omega arith)
 
-from_quiet : (helper : Helper) (next : ℕ) (distance : ℤ) → next ≤ 0x600010 → FitsSigned w32 distance → AreQuiet (address_from helper next distance)
+from_quiet : (helper : Helper) (next : ℕ) (distance : ℤ) → next ≤ 0x600010 → FitsSigned w32 distance
+    → AreQuiet (address_from helper next distance)
 unfolding address_from
 from_quiet helper next distance near fits = (
-  load_holds helper (lowered distance) (lowered_holds distance fits),
-  (add_holds helper (pos (next + lacking distance)) (small_holds (next + lacking distance) (omega (arith, lacking_100 distance))), tt),
+  load_holds helper (lowered_displacement distance) (lowered_holds distance fits),
+  (
+    add_holds helper (pos (next + lacking distance)) (small_holds (next + lacking distance) (omega (arith, lacking_100 distance))),
+    tt,
+  ),
 )
 
 -- the displacement of a lea
-disp_holds : (displacement : Disp) → holds_pattern (disp_bytes displacement) ≡ false → holds_pattern (disp_bytes displacement ++ []) ≡ false
+disp_holds : (displacement : Disp) → holds_pattern (disp_bytes displacement) ≡ false
+    → holds_pattern (disp_bytes displacement ++ []) ≡ false
 disp_holds disp.None e = e
 disp_holds (disp.D8 value) e = e
 disp_holds (disp.D32 value) e = e
 
-sib_holds : (sib : Option ℕ) (rest : List ℕ) → is_sib_0f sib ≡ false → holds_pattern rest ≡ false → holds_pattern (option_to_list sib ++ rest) ≡ false
+sib_holds : (sib : Option ℕ) (rest : List ℕ) → is_sib_0f sib ≡ false → holds_pattern rest ≡ false
+    → holds_pattern (option_to_list sib ++ rest) ≡ false
 sib_holds None rest other e = e
 sib_holds (Some sib) rest other e = skip sib rest (eqb-false sib 0x0F other) ∙ e
 
@@ -154,7 +167,8 @@ sib_holds (Some sib) rest other e = skip sib rest (eqb-false sib 0x0F other) ∙
 abbrev IsBare : ℕ → Option ℕ → Disp → Type 0
 IsBare modrm sib displacement = modrm ≡ 0x0F → (sib ≡ None) × (displacement ≡ disp.None)
 
-operand_holds : (modrm : ℕ) (sib : Option ℕ) (displacement : Disp) → IsBare modrm sib displacement → is_sib_0f sib ≡ false → holds_pattern (disp_bytes displacement) ≡ false
+operand_holds : (modrm : ℕ) (sib : Option ℕ) (displacement : Disp) → IsBare modrm sib displacement → is_sib_0f sib ≡ false
+    → holds_pattern (disp_bytes displacement) ≡ false
     → holds_pattern (modrm ∷ (option_to_list sib ++ (disp_bytes displacement ++ []))) ≡ false
 operand_holds modrm sib displacement bare other e =
     ⊎_elim
@@ -164,14 +178,16 @@ operand_holds modrm sib displacement bare other e =
     (λ d. holds_pattern (modrm ∷ (option_to_list sib ++ (disp_bytes d ++ []))) ≡ false)
     (sym (bare is).1)
     (subst (λ s. holds_pattern (modrm ∷ (option_to_list s ++ (disp_bytes disp.None ++ []))) ≡ false) (sym (bare is).0) alone))
-    (λ is_not. skip modrm (option_to_list sib ++ (disp_bytes displacement ++ [])) is_not ∙ sib_holds sib (disp_bytes displacement ++ []) other (disp_holds displacement e))
+    (λ is_not. skip modrm (option_to_list sib ++ (disp_bytes displacement ++ [])) is_not
+    ∙ sib_holds sib (disp_bytes displacement ++ []) other (disp_holds displacement e))
     (cases_eq modrm 0x0F)
 
 -- ModRM of the lea
 abbrev lea_modrm : Helper → Insn → ℕ
 lea_modrm helper insn = 64 * mod_field (modrm_of insn) + 8 * number_of helper + rm_field (modrm_of insn)
 
-lea_quiet : (helper : Helper) (insn : Insn) (displacement : Disp) → IsBare (lea_modrm helper insn) insn.sib displacement → is_sib_0f insn.sib ≡ false → holds_pattern (disp_bytes displacement) ≡ false
+lea_quiet : (helper : Helper) (insn : Insn) (displacement : Disp) → IsBare (lea_modrm helper insn) insn.sib displacement
+    → is_sib_0f insn.sib ≡ false → holds_pattern (disp_bytes displacement) ≡ false
     → IsQuiet (spelling (load_address helper insn displacement))
 unfolding load_address
 lea_quiet helper insn displacement bare other e =
@@ -201,8 +217,10 @@ number_7 Rbx = omega arith
 number_7 Rsi = omega arith
 number_7 Rdi = omega arith
 
-bare_by : (modrm sib : Option ℕ) (displacement : Disp) (helper : Helper) → is_sib_field modrm sib ≡ true → kind_of_disp displacement ≡ disp_kind_of modrm sib
-    → 64 * mod_field (byte_of modrm) + 8 * number_of helper + rm_field (byte_of modrm) ≡ 0x0F → (sib ≡ None) × (displacement ≡ disp.None)
+bare_by : (modrm sib : Option ℕ) (displacement : Disp) (helper : Helper) → is_sib_field modrm sib ≡ true
+    → kind_of_disp displacement ≡ disp_kind_of modrm sib
+    → 64 * mod_field (byte_of modrm) + 8 * number_of helper + rm_field (byte_of modrm) ≡ 0x0F
+    → (sib ≡ None) × (displacement ≡ disp.None)
 bare_by None sib displacement helper stands kind is = absurd (omega (arith, is, number_1 helper))
 bare_by (Some modrm) sib displacement helper stands kind is =
     let zero_mod : mod_field modrm ≡ 0 = omega (arith, is, number_1 helper) in
@@ -218,50 +236,59 @@ abbrev IsOperand : Helper → Disp → Insn → Type 0
 IsOperand helper displacement insn = (is_sib_0f insn.sib ≡ false) × IsBare (lea_modrm helper insn) insn.sib displacement
 
 operand_of_valid : (helper : Helper) (insn : Insn) → IsValid insn → IsOperand helper insn.disp (without_sib_0f insn)
-unfolding without_sib_0f exchanged
+unfolding without_sib_0f sib_exchanged
 operand_of_valid helper insn valid =
     cond_both
     (is_sib_0f insn.sib)
-    (exchanged insn)
+    (sib_exchanged insn)
     insn
     (λ i. IsOperand helper insn.disp i)
     (λ e. (refl, λ is. absurd (false≢true (sym (ap (λ s. is_sib_0f s) (bare_of helper insn valid is).0) ∙ e))))
     (λ e. (e, bare_of helper insn valid))
 
-lowered_quiet : (helper : Helper) (insn : Insn) (distance : ℤ) → IsOperand helper (disp.D32 distance) insn → FitsSigned w32 distance
-    → AreQuiet (load_address helper insn (disp.D32 (lowered distance)) ∷ raise helper distance)
-lowered_quiet helper insn distance operand fits =
-    (lea_quiet helper insn (disp.D32 (lowered distance)) (λ is. let wrong = (operand.1 is).1 in absurd cc) operand.0 (lowered_holds distance fits), raise_quiet helper distance)
+lowered_quiet : (helper : Helper) (insn : Insn) (distance : ℤ) → IsOperand helper (disp.D32 distance) insn
+    → FitsSigned w32 distance
+    → AreQuiet (load_address helper insn (disp.D32 (lowered_displacement distance)) ∷ add_step_back helper distance)
+lowered_quiet helper insn distance operand fits = (
+  lea_quiet helper insn (disp.D32 (lowered_displacement distance)) (λ is. let wrong = (operand.1 is).1 in
+      absurd cc) operand.0 (lowered_holds distance fits),
+  raise_quiet helper distance,
+)
 
-by_quiet : (helper : Helper) (insn : Insn) (next : ℕ) (displacement : Disp) → next ≤ 0x600010 → IsOperand helper displacement insn → FitsDisp displacement → AreQuiet (address_by helper insn next displacement)
+by_quiet : (helper : Helper) (insn : Insn) (next : ℕ) (displacement : Disp) → next ≤ 0x600010
+    → IsOperand helper displacement insn → FitsDisp displacement → AreQuiet (address_by helper insn next displacement)
 unfolding address_at
 by_quiet helper insn next disp.None near operand fits = (lea_quiet helper insn disp.None operand.1 operand.0 nothing_holds, tt)
-by_quiet helper insn next (disp.D8 value) near operand fits = (lea_quiet helper insn (disp.D8 value) operand.1 operand.0 (byte_holds (cast_unsigned w8 value % 256)), tt)
+by_quiet helper insn next (disp.D8 value) near operand fits =
+    (lea_quiet helper insn (disp.D8 value) operand.1 operand.0 (byte_holds (cast_unsigned w8 value % 256)), tt)
 by_quiet helper insn next (disp.D32 distance) near operand fits =
     cond_both
     (is_from_next (modrm_of insn))
     (address_from helper next distance)
-    (load_address helper insn (disp.D32 (lowered distance)) ∷ raise helper distance)
+    (load_address helper insn (disp.D32 (lowered_displacement distance)) ∷ add_step_back helper distance)
     (λ insns. AreQuiet insns)
     (λ _. from_quiet helper next distance near fits)
     (λ _. lowered_quiet helper insn distance operand fits)
 
-pub address_quiet : (helper : Helper) (insn : Insn) (next : ℕ) → IsValid insn → next ≤ 0x600010 → AreQuiet (address helper insn next)
-unfolding address
-address_quiet helper insn next valid near = by_quiet helper (without_sib_0f insn) next insn.disp near (operand_of_valid helper insn valid) valid.disp_fits
+pub address_quiet : (helper : Helper) (insn : Insn) (next : ℕ) → IsValid insn → next ≤ 0x600010
+    → AreQuiet (load_address_of_operand helper insn next)
+unfolding load_address_of_operand
+address_quiet helper insn next valid near =
+    by_quiet helper (without_sib_0f insn) next insn.disp near (operand_of_valid helper insn valid) valid.disp_fits
 
 -- ---- the jump back
 
 less : (to from : ℕ) → suc from ≤ to → pos to -ℤ pos (suc from) ≡ pos (to - suc from)
-less to from below = cond-false (ltb to (suc from)) (negsuc (suc from - suc to)) (pos (to - suc from)) (le-ltb to (suc from) below)
+less to from below =
+    cond-false (ltb to (suc from)) (negsuc (suc from - suc to)) (pos (to - suc from)) (le-ltb to (suc from) below)
 
 distance_is : (from to : ℕ) → from + 5 ≤ to → pos to -ℤ pos (from + 5) ≡ pos (to - (from + 5))
 distance_is from to below =
     let next : from + 5 ≡ suc (from + 4) = omega arith in
     ap (λ (n : ℕ). pos to -ℤ pos n) next ∙ less to (from + 4) (omega (arith, below)) ∙ ap (λ (n : ℕ). pos (to - n)) (sym next)
 
-pub jump_quiet : (from to : ℕ) → from + 5 ≤ to → to < 0xD40000 → IsQuiet (spelling (jump from to))
-unfolding jump
+pub jump_quiet : (from to : ℕ) → from + 5 ≤ to → to < 0xD40000 → IsQuiet (spelling (jump_insn from to))
+unfolding jump_insn
 jump_quiet from to below near = record {
   none =
       skip 0xE9 (number w32 (pos to -ℤ pos (from + 5))) (λ is. omega (arith, is))

@@ -18,7 +18,7 @@ use Rattle.sb_scan.specs.Pattern.{HasPatternAt}
 use Rattle.sb_forms.specs.declared.slots.Site.{Site}
 use Rattle.sb_forms.specs.declared.answer.Form.{Form}
 use Rattle.sb_forms.specs.Holding.{holds_pattern}
-use Rattle.sb_forms.specs.Pieces.{is_sib_0f, exchanged}
+use Rattle.sb_forms.specs.Pieces.{is_sib_0f, sib_exchanged}
 use Rattle.sb_forms.specs.Table.{Replacement, is_vmfunc, is_one_byte, is_modrm, is_add_esp_edx, jump_form, wide_constant_form, address_and_constant_form, address_form, constant_form, replacement, bytes_of, site_of, form_of}
 use Rattle.sb_forms.specs.Answers.{IsSmall, HasRoom}
 use Rattle.sb_scan.proofs.Places.{read_within}
@@ -30,7 +30,8 @@ use Rattle.sb_forms.proofs.ByTable.{IsHeld, TableCases, by_table}
 
 -- ---- an instruction that holds the pattern has five bytes
 
-few_at : (bytes : List ℕ) (place : ℕ) → length bytes ≤ 3 → HasPatternAt bytes place → (length bytes ≡ 3) × (get_or bytes 0 0 ≡ 0x0F)
+few_at : (bytes : List ℕ) (place : ℕ) → length bytes ≤ 3 → HasPatternAt bytes place
+    → (length bytes ≡ 3) × (get_or bytes 0 0 ≡ 0x0F)
 few_at bytes zero few stands = (omega (arith, few, read_within bytes 2 (omega (arith, stands.2))), stands.0)
 few_at bytes (suc place) few stands = absurd (omega (arith, few, read_within bytes (suc place + 2) (omega (arith, stands.2))))
 
@@ -50,7 +51,8 @@ no_imm_3 (imm.I32 value) e = omega (arith, e)
 no_imm_3 (imm.I64 value) e = omega (arith, e)
 
 -- three bytes behind the opcode would begin with ModRM 0F, which has an immediate alone behind it
-not_three : (modrm sib : Option ℕ) (displacement : Disp) (immediate : Imm) → is_sib_field modrm sib ≡ true → kind_of_disp displacement ≡ disp_kind_of modrm sib
+not_three : (modrm sib : Option ℕ) (displacement : Disp) (immediate : Imm) → is_sib_field modrm sib ≡ true
+    → kind_of_disp displacement ≡ disp_kind_of modrm sib
     → length (option_to_list modrm ++ (option_to_list sib ++ (disp_bytes displacement ++ imm_bytes immediate))) ≡ 3
     → get_or (option_to_list modrm ++ (option_to_list sib ++ (disp_bytes displacement ++ imm_bytes immediate))) 0 0 ≡ 0x0F → ⊥
 not_three None (Some sib) displacement immediate stands kind three first = absurd cc
@@ -60,7 +62,8 @@ not_three None None (disp.D32 value) immediate stands kind three first = absurd 
 not_three (Some modrm) sib displacement immediate stands kind three first =
     let bare = bare_0f modrm sib displacement first stands kind in
     let rest : length (option_to_list sib ++ (disp_bytes displacement ++ imm_bytes immediate)) ≡ length (imm_bytes immediate) =
-    ap (λ s. length (option_to_list s ++ (disp_bytes displacement ++ imm_bytes immediate))) bare.0 ∙ ap (λ d. length (disp_bytes d ++ imm_bytes immediate)) bare.1 in
+    ap (λ s. length (option_to_list s ++ (disp_bytes displacement ++ imm_bytes immediate))) bare.0
+    ∙ ap (λ d. length (disp_bytes d ++ imm_bytes immediate)) bare.1 in
     no_imm_2 immediate (omega (arith, rest, three))
 
 behind_4 : (insn : Insn) → IsHeld insn → 4 ≤ length (behind_opcode insn)
@@ -89,10 +92,15 @@ held_5 insn held =
 
 -- no other field stands
 abbrev others : Bool → Option ℕ → Option ℕ → Disp → Imm → ℕ
-others lock rex sib displacement immediate = length (lock_bytes lock) + length (option_to_list rex) + length (option_to_list sib) + length (disp_bytes displacement) + length (imm_bytes immediate)
+others lock rex sib displacement immediate =
+    length (lock_bytes lock) + length (option_to_list rex) + length (option_to_list sib) + length
+    (disp_bytes displacement) + length (imm_bytes immediate)
 
-vmfunc_alone : (lock : Bool) (rex modrm sib : Option ℕ) (displacement : Disp) (immediate : Imm) → is_modrm_field (cell_of Vmfunc) lock rex modrm ≡ true → is_sib_field modrm sib ≡ true
-    → kind_of_disp displacement ≡ disp_kind_of modrm sib → kind_of_imm immediate ≡ imm_kind_of (rule_of (cell_of Vmfunc) modrm) rex → others lock rex sib displacement immediate + length (option_to_list modrm) ≡ 0
+vmfunc_alone : (lock : Bool) (rex modrm sib : Option ℕ) (displacement : Disp) (immediate : Imm)
+    → is_modrm_field (cell_of Vmfunc) lock rex modrm ≡ true → is_sib_field modrm sib ≡ true
+    → kind_of_disp displacement ≡ disp_kind_of modrm sib
+    → kind_of_imm immediate ≡ imm_kind_of (rule_of (cell_of Vmfunc) modrm) rex
+    → others lock rex sib displacement immediate + length (option_to_list modrm) ≡ 0
 vmfunc_alone lock rex (Some modrm) sib displacement immediate e s d i = absurd cc
 vmfunc_alone true rex None sib displacement immediate e s d i = absurd cc
 vmfunc_alone false (Some rex) None sib displacement immediate e s d i = absurd cc
@@ -104,24 +112,35 @@ vmfunc_alone false None None None disp.None (imm.I8 value) e s d i = absurd cc
 vmfunc_alone false None None None disp.None (imm.I32 value) e s d i = absurd cc
 vmfunc_alone false None None None disp.None (imm.I64 value) e s d i = absurd cc
 
-vmfunc_fields : (op : Op) (lock : Bool) (rex modrm sib : Option ℕ) (displacement : Disp) (immediate : Imm) → is_vmfunc op ≡ true → is_modrm_field (cell_of op) lock rex modrm ≡ true → is_sib_field modrm sib ≡ true
+vmfunc_fields : (op : Op) (lock : Bool) (rex modrm sib : Option ℕ) (displacement : Disp) (immediate : Imm)
+    → is_vmfunc op ≡ true → is_modrm_field (cell_of op) lock rex modrm ≡ true → is_sib_field modrm sib ≡ true
     → kind_of_disp displacement ≡ disp_kind_of modrm sib → kind_of_imm immediate ≡ imm_kind_of (rule_of (cell_of op) modrm) rex
     → others lock rex sib displacement immediate + length (option_to_list modrm) + length (op_bytes op) ≡ 3
 vmfunc_fields (One opcode) lock rex modrm sib displacement immediate is e s d i = absurd cc
 vmfunc_fields (Two opcode) lock rex modrm sib displacement immediate is e s d i = absurd cc
 vmfunc_fields Endbr lock rex modrm sib displacement immediate is e s d i = absurd cc
-vmfunc_fields Vmfunc lock rex modrm sib displacement immediate is e s d i = omega (arith, vmfunc_alone lock rex modrm sib displacement immediate e s d i)
+vmfunc_fields Vmfunc lock rex modrm sib displacement immediate is e s d i =
+    omega (arith, vmfunc_alone lock rex modrm sib displacement immediate e s d i)
 
 pub vmfunc_3 : (insn : Insn) → IsValid insn → is_vmfunc insn.op ≡ true → length (spelling insn) ≡ 3
-vmfunc_3 insn valid is = omega (arith, spelling_length insn, vmfunc_fields insn.op insn.lock insn.rex insn.modrm insn.sib insn.disp insn.imm is valid.modrm valid.sib valid.disp valid.imm)
+vmfunc_3 insn valid is =
+    omega (
+      arith,
+      spelling_length insn,
+      vmfunc_fields insn.op insn.lock insn.rex insn.modrm insn.sib insn.disp insn.imm is valid.modrm valid.sib valid.disp
+          valid.imm,
+    )
 
 -- what the fields of such an instruction come to
 abbrev HasTwo : Bool → Option ℕ → Option ℕ → Disp → Imm → Op → Option ℕ → Type 0
 HasTwo lock rex sib displacement immediate op modrm =
-    is_none rex ≡ true → is_modrm_field (cell_of op) lock rex modrm ≡ true → is_sib_field modrm sib ≡ true → kind_of_disp displacement ≡ disp_kind_of modrm sib
-    → kind_of_imm immediate ≡ imm_kind_of (rule_of (cell_of op) modrm) rex → others lock rex sib displacement immediate + length (option_to_list modrm) + length (op_bytes op) ≡ 2
+    is_none rex ≡ true → is_modrm_field (cell_of op) lock rex modrm ≡ true → is_sib_field modrm sib ≡ true
+    → kind_of_disp displacement ≡ disp_kind_of modrm sib
+    → kind_of_imm immediate ≡ imm_kind_of (rule_of (cell_of op) modrm) rex
+    → others lock rex sib displacement immediate + length (option_to_list modrm) + length (op_bytes op) ≡ 2
 
-add_fields : (lock : Bool) (rex sib : Option ℕ) (displacement : Disp) (immediate : Imm) → HasTwo lock rex sib displacement immediate (One 0x01) (Some 0xD4)
+add_fields : (lock : Bool) (rex sib : Option ℕ) (displacement : Disp) (immediate : Imm)
+    → HasTwo lock rex sib displacement immediate (One 0x01) (Some 0xD4)
 unfolding one_byte permits has_sib modrm_disp
 add_fields lock (Some rex) sib displacement immediate none e s d i = absurd cc
 add_fields true None sib displacement immediate none e s d i = absurd cc
@@ -147,7 +166,8 @@ add_2 insn valid e =
     subst
     (λ op. HasTwo insn.lock insn.rex insn.sib insn.disp insn.imm op insn.modrm)
     (sym (one_byte_is 0x01 insn.op behind.0))
-    (subst (λ modrm. HasTwo insn.lock insn.rex insn.sib insn.disp insn.imm (One 0x01) modrm) (sym (modrm_is 0xD4 insn.modrm behind.1)) (add_fields insn.lock insn.rex insn.sib insn.disp insn.imm)) in
+    (subst (λ modrm. HasTwo insn.lock insn.rex insn.sib insn.disp insn.imm (One 0x01) modrm)
+    (sym (modrm_is 0xD4 insn.modrm behind.1)) (add_fields insn.lock insn.rex insn.sib insn.disp insn.imm)) in
     omega (arith, spelling_length insn, fields parts.0 valid.modrm valid.sib valid.disp valid.imm)
 
 -- ---- every replacement
@@ -163,8 +183,12 @@ roomy_cases insn site valid = record {
   completes = λ is small. sym (add_2 insn valid is);
   keep = λ none small. tt;
   exchange = λ held e small.
-      let one = length-append (spelling (exchanged insn)) [] in
-      omega (arith, one, exchanged_length insn (and_parts (is_sib_0f insn.sib) (not (holds_pattern (spelling (exchanged insn)))) e).0);
+      let one = length-append (spelling (sib_exchanged insn)) [] in
+      omega (
+        arith,
+        one,
+        exchanged_length insn (and_parts (is_sib_0f insn.sib) (not (holds_pattern (spelling (sib_exchanged insn)))) e).0,
+      );
   displace = λ held e small. (held_5 insn held, small);
   unmovable = λ small. tt;
   through = λ instruction known memory jumps small. (held_5 insn known.held, small);
@@ -178,7 +202,9 @@ replacement_roomy : (insn : Insn) (site : Site) (after_0f : Bool) → IsValid in
 replacement_roomy insn site after_0f valid = by_table (IsRoomy insn) insn site after_0f valid (roomy_cases insn site valid)
 
 -- what stands in place of an instruction
-pub form_roomy : (insn : Insn) (at slot : ℕ) (after_0f : Bool) (form : Form) → IsValid insn → form ≡ form_of insn at slot after_0f → IsSmall form → HasRoom insn form
+pub form_roomy : (insn : Insn) (at slot : ℕ) (after_0f : Bool) (form : Form) → IsValid insn
+    → form ≡ form_of insn at slot after_0f → IsSmall form → HasRoom insn form
 unfolding form_of
 form_roomy insn at slot after_0f form valid is small =
-    subst (λ f. HasRoom insn f) (sym is) (replacement_roomy insn (site_of insn at slot) after_0f valid (subst (λ f. IsSmall f) is small))
+    subst (λ f. HasRoom insn f) (sym is)
+    (replacement_roomy insn (site_of insn at slot) after_0f valid (subst (λ f. IsSmall f) is small))

@@ -47,7 +47,8 @@ own_register Nothing insn = record { mod_rm = 0xC0 + rm_field (modrm_of insn); d
 
 -- The pattern would begin at ModRM 0F, which is [RDI] or [R15]: the same memory with a displacement 0.
 unfoldable pub with_displacement : Insn → Insn
-with_displacement insn = record insn { rex = with_r_b insn.rex (rex_r insn.rex) (rex_b insn.rex); modrm = Some 0x4F; disp = disp.D8 (pos 0) }
+with_displacement insn =
+    record insn { rex = with_r_b insn.rex (rex_r insn.rex) (rex_b insn.rex); modrm = Some 0x4F; disp = disp.D8 (pos 0) }
 
 -- the memory operand at a helper
 unfoldable pub with_helper : Helper → Insn → Insn

@@ -35,7 +35,8 @@ upper_half = pos (SCRATCH_ADDRESS + 20)
 -- ---- shapes
 
 abbrev pub opcode_alone : ℕ → Insn
-opcode_alone opcode = record { lock = false; rex = None; op = One opcode; modrm = None; sib = None; disp = disp.None; imm = imm.None }
+opcode_alone opcode =
+    record { lock = false; rex = None; op = One opcode; modrm = None; sib = None; disp = disp.None; imm = imm.None }
 
 -- 64 bits: REX.W
 abbrev pub wide : ℕ → ℕ → Insn
@@ -43,7 +44,8 @@ wide opcode modrm = record (opcode_alone opcode) { rex = Some 0x48; modrm = Some
 
 -- register reg, and memory at an address: SIB 25 is no base and no index
 abbrev pub at_address : ℕ → ℕ → ℤ → Insn
-at_address opcode reg address = record (opcode_alone opcode) { modrm = Some (8 * reg + 4); sib = Some 0x25; disp = disp.D32 address }
+at_address opcode reg address =
+    record (opcode_alone opcode) { modrm = Some (8 * reg + 4); sib = Some 0x25; disp = disp.D32 address }
 
 abbrev pub wide_at_address : ℕ → ℕ → ℤ → Insn
 wide_at_address opcode reg address = record (at_address opcode reg address) { rex = Some 0x48 }
@@ -75,19 +77,19 @@ add_number helper amount = record (wide 0x8D (0x80 + 9 * number_of helper)) { di
 abbrev pub is_lowered : ℤ → Bool
 is_lowered value = holds_pattern (number w32 value)
 
-unfoldable pub lowered : ℤ → ℤ
-lowered value = if is_lowered value then value -ℤ pos 0x100 else value
+unfoldable pub lowered_displacement : ℤ → ℤ
+lowered_displacement value = if is_lowered value then value -ℤ pos 0x100 else value
 
 -- what a lowered number lacks
 unfoldable pub lacking : ℤ → ℕ
 lacking value = if is_lowered value then 0x100 else 0
 
-unfoldable pub raise : Helper → ℤ → List Insn
-raise helper value = if is_lowered value then add_number helper (pos 0x100) ∷ [] else []
+unfoldable pub add_step_back : Helper → ℤ → List Insn
+add_step_back helper value = if is_lowered value then add_number helper (pos 0x100) ∷ [] else []
 
 -- a number to a helper
-unfoldable pub constant : Helper → ℤ → List Insn
-constant helper value = load_number helper (lowered value) ∷ raise helper value
+unfoldable pub load_constant : Helper → ℤ → List Insn
+load_constant helper value = load_number helper (lowered_displacement value) ∷ add_step_back helper value
 
 -- ---- a constant of eight bytes
 
@@ -105,11 +107,11 @@ is_sib_0f None = false
 is_sib_0f (Some sib) = sib == 0x0F
 
 -- base and index exchanged: the same address, since the scale is 1
-unfoldable pub exchanged : Insn → Insn
-exchanged insn = record insn { rex = with_x_b_exchanged insn.rex; sib = Some 0x39 }
+unfoldable pub sib_exchanged : Insn → Insn
+sib_exchanged insn = record insn { rex = with_x_b_exchanged insn.rex; sib = Some 0x39 }
 
 unfoldable pub without_sib_0f : Insn → Insn
-without_sib_0f insn = if is_sib_0f insn.sib then exchanged insn else insn
+without_sib_0f insn = if is_sib_0f insn.sib then sib_exchanged insn else insn
 
 -- ---- the address of a memory operand to a helper
 
@@ -119,35 +121,37 @@ is_from_next modrm = (mod_field modrm == 0) && (rm_field modrm == 5)
 
 -- lea helper, [operand], with this displacement
 unfoldable pub load_address : Helper → Insn → Disp → Insn
-load_address helper insn displacement = record (wide 0x8D (64 * mod_field (modrm_of insn) + 8 * number_of helper + rm_field (modrm_of insn))) {
-  rex = Some (0x48 + 2 * rex_x insn.rex + rex_b insn.rex);
-  sib = insn.sib;
-  disp = displacement;
-}
+load_address helper insn displacement =
+    record (wide 0x8D (64 * mod_field (modrm_of insn) + 8 * number_of helper + rm_field (modrm_of insn))) {
+      rex = Some (0x48 + 2 * rex_x insn.rex + rex_b insn.rex);
+      sib = insn.sib;
+      disp = displacement;
+    }
 
 -- from the next instruction's address on
 unfoldable pub address_from : Helper → ℕ → ℤ → List Insn
-address_from helper next distance = load_number helper (lowered distance) ∷ add_number helper (pos (next + lacking distance)) ∷ []
+address_from helper next distance =
+    load_number helper (lowered_displacement distance) ∷ add_number helper (pos (next + lacking distance)) ∷ []
 
 -- a displacement of four bytes
 unfoldable pub address_at : Helper → Insn → ℕ → ℤ → List Insn
 address_at helper insn next distance =
     if is_from_next (modrm_of insn) then address_from helper next distance
-    else load_address helper insn (disp.D32 (lowered distance)) ∷ raise helper distance
+    else load_address helper insn (disp.D32 (lowered_displacement distance)) ∷ add_step_back helper distance
 
 abbrev pub address_by : Helper → Insn → ℕ → Disp → List Insn
 address_by helper insn next (disp.D32 distance) = address_at helper insn next distance
 address_by helper insn next displacement = load_address helper insn displacement ∷ []
 
 -- the address of the instruction's memory operand; `next` is the address of the next instruction
-unfoldable pub address : Helper → Insn → ℕ → List Insn
-address helper insn next = address_by helper (without_sib_0f insn) next insn.disp
+unfoldable pub load_address_of_operand : Helper → Insn → ℕ → List Insn
+load_address_of_operand helper insn next = address_by helper (without_sib_0f insn) next insn.disp
 
 -- ---- jumps
 
 -- jmp by a distance; `from` is where the jump itself stands, and it has five bytes
-unfoldable pub jump : ℕ → ℕ → Insn
-jump from to = record (opcode_alone 0xE9) { imm = imm.I32 (pos to -ℤ pos (from + 5)) }
+unfoldable pub jump_insn : ℕ → ℕ → Insn
+jump_insn from to = record (opcode_alone 0xE9) { imm = imm.I32 (pos to -ℤ pos (from + 5)) }
 
 -- jmp [address]
 unfoldable pub jump_through : ℤ → Insn

@@ -17,7 +17,8 @@ front insn = front_bytes insn.lock insn.rex insn.op
 
 -- In an instruction other than VMFUNC they begin behind the opcode.
 abbrev pub BehindOpcode : Type 0
-BehindOpcode = (insn : Insn) (place : ℕ) → IsValid insn → ¬ (insn.op ≡ Vmfunc) → HasPatternAt (spelling insn) place → length (front insn) ≤ place
+BehindOpcode = (insn : Insn) (place : ℕ) → IsValid insn → ¬ (insn.op ≡ Vmfunc) → HasPatternAt (spelling insn) place
+    → length (front insn) ≤ place
 
 -- 81 /1 or 69
 abbrev pub IsOrImul : Insn → Type 0

@@ -19,15 +19,15 @@ use Rattle.sb_forms.specs.declared.answer.Form.TheVariants as form
 use Rattle.sb_forms.specs.Holding.{begins_with, holds_pattern}
 use Rattle.sb_forms.specs.Registers.{first_helper, second_helper}
 use Rattle.sb_forms.specs.Pieces.{opcode_alone, first_saved, second_saved, scratch_word, upper_half, save, restore, save_half}
-use Rattle.sb_forms.specs.Pieces.{constant, low_half, high_half, is_sib_0f, exchanged, address, jump, jump_through}
+use Rattle.sb_forms.specs.Pieces.{load_constant, low_half, high_half, is_sib_0f, sib_exchanged, load_address_of_operand, jump_insn, jump_through}
 use Rattle.sb_forms.specs.Mains.{at_helper, with_displacement, with_helper, with_constant, on_register, behind_main}
 use Rattle.sb_forms.specs.Mains.{load_target, load_word}
 
 -- ---- instructions in place of one
 
 -- the bytes that instructions spell, one after another
-abbrev pub spelled : List Insn → List ℕ
-spelled insns = flat_map spelling insns
+abbrev pub spelled_bytes : List Insn → List ℕ
+spelled_bytes insns = flat_map spelling insns
 
 -- What stands in place of an instruction: itself, instructions of the same length, a jump to a slot, or nothing can.
 pub data Replacement : Type 0 where
@@ -37,8 +37,11 @@ pub data Replacement : Type 0 where
   Unmovable : Replacement
 
 -- A slot ends with a jump to the next instruction.
-abbrev pub moved : Site → List Insn → Insn → List Insn → Replacement
-moved site pre main post = Moved pre main (post ++ jump (site.slot + length (spelled pre) + length (spelling main) + length (spelled post)) site.next ∷ [])
+abbrev pub move_outcome : Site → List Insn → Insn → List Insn → Replacement
+move_outcome site pre main post =
+    Moved pre main
+    (post ++ jump_insn (site.slot + length (spelled_bytes pre) + length (spelling main) + length (spelled_bytes post))
+    site.next ∷ [])
 
 -- ---- tests
 
@@ -91,7 +94,7 @@ unfoldable pub jump_form : Instruction → Insn → Site → Replacement
 jump_form instruction insn site =
     let helper = first_helper instruction.form insn in
     Moved
-    (save helper first_saved ∷ address helper insn site.next)
+    (save helper first_saved ∷ load_address_of_operand helper insn site.next)
     (load_target helper)
     (save helper scratch_word ∷ restore helper first_saved ∷ jump_through scratch_word ∷ [])
 
@@ -99,12 +102,12 @@ jump_form instruction insn site =
 unfoldable pub wide_constant_form : Instruction → Insn → Site → ℤ → Replacement
 wide_constant_form instruction insn site value =
     let helper = first_helper instruction.form insn in
-    moved
+    move_outcome
     site
     (save helper first_saved
-    ∷ constant helper (low_half value)
+    ∷ load_constant helper (low_half value)
     ++ save_half helper scratch_word ∷ []
-    ++ constant helper (high_half value)
+    ++ load_constant helper (high_half value)
     ++ save_half helper upper_half ∷ [])
     (load_word insn)
     (restore helper first_saved ∷ [])
@@ -114,9 +117,10 @@ unfoldable pub address_and_constant_form : Instruction → Insn → Site → ℤ
 address_and_constant_form instruction insn site value =
     let helper = first_helper instruction.form insn in
     let second = second_helper instruction.form insn in
-    moved
+    move_outcome
     site
-    (save helper first_saved ∷ save second second_saved ∷ address helper insn site.next ++ constant second value)
+    (save helper first_saved ∷ save second second_saved ∷ load_address_of_operand helper insn site.next ++ load_constant second
+    value)
     (with_constant instruction.mnemonic insn (at_helper helper) second)
     (behind_main instruction.mnemonic insn second ++ restore helper first_saved ∷ restore second second_saved ∷ [])
 
@@ -124,15 +128,16 @@ address_and_constant_form instruction insn site value =
 unfoldable pub address_form : Instruction → Insn → Site → Replacement
 address_form instruction insn site =
     let helper = first_helper instruction.form insn in
-    moved site (save helper first_saved ∷ address helper insn site.next) (with_helper helper insn) (restore helper first_saved ∷ [])
+    move_outcome site (save helper first_saved ∷ load_address_of_operand helper insn site.next) (with_helper helper insn)
+    (restore helper first_saved ∷ [])
 
 -- the immediate in a helper
 unfoldable pub constant_form : Instruction → Insn → Site → ℤ → Replacement
 constant_form instruction insn site value =
     let helper = first_helper instruction.form insn in
-    moved
+    move_outcome
     site
-    (save helper first_saved ∷ constant helper value)
+    (save helper first_saved ∷ load_constant helper value)
     (on_register instruction.mnemonic instruction.form insn helper)
     (behind_main instruction.mnemonic insn helper ++ restore helper first_saved ∷ [])
 
@@ -143,7 +148,8 @@ abbrev pub form_by : Instruction → Insn → Site → Imm → Replacement
 form_by instruction insn site (imm.I64 value) = wide_constant_form instruction insn site value
 form_by instruction insn site (imm.I32 value) =
     if has_memory insn.modrm then
-    (if holds_pattern (number w32 value) then address_and_constant_form instruction insn site value else address_form instruction insn site)
+    (if holds_pattern (number w32 value) then address_and_constant_form instruction insn site value else address_form instruction
+    insn site)
     else constant_form instruction insn site value
 form_by instruction insn site _ = address_form instruction insn site
 
@@ -161,13 +167,13 @@ slot_form_of (Some instruction) insn site = slot_form instruction insn site
 
 -- SIB is 0F, and with base and index exchanged the instruction does not hold the pattern.
 abbrev pub is_exchangeable : Insn → Bool
-is_exchangeable insn = is_sib_0f insn.sib && not (holds_pattern (spelling (exchanged insn)))
+is_exchangeable insn = is_sib_0f insn.sib && not (holds_pattern (spelling (sib_exchanged insn)))
 
 -- an instruction that holds the pattern
 unfoldable pub held_form : Insn → Site → Replacement
 held_form insn site =
-    if is_exchangeable insn then InPlace (exchanged insn ∷ [])
-    else if begins_at_modrm insn then moved site [] (with_displacement insn) []
+    if is_exchangeable insn then InPlace (sib_exchanged insn ∷ [])
+    else if begins_at_modrm insn then move_outcome site [] (with_displacement insn) []
     else slot_form_of (instruction_of insn) insn site
 
 abbrev pub nop : Insn
@@ -189,8 +195,8 @@ replacement insn site after_0f =
 
 abbrev pub bytes_of : Replacement → Form
 bytes_of Keep = form.Keep
-bytes_of (InPlace insns) = form.InPlace (spelled insns)
-bytes_of (Moved pre main post) = form.Moved (spelled pre) (spelling main) (spelled post)
+bytes_of (InPlace insns) = form.InPlace (spelled_bytes insns)
+bytes_of (Moved pre main post) = form.Moved (spelled_bytes pre) (spelling main) (spelled_bytes post)
 bytes_of Unmovable = form.Unmovable
 
 -- where an instruction at an address goes on, and the slot that it would get

@@ -3,8 +3,8 @@
 ghost use Rattle.std.specs.Prelude.{◌≡◌, ◌≤◌};
 ghost use Rattle.sb_forms.specs.Registers.{
   register,
-  modrm_of as modrm_at,
-  opcode_of as opcode_at,
+  modrm_of,
+  opcode_of,
   reg_number,
   opcode_number,
   is_number,
@@ -17,8 +17,8 @@ ghost use Rattle.sb_forms.specs.Registers.{
   is_taken,
   is_free,
   first_free,
-  first_helper as first_at,
-  second_helper as second_at,
+  first_helper,
+  second_helper,
 };
 
 use sb_insn::{Insn, Op, OperandForm, base, index, reg_field, rex_b, rex_r, rex_x, rm_field};
@@ -65,14 +65,14 @@ impl Helper {
 
 /// The ModRM byte, 0 where none stands.
 pub fn modrm_of(insn: &Insn) -> u8
-    ensures { result ≡ modrm_at insn.now }
+    ensures { result ≡ modrm_of insn.now }
 {
     insn.modrm.unwrap_or(0)
 }
 
 /// The opcode byte of the one-byte map, 0 for another opcode.
 pub fn opcode_of(op: Op) -> u8
-    ensures { result ≡ opcode_at op }
+    ensures { result ≡ opcode_of op }
 {
     match op {
         Op::One(opcode) => opcode,
@@ -185,7 +185,7 @@ fn first_free(form: OperandForm, insn: &Insn, taken: Option<Helper>, helpers: &[
 /// The first helper of an instruction with operands of this form. It names at most three registers, so one is free.
 #[tactic(auto, unfolding(crate::specs::Registers::first_helper))]
 pub fn first_helper(form: OperandForm, insn: &Insn) -> Helper
-    ensures { result ≡ first_at form insn.now }
+    ensures { result ≡ first_helper form insn.now }
 {
     first_free(form, insn, None, &HELPERS)
 }
@@ -193,7 +193,7 @@ pub fn first_helper(form: OperandForm, insn: &Insn) -> Helper
 /// The second helper, where two are needed.
 #[tactic(auto, unfolding(crate::specs::Registers::second_helper))]
 pub fn second_helper(form: OperandForm, insn: &Insn) -> Helper
-    ensures { result ≡ second_at form insn.now }
+    ensures { result ≡ second_helper form insn.now }
 {
     first_free(form, insn, Some(first_helper(form, insn)), &HELPERS)
 }

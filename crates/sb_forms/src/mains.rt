@@ -4,19 +4,19 @@ ghost use Rattle.std.specs.Prelude.{◌≡◌, ◌+◌, ◌≤◌, false, length
 ghost use Rattle.sb_insn.specs.declared.opcode_map.Mnemonic.{Mnemonic};
 ghost use Rattle.sb_insn.specs.Spelling.{spelling, op_bytes, imm_bytes};
 ghost use Rattle.sb_forms.specs.Mains.{
-  at_helper as at_helper_at,
-  own_register as own_at,
-  with_displacement as with_displacement_at,
-  with_helper as with_helper_at,
-  register_op as register_op_at,
-  with_constant as with_constant_at,
-  on_register as on_register_at,
-  move_product as move_product_at,
+  at_helper,
+  own_register,
+  with_displacement,
+  with_helper,
+  register_op,
+  with_constant,
+  on_register,
+  move_product,
   behind_main,
-  load_target as load_target_at,
-  load_word as load_word_at,
+  load_target,
+  load_word,
 };
-ghost use Rattle.sb_forms.specs.Table.{spelled};
+ghost use Rattle.sb_forms.specs.Table.{spelled_bytes};
 
 use crate::code::Code;
 use crate::helper::{Helper, modrm_of, opcode_of};
@@ -41,7 +41,7 @@ pub struct RmOperand {
 /// Memory at a helper: mod 1 with the displacement 0.
 #[tactic(auto, unfolding(crate::specs::Mains::at_helper))]
 fn at_helper(helper: Helper) -> RmOperand
-    ensures value { result ≡ at_helper_at helper }
+    ensures value { result ≡ at_helper helper }
     ensures room { result.mod_rm ≤ 0x47 }
     ensures bit { result.rex_b ≤ 1 }
 {
@@ -55,7 +55,7 @@ fn at_helper(helper: Helper) -> RmOperand
 /// The register that the instruction has as its operand beside reg and the immediate: RAX, the one in the opcode, or rm.
 #[tactic(auto, unfolding(crate::specs::Mains::own_register))]
 fn own_register(form: OperandForm, insn: &Insn) -> RmOperand
-    ensures value { result ≡ own_at form insn.now }
+    ensures value { result ≡ own_register form insn.now }
     ensures room { result.mod_rm ≤ 0xC7 }
     ensures bit { result.rex_b ≤ 1 }
 {
@@ -91,7 +91,7 @@ fn own_register(form: OperandForm, insn: &Insn) -> RmOperand
 /// The instruction at ModRM 0F, [RDI] or [R15], with a displacement 0.
 #[tactic(auto, unfolding(crate::specs::Mains::with_displacement))]
 pub fn with_displacement(insn: &Insn) -> Insn
-    ensures { result ≡ with_displacement_at insn.now }
+    ensures { result ≡ with_displacement insn.now }
 {
     Insn {
         rex: with_r_b(insn.rex, rex_r(insn.rex), rex_b(insn.rex)),
@@ -105,7 +105,7 @@ pub fn with_displacement(insn: &Insn) -> Insn
 #[tactic(auto, using(crate::proofs::Lengths::with_helper_9), unfolding(crate::specs::Mains::with_helper))]
 pub fn with_helper(helper: Helper, insn: &Insn) -> Insn
     requires { length (op_bytes insn.now.op) + length (imm_bytes insn.now.imm) ≤ 5 }
-    ensures value { result ≡ with_helper_at helper insn.now }
+    ensures value { result ≡ with_helper helper insn.now }
     ensures size { length (spelling result) ≤ 9 }
 {
     let operand = at_helper(helper);
@@ -120,7 +120,7 @@ pub fn with_helper(helper: Helper, insn: &Insn) -> Insn
 
 /// The opcode of the same instruction on rm and reg, or for IMUL on reg and rm.
 fn register_op(mnemonic: Mnemonic) -> Op
-    ensures { result ≡ register_op_at mnemonic }
+    ensures { result ≡ register_op mnemonic }
 {
     match mnemonic {
         Mnemonic::Add => Op::One(0x01),
@@ -164,7 +164,7 @@ fn register_op(mnemonic: Mnemonic) -> Op
 fn with_constant(mnemonic: Mnemonic, insn: &Insn, operand: RmOperand, helper: Helper) -> Insn
     requires room { operand.mod_rm ≤ 0xC7 }
     requires bit { operand.rex_b ≤ 1 }
-    ensures { result ≡ with_constant_at mnemonic insn.now operand helper }
+    ensures { result ≡ with_constant mnemonic insn.now operand helper }
 {
     Insn {
         rex: with_r_b(insn.rex, 0, operand.rex_b),
@@ -181,8 +181,8 @@ fn with_constant(mnemonic: Mnemonic, insn: &Insn, operand: RmOperand, helper: He
 #[tactic(auto, using(crate::proofs::Lengths::constant_main_8))]
 pub fn on_memory(mnemonic: Mnemonic, insn: &Insn, address: Helper, helper: Helper) -> Insn
     requires { mnemonic ≡ Mnemonic.Imul → insn.now.lock ≡ false }
-    ensures value { result ≡ with_constant_at mnemonic insn.now (at_helper_at address) helper }
-    ensures size { length (spelling result) + length (spelled (behind_main mnemonic insn.now helper)) ≤ 8 }
+    ensures value { result ≡ with_constant mnemonic insn.now (at_helper address) helper }
+    ensures size { length (spelling result) + length (spelled_bytes (behind_main mnemonic insn.now helper)) ≤ 8 }
 {
     with_constant(mnemonic, insn, at_helper(address), helper)
 }
@@ -190,7 +190,7 @@ pub fn on_memory(mnemonic: Mnemonic, insn: &Insn, address: Helper, helper: Helpe
 /// The same with the register that is its operand.
 #[tactic(auto, using(crate::proofs::Lengths::alone_5))]
 fn on_own_register(mnemonic: Mnemonic, form: OperandForm, insn: &Insn, helper: Helper) -> Insn
-    ensures value { result ≡ with_constant_at mnemonic insn.now (own_at form insn.now) helper }
+    ensures value { result ≡ with_constant mnemonic insn.now (own_register form insn.now) helper }
     ensures size { length (spelling result) ≤ 5 }
 {
     with_constant(mnemonic, insn, own_register(form, insn), helper)
@@ -199,7 +199,7 @@ fn on_own_register(mnemonic: Mnemonic, form: OperandForm, insn: &Insn, helper: H
 /// The same where the instruction has no memory operand; PUSH has its register in the opcode.
 #[tactic(auto, unfolding(crate::specs::Mains::on_register))]
 pub fn on_register(mnemonic: Mnemonic, form: OperandForm, insn: &Insn, helper: Helper) -> Insn
-    ensures value { result ≡ on_register_at mnemonic form insn.now helper }
+    ensures value { result ≡ on_register mnemonic form insn.now helper }
     ensures size { length (spelling result) ≤ 5 }
 {
     match mnemonic {
@@ -242,7 +242,7 @@ pub fn on_register(mnemonic: Mnemonic, form: OperandForm, insn: &Insn, helper: H
 /// `mov reg, helper`: the product of IMUL.
 #[tactic(auto, unfolding(crate::specs::Mains::move_product))]
 fn move_product(insn: &Insn, helper: Helper) -> Insn
-    ensures value { result ≡ move_product_at insn.now helper }
+    ensures value { result ≡ move_product insn.now helper }
     ensures size { length (spelling result) ≤ 3 }
 {
     Insn {
@@ -255,7 +255,7 @@ fn move_product(insn: &Insn, helper: Helper) -> Insn
 /// What stands behind the main instruction before the helpers are restored.
 #[tactic(auto, unfolding(crate::specs::Mains::behind_main))]
 pub fn behind(mnemonic: Mnemonic, insn: &Insn, helper: Helper) -> Code
-    ensures code { result ≡ spelled (behind_main mnemonic insn.now helper) }
+    ensures code { result ≡ spelled_bytes (behind_main mnemonic insn.now helper) }
     ensures size { length result ≤ 3 }
 {
     match mnemonic {
@@ -298,7 +298,7 @@ pub fn behind(mnemonic: Mnemonic, insn: &Insn, helper: Helper) -> Code
 /// `mov helper, [helper + 0]`.
 #[tactic(auto, unfolding(crate::specs::Mains::load_target))]
 pub fn load_target(helper: Helper) -> Insn
-    ensures value { result ≡ load_target_at helper }
+    ensures value { result ≡ load_target helper }
     ensures size { length (spelling result) ≡ 4 }
 {
     Insn {
@@ -310,7 +310,7 @@ pub fn load_target(helper: Helper) -> Insn
 /// `mov` of the word in the scratch page to the register in the opcode.
 #[tactic(auto, unfolding(crate::specs::Mains::load_word))]
 pub fn load_word(insn: &Insn) -> Insn
-    ensures value { result ≡ load_word_at insn.now }
+    ensures value { result ≡ load_word insn.now }
     ensures size { length (spelling result) ≡ 8 }
 {
     Insn {

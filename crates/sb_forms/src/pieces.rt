@@ -4,33 +4,33 @@ ghost use Rattle.std.specs.Prelude.{◌≡◌, ◌+◌, ◌≤◌, ◌<◌, ◌+
 ghost use Rattle.sb_insn.specs.Spelling.{spelling};
 ghost use Rattle.sb_insn.specs.declared.insn.Disp.{Disp};
 ghost use Rattle.sb_forms.specs.Pieces.{
-  opcode_alone as opcode_alone_at,
-  wide as wide_at,
-  at_address as at,
+  opcode_alone,
+  wide,
+  at_address,
   wide_at_address,
-  save as save_at,
-  restore as restore_at,
-  save_half as save_half_at,
-  load_number as load_number_at,
-  add_number as add_number_at,
-  lowered as lowered_at,
-  lacking as lacking_at,
-  raise,
-  constant,
-  low_half as low_half_at,
-  high_half as high_half_at,
-  is_sib_0f as is_sib_0f_at,
-  exchanged as exchanged_at,
-  without_sib_0f as without_at,
-  is_from_next as is_from_next_at,
-  load_address as load_address_at,
+  save,
+  restore,
+  save_half,
+  load_number,
+  add_number,
+  lowered_displacement,
+  lacking,
+  add_step_back,
+  load_constant,
+  low_half,
+  high_half,
+  is_sib_0f,
+  sib_exchanged,
+  without_sib_0f,
+  is_from_next,
+  load_address,
   address_from,
   address_at,
-  address,
-  jump as jump_at,
-  jump_through as jump_through_at,
+  load_address_of_operand,
+  jump_insn,
+  jump_through,
 };
-ghost use Rattle.sb_forms.specs.Table.{spelled};
+ghost use Rattle.sb_forms.specs.Table.{spelled_bytes};
 
 use crate::code::Code;
 use crate::helper::{Helper, modrm_of};
@@ -56,7 +56,7 @@ const STEP: i32 = 0x100;
 
 /// An opcode of one byte, and nothing else.
 pub fn opcode_alone(opcode: u8) -> Insn
-    ensures { result ≡ opcode_alone_at opcode }
+    ensures { result ≡ opcode_alone opcode }
 {
     Insn {
         lock: false,
@@ -71,7 +71,7 @@ pub fn opcode_alone(opcode: u8) -> Insn
 
 /// An opcode and ModRM, with REX.W.
 pub fn wide(opcode: u8, modrm: u8) -> Insn
-    ensures { result ≡ wide_at opcode modrm }
+    ensures { result ≡ wide opcode modrm }
 {
     Insn {
         rex: Some(0x48),
@@ -83,7 +83,7 @@ pub fn wide(opcode: u8, modrm: u8) -> Insn
 /// Register reg, and memory at an address: SIB 25 is no base and no index.
 fn at_address(opcode: u8, reg: u8, address: i32) -> Insn
     requires { reg ≤ 7 }
-    ensures { result ≡ at opcode reg address }
+    ensures { result ≡ at_address opcode reg load_address_of_operand }
 {
     Insn {
         modrm: Some(8 * reg + 4),
@@ -96,7 +96,7 @@ fn at_address(opcode: u8, reg: u8, address: i32) -> Insn
 /// The same with REX.W.
 pub fn wide_at_address(opcode: u8, reg: u8, address: i32) -> Insn
     requires { reg ≤ 7 }
-    ensures { result ≡ wide_at_address opcode reg address }
+    ensures { result ≡ wide_at_address opcode reg load_address_of_operand }
 {
     Insn {
         rex: Some(0x48),
@@ -107,7 +107,7 @@ pub fn wide_at_address(opcode: u8, reg: u8, address: i32) -> Insn
 /// `mov [address], helper`.
 #[tactic(auto, unfolding(crate::specs::Pieces::save))]
 pub fn save(helper: Helper, address: i32) -> Insn
-    ensures value { result ≡ save_at helper address }
+    ensures value { result ≡ save helper load_address_of_operand }
     ensures size { length (spelling result) ≡ 8 }
 {
     wide_at_address(0x89, helper.number(), address)
@@ -116,7 +116,7 @@ pub fn save(helper: Helper, address: i32) -> Insn
 /// `mov helper, [address]`.
 #[tactic(auto, unfolding(crate::specs::Pieces::restore))]
 pub fn restore(helper: Helper, address: i32) -> Insn
-    ensures value { result ≡ restore_at helper address }
+    ensures value { result ≡ restore helper load_address_of_operand }
     ensures size { length (spelling result) ≡ 8 }
 {
     wide_at_address(0x8B, helper.number(), address)
@@ -125,7 +125,7 @@ pub fn restore(helper: Helper, address: i32) -> Insn
 /// `mov [address], the helper's lower half`.
 #[tactic(auto, unfolding(crate::specs::Pieces::save_half))]
 pub fn save_half(helper: Helper, address: i32) -> Insn
-    ensures value { result ≡ save_half_at helper address }
+    ensures value { result ≡ save_half helper load_address_of_operand }
     ensures size { length (spelling result) ≡ 7 }
 {
     at_address(0x89, helper.number(), address)
@@ -134,7 +134,7 @@ pub fn save_half(helper: Helper, address: i32) -> Insn
 /// `mov helper, value`, extended by its sign.
 #[tactic(auto, unfolding(crate::specs::Pieces::load_number))]
 fn load_number(helper: Helper, value: i32) -> Insn
-    ensures value { result ≡ load_number_at helper value }
+    ensures value { result ≡ load_number helper value }
     ensures size { length (spelling result) ≡ 7 }
 {
     Insn {
@@ -146,7 +146,7 @@ fn load_number(helper: Helper, value: i32) -> Insn
 /// `lea helper, [helper + amount]`, which changes no flag.
 #[tactic(auto, unfolding(crate::specs::Pieces::add_number))]
 fn add_number(helper: Helper, amount: i32) -> Insn
-    ensures value { result ≡ add_number_at helper amount }
+    ensures value { result ≡ add_number helper amount }
     ensures size { length (spelling result) ≡ 7 }
 {
     Insn {
@@ -156,9 +156,9 @@ fn add_number(helper: Helper, amount: i32) -> Insn
 }
 
 /// The number, or 100 less where it holds the bytes of VMFUNC.
-#[tactic(auto, using(crate::proofs::Lowered::lowered_fits), unfolding(crate::specs::Pieces::lowered))]
-fn lowered(value: i32) -> i32
-    ensures { result ≡ lowered_at value }
+#[tactic(auto, using(crate::proofs::Lowered::lowered_fits), unfolding(crate::specs::Pieces::lowered_displacement))]
+fn lowered_displacement(value: i32) -> i32
+    ensures { result ≡ lowered_displacement value }
 {
     if number_holds_pattern(value) {
         value - STEP
@@ -170,7 +170,7 @@ fn lowered(value: i32) -> i32
 /// What the lowered number lacks.
 #[tactic(auto, unfolding(crate::specs::Pieces::lacking))]
 fn lacking(value: i32) -> u64
-    ensures value { result ≡ lacking_at value }
+    ensures value { result ≡ lacking value }
     ensures small { result ≤ 0x100 }
 {
     if number_holds_pattern(value) {
@@ -182,17 +182,17 @@ fn lacking(value: i32) -> u64
 
 /// The lowered number to the helper.
 fn load_lowered(helper: Helper, value: i32) -> Insn
-    ensures value { result ≡ load_number_at helper (lowered_at value) }
+    ensures value { result ≡ load_number helper (lowered_displacement value) }
     ensures size { length (spelling result) ≡ 7 }
 {
-    load_number(helper, lowered(value))
+    load_number(helper, lowered_displacement(value))
 }
 
 /// Puts what adds to the helper what the lowered number lacks.
-#[tactic(auto, unfolding(crate::specs::Pieces::raise))]
+#[tactic(auto, unfolding(crate::specs::Pieces::add_step_back))]
 fn put_raise(code: &mut Code, helper: Helper, value: i32)
     requires { length code.old + 7 ≤ 64 }
-    ensures code { code.new ≡ code.old ++ spelled (raise helper value) }
+    ensures code { code.new ≡ code.old ++ spelled_bytes (add_step_back helper value) }
     ensures size { length code.new ≤ length code.old + 7 }
 {
     if number_holds_pattern(value) {
@@ -201,10 +201,10 @@ fn put_raise(code: &mut Code, helper: Helper, value: i32)
 }
 
 /// Puts a number into the helper.
-#[tactic(auto, unfolding(crate::specs::Pieces::constant))]
+#[tactic(auto, unfolding(crate::specs::Pieces::load_constant))]
 pub fn put_constant(code: &mut Code, helper: Helper, value: i32)
     requires { length code.old + 14 ≤ 64 }
-    ensures code { code.new ≡ code.old ++ spelled (constant helper value) }
+    ensures code { code.new ≡ code.old ++ spelled_bytes (load_constant helper value) }
     ensures size { length code.new ≤ length code.old + 14 }
 {
     code.put(&load_lowered(helper, value));
@@ -214,7 +214,7 @@ pub fn put_constant(code: &mut Code, helper: Helper, value: i32)
 /// The lower half of eight bytes.
 #[tactic(auto, unfolding(crate::specs::Pieces::low_half))]
 pub fn low_half(value: i64) -> i32
-    ensures { result ≡ low_half_at value }
+    ensures { result ≡ low_half value }
 {
     ((value.cast_unsigned() % (1 << 32)) as u32).cast_signed()
 }
@@ -222,14 +222,14 @@ pub fn low_half(value: i64) -> i32
 /// The upper half of eight bytes.
 #[tactic(auto, unfolding(crate::specs::Pieces::high_half))]
 pub fn high_half(value: i64) -> i32
-    ensures { result ≡ high_half_at value }
+    ensures { result ≡ high_half value }
 {
     ((value.cast_unsigned() / (1 << 32)) as u32).cast_signed()
 }
 
 /// Whether the SIB byte is 0F: scale 1, index RCX, base RDI.
 pub fn is_sib_0f(sib: Option<u8>) -> bool
-    ensures { result ≡ is_sib_0f_at sib }
+    ensures { result ≡ is_sib_0f sib }
 {
     match sib {
         None => false,
@@ -238,9 +238,9 @@ pub fn is_sib_0f(sib: Option<u8>) -> bool
 }
 
 /// The instruction with the base and the index of SIB 0F exchanged.
-#[tactic(auto, unfolding(crate::specs::Pieces::exchanged))]
-pub fn exchanged(insn: &Insn) -> Insn
-    ensures { result ≡ exchanged_at insn.now }
+#[tactic(auto, unfolding(crate::specs::Pieces::sib_exchanged))]
+pub fn sib_exchanged(insn: &Insn) -> Insn
+    ensures { result ≡ sib_exchanged insn.now }
 {
     Insn {
         rex: with_x_b_exchanged(insn.rex),
@@ -252,10 +252,10 @@ pub fn exchanged(insn: &Insn) -> Insn
 /// The instruction with base and index exchanged where SIB is 0F.
 #[tactic(auto, unfolding(crate::specs::Pieces::without_sib_0f))]
 fn without_sib_0f(insn: &Insn) -> Insn
-    ensures { result ≡ without_at insn.now }
+    ensures { result ≡ without_sib_0f insn.now }
 {
     if is_sib_0f(insn.sib) {
-        exchanged(insn)
+        sib_exchanged(insn)
     } else {
         *insn
     }
@@ -263,7 +263,7 @@ fn without_sib_0f(insn: &Insn) -> Insn
 
 /// Whether the memory operand is at a distance from the next instruction: mod 0 and rm 5.
 fn is_from_next(modrm: u8) -> bool
-    ensures { result ≡ is_from_next_at modrm }
+    ensures { result ≡ is_from_next modrm }
 {
     mod_field(modrm) == 0 && rm_field(modrm) == 5
 }
@@ -271,7 +271,7 @@ fn is_from_next(modrm: u8) -> bool
 /// `lea helper, [operand]`, with this displacement.
 #[tactic(auto, unfolding(crate::specs::Pieces::load_address))]
 fn load_address(helper: Helper, insn: &Insn, disp: Disp) -> Insn
-    ensures value { result ≡ load_address_at helper insn.now disp }
+    ensures value { result ≡ load_address helper insn.now disp }
     ensures size { length (spelling result) ≤ 8 }
 {
     let modrm = modrm_of(insn);
@@ -289,7 +289,7 @@ fn load_address(helper: Helper, insn: &Insn, disp: Disp) -> Insn
 /// Adds the next instruction's address to the helper, and what the lowered distance lacks.
 fn add_next(helper: Helper, next: u64, distance: i32) -> Insn
     requires { next ≤ 0x600010 }
-    ensures value { result ≡ add_number_at helper (pos (next + lacking_at distance)) }
+    ensures value { result ≡ add_number helper (pos (next + lacking distance)) }
     ensures size { length (spelling result) ≡ 7 }
 {
     add_number(helper, (next + lacking(distance)) as i32)
@@ -297,10 +297,10 @@ fn add_next(helper: Helper, next: u64, distance: i32) -> Insn
 
 /// `lea helper, [operand]` with the lowered displacement.
 fn load_lowered_address(helper: Helper, insn: &Insn, distance: i32) -> Insn
-    ensures value { result ≡ load_address_at helper insn.now (Disp.D32 (lowered_at distance)) }
+    ensures value { result ≡ load_address helper insn.now (Disp.D32 (lowered_displacement distance)) }
     ensures size { length (spelling result) ≤ 8 }
 {
-    load_address(helper, insn, Disp::D32(lowered(distance)))
+    load_address(helper, insn, Disp::D32(lowered_displacement(distance)))
 }
 
 /// Puts the address at a distance from the next instruction into the helper.
@@ -308,7 +308,7 @@ fn load_lowered_address(helper: Helper, insn: &Insn, distance: i32) -> Insn
 fn put_address_from(code: &mut Code, helper: Helper, next: u64, distance: i32)
     requires room { length code.old + 15 ≤ 64 }
     requires next { next ≤ 0x600010 }
-    ensures code { code.new ≡ code.old ++ spelled (address_from helper next distance) }
+    ensures code { code.new ≡ code.old ++ spelled_bytes (address_from helper next distance) }
     ensures size { length code.new ≤ length code.old + 15 }
 {
     code.put(&load_lowered(helper, distance));
@@ -320,7 +320,7 @@ fn put_address_from(code: &mut Code, helper: Helper, next: u64, distance: i32)
 fn put_address_at(code: &mut Code, helper: Helper, insn: &Insn, next: u64, distance: i32)
     requires room { length code.old + 15 ≤ 64 }
     requires next { next ≤ 0x600010 }
-    ensures code { code.new ≡ code.old ++ spelled (address_at helper insn.now next distance) }
+    ensures code { code.new ≡ code.old ++ spelled_bytes (address_at helper insn.now next distance) }
     ensures size { length code.new ≤ length code.old + 15 }
 {
     if is_from_next(modrm_of(insn)) {
@@ -332,11 +332,11 @@ fn put_address_at(code: &mut Code, helper: Helper, insn: &Insn, next: u64, dista
 }
 
 /// Puts the address of the memory operand into the helper. `next` is the address of the next instruction.
-#[tactic(auto, unfolding(crate::specs::Pieces::address))]
+#[tactic(auto, unfolding(crate::specs::Pieces::load_address_of_operand))]
 pub fn put_address(code: &mut Code, helper: Helper, insn: &Insn, next: u64)
     requires room { length code.old + 15 ≤ 64 }
     requires next { next ≤ 0x600010 }
-    ensures code { code.new ≡ code.old ++ spelled (address helper insn.now next) }
+    ensures code { code.new ≡ code.old ++ spelled_bytes (load_address_of_operand helper insn.now next) }
     ensures size { length code.new ≤ length code.old + 15 }
 {
     let operand = without_sib_0f(insn);
@@ -347,11 +347,11 @@ pub fn put_address(code: &mut Code, helper: Helper, insn: &Insn, next: u64)
 }
 
 /// `jmp` by a distance of four bytes, from where the jump itself stands.
-#[tactic(auto, unfolding(crate::specs::Pieces::jump))]
+#[tactic(auto, unfolding(crate::specs::Pieces::jump_insn))]
 pub fn jump(from: u64, to: u64) -> Insn
     requires from { from ≤ 0x20000 }
     requires to { to ≤ 0x600010 }
-    ensures value { result ≡ jump_at from to }
+    ensures value { result ≡ jump_insn from to }
     ensures size { length (spelling result) ≡ 5 }
 {
     Insn {
@@ -363,7 +363,7 @@ pub fn jump(from: u64, to: u64) -> Insn
 /// `jmp [address]`.
 #[tactic(auto, unfolding(crate::specs::Pieces::jump_through))]
 pub fn jump_through(address: i32) -> Insn
-    ensures value { result ≡ jump_through_at address }
+    ensures value { result ≡ jump_through load_address_of_operand }
     ensures size { length (spelling result) ≡ 7 }
 {
     at_address(0xFF, 4, address)

@@ -4,10 +4,10 @@ ghost use Rattle.std.specs.Prelude.{◌≡◌, ◌+◌, ◌≤◌, [], ◌++◌,
 ghost use Rattle.sb_insn.specs.declared.opcode_map.Mnemonic.{Mnemonic};
 ghost use Rattle.sb_insn.specs.Spelling.{spelling, op_bytes, imm_bytes};
 ghost use Rattle.sb_forms.specs.Answers.{IsSite, IsSmall};
-ghost use Rattle.sb_forms.specs.Pieces.{jump as jump_at};
-ghost use Rattle.sb_forms.specs.Mains.{with_displacement as with_displacement_at};
+ghost use Rattle.sb_forms.specs.Pieces.{jump_insn};
+ghost use Rattle.sb_forms.specs.Mains.{with_displacement};
 ghost use Rattle.sb_forms.specs.Table.{
-  moved as moved_at,
+  move_outcome,
   jump_form,
   wide_constant_form,
   address_and_constant_form,
@@ -44,7 +44,7 @@ fn moved(site: Site, pre: Code, main: &Insn, mut post: Code) -> Form
     requires main { length (spelling main.now) ≤ 9 }
     requires post { length post ≤ 19 }
     requires slot { length pre + length (spelling main.now) + length post ≤ 69 }
-    ensures moved { result ≡ Form.Moved pre (spelling main.now) (post ++ spelling (jump_at (site.slot + length pre + length (spelling main.now) + length post) site.next)) }
+    ensures moved { result ≡ Form.Moved pre (spelling main.now) (post ++ spelling (jump_insn (site.slot + length pre + length (spelling main.now) + length post) site.next)) }
     ensures small { IsSmall result }
 {
     let main = Code::of(main);
@@ -56,8 +56,8 @@ fn moved(site: Site, pre: Code, main: &Insn, mut post: Code) -> Form
 /// The instruction at ModRM 0F, with a displacement.
 pub fn displaced(insn: &Insn, site: Site) -> Form
     requires site { IsSite site }
-    requires main { length (spelling (with_displacement_at insn.now)) ≤ 9 }
-    ensures table { result ≡ bytes_of (moved_at site [] (with_displacement_at insn.now) []) }
+    requires main { length (spelling (with_displacement insn.now)) ≤ 9 }
+    ensures table { result ≡ bytes_of (move_outcome site [] (with_displacement insn.now) []) }
     ensures small { IsSmall result }
 {
     moved(site, Code::new(), &with_displacement(insn), Code::new())

@@ -4,36 +4,36 @@ ghost use Rattle.std.specs.Prelude.{◌≡◌, ◌+◌, ◌≤◌, true, false, 
 ghost use Rattle.sb_insn.specs.declared.opcode_map.Mnemonic.{Mnemonic};
 ghost use Rattle.sb_insn.specs.Spelling.{op_bytes, imm_bytes, spelling};
 ghost use Rattle.sb_insn.specs.Grammar.{IsValid};
-ghost use Rattle.sb_insn.specs.Listing.{instruction_of as instruction_at};
+ghost use Rattle.sb_insn.specs.Listing.{instruction_of};
 ghost use Rattle.sb_forms.specs.Answers.{IsSite, IsSmall, HasRoom, IsCleanForm};
 ghost use Rattle.sb_forms.specs.Places.{HasForm};
 ghost use Rattle.sb_forms.specs.Table.{
   nop,
   add_from_rm,
-  spelled,
-  is_vmfunc as is_vmfunc_at,
-  is_add_esp_edx as is_add_at,
-  completes_pattern as completes_at,
-  begins_with_01_d4 as begins_with_at,
-  begins_at_modrm as begins_at,
-  has_memory as has_memory_at,
-  is_call as is_call_at,
-  is_jump as is_jump_at,
-  form_by as form_by_at,
-  slot_form as slot_form_at,
-  slot_form_of as slot_form_of_at,
-  is_exchangeable as is_exchangeable_at,
-  held_form as held_form_at,
+  spelled_bytes,
+  is_vmfunc,
+  is_add_esp_edx,
+  completes_pattern,
+  begins_with_01_d4,
+  begins_at_modrm,
+  has_memory,
+  is_call,
+  is_jump,
+  form_by,
+  slot_form,
+  slot_form_of,
+  is_exchangeable,
+  held_form,
   replacement,
   bytes_of,
-  site_of as site_at,
+  site_of,
   form_of,
 };
 
 use crate::answer::Form;
 use crate::code::Code;
 use crate::pattern::{insn_holds_pattern, number_holds_pattern};
-use crate::pieces::{exchanged, is_sib_0f, opcode_alone};
+use crate::pieces::{is_sib_0f, opcode_alone, sib_exchanged};
 use crate::slots::{
     Site, address_and_constant_slot, address_slot, constant_slot, displaced, jump_slot,
     wide_constant_slot,
@@ -42,28 +42,28 @@ use sb_insn::{Imm, Insn, Instruction, Mnemonic, Op, instruction_of, mod_field};
 
 /// Whether it is VMFUNC.
 fn is_vmfunc(op: Op) -> bool
-    ensures { result ≡ is_vmfunc_at op }
+    ensures { result ≡ is_vmfunc op }
 {
     matches!(op, Op::Vmfunc)
 }
 
 /// Whether it is ADD ESP, EDX, spelled `01 D4`.
 fn is_add_esp_edx(insn: &Insn) -> bool
-    ensures { result ≡ is_add_at insn.now }
+    ensures { result ≡ is_add_esp_edx insn.now }
 {
     insn.rex.is_none() && insn.op == Op::One(0x01) && insn.modrm == Some(0xD4)
 }
 
 /// Whether it is that, behind a byte 0F.
 fn completes_pattern(insn: &Insn, after_0f: bool) -> bool
-    ensures { result ≡ completes_at insn.now after_0f }
+    ensures { result ≡ completes_pattern insn.now after_0f }
 {
     is_add_esp_edx(insn) && after_0f
 }
 
 /// Whether it is an immediate of four bytes that begins with `01 D4`.
 fn begins_with_01_d4(imm: Imm) -> bool
-    ensures { result ≡ begins_with_at imm }
+    ensures { result ≡ begins_with_01_d4 imm }
 {
     match imm {
         Imm::I32(value) => {
@@ -76,14 +76,14 @@ fn begins_with_01_d4(imm: Imm) -> bool
 
 /// Whether the bytes of VMFUNC begin at ModRM: it is 0F, with no SIB byte and no displacement behind it.
 fn begins_at_modrm(insn: &Insn) -> bool
-    ensures { result ≡ begins_at insn.now }
+    ensures { result ≡ begins_at_modrm insn.now }
 {
     insn.modrm == Some(0x0F) && begins_with_01_d4(insn.imm)
 }
 
 /// Whether rm names memory.
 fn has_memory(modrm: Option<u8>) -> bool
-    ensures { result ≡ has_memory_at modrm }
+    ensures { result ≡ has_memory modrm }
 {
     match modrm {
         None => false,
@@ -93,21 +93,21 @@ fn has_memory(modrm: Option<u8>) -> bool
 
 /// Whether it is CALL.
 fn is_call(mnemonic: Mnemonic) -> bool
-    ensures { result ≡ is_call_at mnemonic }
+    ensures { result ≡ is_call mnemonic }
 {
     matches!(mnemonic, Mnemonic::Call)
 }
 
 /// Whether it is JMP.
 fn is_jump(mnemonic: Mnemonic) -> bool
-    ensures { result ≡ is_jump_at mnemonic }
+    ensures { result ≡ is_jump mnemonic }
 {
     matches!(mnemonic, Mnemonic::Jmp)
 }
 
 /// Three NOPs, as many bytes as VMFUNC has.
 fn three_nops() -> Form
-    ensures { result ≡ Form.InPlace (spelled (nop ∷ nop ∷ nop ∷ [])) }
+    ensures { result ≡ Form.InPlace (spelled_bytes (nop ∷ nop ∷ nop ∷ [])) }
 {
     let mut code = Code::of(&opcode_alone(0x90));
     code.put(&opcode_alone(0x90));
@@ -117,7 +117,7 @@ fn three_nops() -> Form
 
 /// ADD ESP, EDX with reg as the destination, spelled `03 E2`.
 fn add_to_reg() -> Form
-    ensures { result ≡ Form.InPlace (spelled (add_from_rm ∷ [])) }
+    ensures { result ≡ Form.InPlace (spelled_bytes (add_from_rm ∷ [])) }
 {
     Form::InPlace(Code::of(&Insn {
         modrm: Some(0xE2),
@@ -130,8 +130,8 @@ fn add_to_reg() -> Form
 fn form_by(instruction: Instruction, insn: &Insn, site: Site) -> Form
     requires site { IsSite site }
     requires lock { instruction.mnemonic ≡ Mnemonic.Imul → insn.now.lock ≡ false }
-    requires main { has_memory_at insn.now.modrm ≡ true → length (op_bytes insn.now.op) + length (imm_bytes insn.now.imm) ≤ 5 }
-    ensures table { result ≡ bytes_of (form_by_at instruction insn.now site insn.now.imm) }
+    requires main { has_memory insn.now.modrm ≡ true → length (op_bytes insn.now.op) + length (imm_bytes insn.now.imm) ≤ 5 }
+    ensures table { result ≡ bytes_of (form_by instruction insn.now site insn.now.imm) }
     ensures small { IsSmall result }
 {
     match insn.imm {
@@ -154,8 +154,8 @@ fn form_by(instruction: Instruction, insn: &Insn, site: Site) -> Form
 fn slot_form(instruction: Instruction, insn: &Insn, site: Site) -> Form
     requires site { IsSite site }
     requires lock { instruction.mnemonic ≡ Mnemonic.Imul → insn.now.lock ≡ false }
-    requires main { has_memory_at insn.now.modrm ≡ true → length (op_bytes insn.now.op) + length (imm_bytes insn.now.imm) ≤ 5 }
-    ensures table { result ≡ bytes_of (slot_form_at instruction insn.now site) }
+    requires main { has_memory insn.now.modrm ≡ true → length (op_bytes insn.now.op) + length (imm_bytes insn.now.imm) ≤ 5 }
+    ensures table { result ≡ bytes_of (slot_form instruction insn.now site) }
     ensures small { IsSmall result }
 {
     let memory = has_memory(insn.modrm);
@@ -173,7 +173,7 @@ fn slot_form(instruction: Instruction, insn: &Insn, site: Site) -> Form
 fn slot_form_of(insn: &Insn, site: Site) -> Form
     requires valid { IsValid insn.now }
     requires site { IsSite site }
-    ensures table { result ≡ bytes_of (slot_form_of_at (instruction_at insn.now) insn.now site) }
+    ensures table { result ≡ bytes_of (slot_form_of (instruction_of insn.now) insn.now site) }
     ensures small { IsSmall result }
 {
     match instruction_of(insn) {
@@ -186,9 +186,9 @@ fn slot_form_of(insn: &Insn, site: Site) -> Form
 #[tactic(auto, using(crate::proofs::Lengths::exchanged_short))]
 fn is_exchangeable(insn: &Insn) -> bool
     requires { IsValid insn.now }
-    ensures { result ≡ is_exchangeable_at insn.now }
+    ensures { result ≡ is_exchangeable insn.now }
 {
-    is_sib_0f(insn.sib) && !insn_holds_pattern(&exchanged(insn))
+    is_sib_0f(insn.sib) && !insn_holds_pattern(&sib_exchanged(insn))
 }
 
 /// The form of an instruction that holds the bytes of VMFUNC.
@@ -196,11 +196,11 @@ fn is_exchangeable(insn: &Insn) -> bool
 fn held_form(insn: &Insn, site: Site) -> Form
     requires valid { IsValid insn.now }
     requires site { IsSite site }
-    ensures table { result ≡ bytes_of (held_form_at insn.now site) }
+    ensures table { result ≡ bytes_of (held_form insn.now site) }
     ensures small { IsSmall result }
 {
     if is_exchangeable(insn) {
-        Form::InPlace(Code::of(&exchanged(insn)))
+        Form::InPlace(Code::of(&sib_exchanged(insn)))
     } else if begins_at_modrm(insn) {
         displaced(insn, site)
     } else {
@@ -234,7 +234,7 @@ fn site_of(insn: &Insn, at: u64, slot: u64) -> Site
     requires valid { IsValid insn.now }
     requires at { (0x400000 ≤ at) × (at ≤ 0x5FFFFF) }
     requires slot { slot ≤ 0x11000 }
-    ensures value { result ≡ site_at insn.now at slot }
+    ensures value { result ≡ site_of insn.now at slot }
     ensures site { IsSite result }
 {
     Site {

@@ -14,4 +14,5 @@ all_taken (Some held ∷ book) taken = all_taken book (λ index below. taken (su
 pub none_free : (book : Book) (first : ℕ) → ((index : ℕ) → index < first → get_or book index None ≢ None)
     → ((index : ℕ) → first ≤ index → index < length book → get_or book index None ≢ None) → free_count book ≡ 0
 none_free book first before after =
-    all_taken book (λ index below. elim (cases_lt index first) [ inl lower ↦ before index lower | inr higher ↦ after index higher below ])
+    all_taken book
+    (λ index below. elim (cases_lt index first) [ inl lower ↦ before index lower | inr higher ↦ after index higher below ])

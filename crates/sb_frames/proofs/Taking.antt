@@ -7,12 +7,14 @@ use Rattle.sb_frames.specs.declared.kind.Kind.{Kind}
 use Rattle.sb_frames.specs.Book.{Book, IsInBook, IsLowestFree, holder, with_holder, free_count}
 
 -- the holder of another frame stays
-pub holder_other : (book : Book) (frame other : ℕ) (held : Option (Kind × ℕ)) → 512 ≤ frame → 512 ≤ other → other ≢ frame → holder (with_holder book frame held) other ≡ holder book other
+pub holder_other : (book : Book) (frame other : ℕ) (held : Option (Kind × ℕ)) → 512 ≤ frame → 512 ≤ other → other ≢ frame
+    → holder (with_holder book frame held) other ≡ holder book other
 holder_other book frame other held first second differ =
     let apart : other - 512 ≢ frame - 512 = omega arith in
     rw get_or-set_other refl
 
-pub holder_same : (book : Book) (frame : ℕ) (held : Option (Kind × ℕ)) → IsInBook book frame → holder (with_holder book frame held) frame ≡ held
+pub holder_same : (book : Book) (frame : ℕ) (held : Option (Kind × ℕ)) → IsInBook book frame
+    → holder (with_holder book frame held) frame ≡ held
 holder_same book frame held inside =
     let within : frame - 512 < length book = omega arith in
     rw get_or-set_same refl
@@ -24,12 +26,15 @@ length_with_holder book frame held = length-set book (frame - 512) held
 abbrev counted : Option (Kind × ℕ) → ℕ
 counted held = if is_none held then 1 else 0
 
-fewer_at : (book : Book) (index : ℕ) (held : Kind × ℕ) → index < length book → get_or book index None ≡ None → count_by is_none (slice_set book index (Some held)) + 1 ≡ count_by is_none book
+fewer_at : (book : Book) (index : ℕ) (held : Kind × ℕ) → index < length book → get_or book index None ≡ None
+    → count_by is_none (slice_set book index (Some held)) + 1 ≡ count_by is_none book
 fewer_at book index held within free =
-    let changed : count_by is_none (slice_set book index (Some held)) + counted (get_or book index None) ≡ count_by is_none book + 0 =
+    let changed : count_by is_none (slice_set book index (Some held)) + counted (get_or book index None)
+    ≡ count_by is_none book + 0 =
     sum_by-set counted book index (Some held) None within in
     let one : counted (get_or book index None) ≡ 1 = ap counted free in
-    let now : count_by is_none (slice_set book index (Some held)) + 1 ≡ count_by is_none book + 0 = ap (λ (n : ℕ). count_by is_none (slice_set book index (Some held)) + n) (sym one) ∙ changed in
+    let now : count_by is_none (slice_set book index (Some held)) + 1 ≡ count_by is_none book + 0 =
+    ap (λ (n : ℕ). count_by is_none (slice_set book index (Some held)) + n) (sym one) ∙ changed in
     now ∙ add-zero (count_by is_none book)
 
 -- a free frame is taken, the lowest
@@ -53,7 +58,8 @@ takes_rise book mid new frame next first second = elim (cases_lt frame next) [
       let next_inside = second.lowest.inside in
       elim (cases_lt next frame) [
         | inl lower ↦
-            let stays : holder mid next ≡ holder book next = rw (first.taken) (holder_other book frame next (Some first.held) inside.0 next_inside.0 (omega arith)) in
+            let stays : holder mid next ≡ holder book next =
+            rw (first.taken) (holder_other book frame next (Some first.held) inside.0 next_inside.0 (omega arith)) in
             absurd (first.lowest.lowest next next_inside.0 lower (sym stays ∙ second.lowest.free))
         | inr same ↦
             let here : next ≡ frame = omega arith in
@@ -63,5 +69,6 @@ takes_rise book mid new frame next first second = elim (cases_lt frame next) [
       ]
 ]
 
-pub takes_by : (book new : Book) (frame : ℕ) (kind : Kind) (owner : ℕ) → IsLowestFree book frame → new ≡ with_holder book frame (Some (kind, owner)) → Takes book new frame
+pub takes_by : (book new : Book) (frame : ℕ) (kind : Kind) (owner : ℕ) → IsLowestFree book frame
+    → new ≡ with_holder book frame (Some (kind, owner)) → Takes book new frame
 takes_by book new frame kind owner lowest taken = record { held = (kind, owner); lowest = lowest; taken = taken }

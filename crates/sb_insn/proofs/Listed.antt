@@ -1,26 +1,30 @@
 -- A valid instruction is one that the opcode maps list.
 use Rattle.std.proofs.Common.{◌≡◌, ℕ, Bool, true, Option, Some, None, refl}
 use Rattle.sb_insn.specs.declared.opcode_map.Instruction.{Instruction}
-use Rattle.sb_insn.specs.declared.opcode_map.Operand.{Operand}
+use Rattle.sb_insn.specs.declared.opcode_map.ModRmOpcode.{ModRmOpcode}
 use Rattle.sb_insn.specs.declared.opcode_map.Cell.{Cell}
-use Rattle.sb_insn.specs.declared.opcode_map.Cell.TheVariants.{Absent, Plain, ModRm, Extended}
+use Rattle.sb_insn.specs.declared.opcode_map.Cell.TheVariants.{Absent, NoModRm, ModRm, Extended}
 use Rattle.sb_insn.specs.OpcodeMap.{cell_of}
 use Rattle.sb_insn.specs.Groups.{group_operand}
 use Rattle.sb_insn.specs.Fields.{is_modrm_field, some_permits, reg_field}
-use Rattle.sb_insn.specs.Listing.{named, instruction_in, instruction_of, ValidListed}
+use Rattle.sb_insn.specs.Listing.{named_instruction, instruction_in, instruction_of, ValidListed}
 
 -- an operand that permits a ModRM byte is there
-operand_named : (operand : Option Operand) (lock : Bool) (rex : Option ℕ) (modrm : ℕ) → some_permits operand lock rex modrm ≡ true → (instruction : Instruction) × (named operand ≡ Some instruction)
+operand_named : (operand : Option ModRmOpcode) (lock : Bool) (rex : Option ℕ) (modrm : ℕ)
+    → some_permits operand lock rex modrm ≡ true
+    → (instruction : Instruction) × (named_instruction operand ≡ Some instruction)
 operand_named None lock rex modrm e = absurd cc
 operand_named (Some operand) lock rex modrm e = (operand.instruction, refl)
 
-cell_listed : (cell : Cell) (lock : Bool) (rex modrm : Option ℕ) → is_modrm_field cell lock rex modrm ≡ true → (instruction : Instruction) × (instruction_in cell modrm ≡ Some instruction)
+cell_listed : (cell : Cell) (lock : Bool) (rex modrm : Option ℕ) → is_modrm_field cell lock rex modrm ≡ true
+    → (instruction : Instruction) × (instruction_in cell modrm ≡ Some instruction)
 cell_listed Absent lock rex None e = absurd cc
 cell_listed Absent lock rex (Some modrm) e = absurd cc
-cell_listed (Plain plain) lock rex modrm e = (plain.instruction, refl)
+cell_listed (NoModRm plain) lock rex modrm e = (plain.instruction, refl)
 cell_listed (ModRm operand) lock rex modrm e = (operand.instruction, refl)
 cell_listed (Extended group form imm) lock rex None e = absurd cc
-cell_listed (Extended group form imm) lock rex (Some modrm) e = operand_named (group_operand group form imm (reg_field modrm)) lock rex modrm e
+cell_listed (Extended group form imm) lock rex (Some modrm) e =
+    operand_named (group_operand group form imm (reg_field modrm)) lock rex modrm e
 
 pub valid_listed : ValidListed
 unfolding instruction_of

@@ -13,11 +13,11 @@ use Rattle.sb_insn.specs.declared.insn.Imm.TheVariants as imm
 use Rattle.sb_insn.specs.declared.opcode_map.ImmRule.{ImmRule}
 use Rattle.sb_insn.specs.declared.opcode_map.ImmRule.TheVariants as rules
 use Rattle.sb_insn.specs.declared.opcode_map.Cell.{Cell}
-use Rattle.sb_insn.specs.declared.opcode_map.Cell.TheVariants.{Absent, Plain, ModRm, Extended}
+use Rattle.sb_insn.specs.declared.opcode_map.Cell.TheVariants.{Absent, NoModRm, ModRm, Extended}
 use Rattle.sb_insn.specs.declared.opcode_map.Group.{Group}
 use Rattle.sb_insn.specs.declared.opcode_map.Group.TheVariants.{Group1, Group2, Group3, Group5, Group11, Group16}
 use Rattle.sb_insn.specs.declared.opcode_map.OperandForm.{OperandForm}
-use Rattle.sb_insn.specs.declared.opcode_map.Operand.{Operand}
+use Rattle.sb_insn.specs.declared.opcode_map.ModRmOpcode.{ModRmOpcode}
 use Rattle.sb_insn.specs.OpcodeMap.{one_byte, one_byte_rows, two_byte, two_byte_rows, cell_of}
 use Rattle.sb_insn.specs.Groups.{extended_by, extensions, group_operand, operand_of}
 use Rattle.sb_insn.proofs.Rows.{looked_up, every_extension, some_holds, extended}
@@ -42,7 +42,7 @@ is_no_rule rules.Wide = false
 
 abbrev narrow_cell : Cell → Bool
 narrow_cell Absent = true
-narrow_cell (Plain plain) = true
+narrow_cell (NoModRm plain) = true
 narrow_cell (ModRm operand) = is_narrow operand.imm
 narrow_cell (Extended group form imm) = is_narrow imm
 
@@ -54,7 +54,7 @@ bare_group _ = true
 -- no immediate behind ModRM
 abbrev bare_cell : Cell → Bool
 bare_cell Absent = true
-bare_cell (Plain plain) = true
+bare_cell (NoModRm plain) = true
 bare_cell (ModRm operand) = is_no_rule operand.imm
 bare_cell (Extended group form imm) = bare_group group && is_no_rule imm
 
@@ -66,15 +66,18 @@ two_bare : (opcode : ℕ) → bare_cell (two_byte opcode) ≡ true
 unfolding two_byte
 two_bare opcode = looked_up bare_cell opcode two_byte_rows refl refl
 
-narrow_option : (operand : Option Operand) → some_holds (λ row. is_narrow row.imm) operand ≡ true → is_narrow (operand_rule operand) ≡ true
+narrow_option : (operand : Option ModRmOpcode) → some_holds (λ row. is_narrow row.imm) operand ≡ true
+    → is_narrow (operand_rule operand) ≡ true
 narrow_option None e = refl
 narrow_option (Some operand) e = e
 
-bare_option : (operand : Option Operand) → some_holds (λ row. is_no_rule row.imm) operand ≡ true → is_no_rule (operand_rule operand) ≡ true
+bare_option : (operand : Option ModRmOpcode) → some_holds (λ row. is_no_rule row.imm) operand ≡ true
+    → is_no_rule (operand_rule operand) ≡ true
 bare_option None e = refl
 bare_option (Some operand) e = e
 
-narrow_rows : (group : Group) (form : OperandForm) (imm : ImmRule) → is_narrow imm ≡ true → every_extension (λ row. is_narrow row.imm) (extensions group form imm) ≡ true
+narrow_rows : (group : Group) (form : OperandForm) (imm : ImmRule) → is_narrow imm ≡ true
+    → every_extension (λ row. is_narrow row.imm) (extensions group form imm) ≡ true
 narrow_rows Group1 form imm e = rw e refl
 narrow_rows Group2 form imm e = rw e refl
 narrow_rows Group3 form imm e = rw e refl
@@ -82,7 +85,8 @@ narrow_rows Group5 form imm e = rw e refl
 narrow_rows Group11 form imm e = rw e refl
 narrow_rows Group16 form imm e = rw e refl
 
-bare_rows : (group : Group) (form : OperandForm) (imm : ImmRule) → bare_group group ≡ true → is_no_rule imm ≡ true → every_extension (λ row. is_no_rule row.imm) (extensions group form imm) ≡ true
+bare_rows : (group : Group) (form : OperandForm) (imm : ImmRule) → bare_group group ≡ true → is_no_rule imm ≡ true
+    → every_extension (λ row. is_no_rule row.imm) (extensions group form imm) ≡ true
 bare_rows Group1 form imm bare e = rw e refl
 bare_rows Group2 form imm bare e = rw e refl
 bare_rows Group3 form imm bare e = absurd cc
@@ -93,22 +97,26 @@ bare_rows Group16 form imm bare e = rw e refl
 narrow_operand : (cell : Cell) (reg : ℕ) → narrow_cell cell ≡ true → is_narrow (operand_rule (operand_of cell reg)) ≡ true
 unfolding group_operand
 narrow_operand Absent reg e = refl
-narrow_operand (Plain plain) reg e = refl
+narrow_operand (NoModRm plain) reg e = refl
 narrow_operand (ModRm operand) reg e = e
-narrow_operand (Extended group form imm) reg e = narrow_option (extended_by reg (extensions group form imm)) (extended (λ row. is_narrow row.imm) reg (extensions group form imm) (narrow_rows group form imm e))
+narrow_operand (Extended group form imm) reg e =
+    narrow_option (extended_by reg (extensions group form imm))
+    (extended (λ row. is_narrow row.imm) reg (extensions group form imm) (narrow_rows group form imm e))
 
 bare_operand : (cell : Cell) (reg : ℕ) → bare_cell cell ≡ true → is_no_rule (operand_rule (operand_of cell reg)) ≡ true
 unfolding group_operand
 bare_operand Absent reg e = refl
-bare_operand (Plain plain) reg e = refl
+bare_operand (NoModRm plain) reg e = refl
 bare_operand (ModRm operand) reg e = e
 bare_operand (Extended group form imm) reg e =
     let parts = and_parts (bare_group group) (is_no_rule imm) e in
-    bare_option (extended_by reg (extensions group form imm)) (extended (λ row. is_no_rule row.imm) reg (extensions group form imm) (bare_rows group form imm parts.0 parts.1))
+    bare_option (extended_by reg (extensions group form imm))
+    (extended (λ row. is_no_rule row.imm) reg (extensions group form imm) (bare_rows group form imm parts.0 parts.1))
 
 -- ---- how long the fields are
 
-narrow_imm : (immediate : Imm) (rule : ImmRule) (rex : Option ℕ) → is_narrow rule ≡ true → kind_of_imm immediate ≡ imm_kind_of rule rex → length (imm_bytes immediate) ≤ 4
+narrow_imm : (immediate : Imm) (rule : ImmRule) (rex : Option ℕ) → is_narrow rule ≡ true
+    → kind_of_imm immediate ≡ imm_kind_of rule rex → length (imm_bytes immediate) ≤ 4
 narrow_imm imm.None rule rex e k = omega arith
 narrow_imm (imm.I8 value) rule rex e k = omega arith
 narrow_imm (imm.I32 value) rule rex e k = omega arith
@@ -117,7 +125,8 @@ narrow_imm (imm.I64 value) rules.I8 rex e k = absurd cc
 narrow_imm (imm.I64 value) rules.I32 rex e k = absurd cc
 narrow_imm (imm.I64 value) rules.Wide rex e k = absurd cc
 
-no_imm : (immediate : Imm) (rule : ImmRule) (rex : Option ℕ) → is_no_rule rule ≡ true → kind_of_imm immediate ≡ imm_kind_of rule rex → length (imm_bytes immediate) ≡ 0
+no_imm : (immediate : Imm) (rule : ImmRule) (rex : Option ℕ) → is_no_rule rule ≡ true
+    → kind_of_imm immediate ≡ imm_kind_of rule rex → length (imm_bytes immediate) ≡ 0
 no_imm imm.None rule rex e k = refl
 no_imm (imm.I8 value) rules.None rex e k = absurd cc
 no_imm (imm.I32 value) rules.None rex e k = absurd cc
@@ -157,34 +166,54 @@ no_sib (Some byte) e = absurd cc
 
 -- the bytes behind the opcode
 abbrev tail_length : Option ℕ → Option ℕ → Disp → Imm → ℕ
-tail_length modrm sib displacement immediate = length (option_to_list modrm) + (length (option_to_list sib) + (length (disp_bytes displacement) + length (imm_bytes immediate)))
+tail_length modrm sib displacement immediate =
+    length (option_to_list modrm) +
+    (length (option_to_list sib) + (length (disp_bytes displacement) + length (imm_bytes immediate)))
 
-tail_11 : (op : Op) (modrm sib : Option ℕ) (displacement : Disp) (immediate : Imm) (lock : Bool) (rex : Option ℕ) → is_modrm_field (cell_of op) lock rex modrm ≡ true → is_sib_field modrm sib ≡ true → kind_of_disp displacement ≡ disp_kind_of modrm sib
-    → kind_of_imm immediate ≡ imm_kind_of (rule_of (cell_of op) modrm) rex → length (op_bytes op) + tail_length modrm sib displacement immediate ≤ 11
-tail_11 (One opcode) None sib displacement immediate lock rex is_modrm is_sib disp_is imm_is = let short = any_imm immediate in omega (arith, no_sib sib is_sib, no_disp displacement disp_is, short)
+tail_11 : (op : Op) (modrm sib : Option ℕ) (displacement : Disp) (immediate : Imm) (lock : Bool) (rex : Option ℕ)
+    → is_modrm_field (cell_of op) lock rex modrm ≡ true → is_sib_field modrm sib ≡ true
+    → kind_of_disp displacement ≡ disp_kind_of modrm sib
+    → kind_of_imm immediate ≡ imm_kind_of (rule_of (cell_of op) modrm) rex
+    → length (op_bytes op) + tail_length modrm sib displacement immediate ≤ 11
+tail_11 (One opcode) None sib displacement immediate lock rex is_modrm is_sib disp_is imm_is = let short = any_imm immediate in
+    omega (arith, no_sib sib is_sib, no_disp displacement disp_is, short)
 tail_11 (One opcode) (Some modrm) sib displacement immediate lock rex is_modrm is_sib disp_is imm_is =
-    let short = narrow_imm immediate (operand_rule (operand_of (one_byte opcode) (reg_field modrm))) rex (narrow_operand (one_byte opcode) (reg_field modrm) (one_narrow opcode)) imm_is in
+    let short =
+    narrow_imm immediate (operand_rule (operand_of (one_byte opcode) (reg_field modrm))) rex
+    (narrow_operand (one_byte opcode) (reg_field modrm) (one_narrow opcode)) imm_is in
     omega (arith, one_field sib, any_disp displacement, short)
-tail_11 (Two opcode) None sib displacement immediate lock rex is_modrm is_sib disp_is imm_is = let short = any_imm immediate in omega (arith, no_sib sib is_sib, no_disp displacement disp_is, short)
+tail_11 (Two opcode) None sib displacement immediate lock rex is_modrm is_sib disp_is imm_is = let short = any_imm immediate in
+    omega (arith, no_sib sib is_sib, no_disp displacement disp_is, short)
 tail_11 (Two opcode) (Some modrm) sib displacement immediate lock rex is_modrm is_sib disp_is imm_is =
-    let short = no_imm immediate (operand_rule (operand_of (two_byte opcode) (reg_field modrm))) rex (bare_operand (two_byte opcode) (reg_field modrm) (two_bare opcode)) imm_is in
+    let short =
+    no_imm immediate (operand_rule (operand_of (two_byte opcode) (reg_field modrm))) rex
+    (bare_operand (two_byte opcode) (reg_field modrm) (two_bare opcode)) imm_is in
     omega (arith, one_field sib, any_disp displacement, short)
-tail_11 Endbr None sib displacement immediate lock rex is_modrm is_sib disp_is imm_is = let short = no_imm immediate rules.None rex refl imm_is in omega (arith, no_sib sib is_sib, no_disp displacement disp_is, short)
+tail_11 Endbr None sib displacement immediate lock rex is_modrm is_sib disp_is imm_is =
+    let short = no_imm immediate rules.None rex refl imm_is in
+    omega (arith, no_sib sib is_sib, no_disp displacement disp_is, short)
 tail_11 Endbr (Some modrm) sib displacement immediate lock rex is_modrm is_sib disp_is imm_is = absurd cc
-tail_11 Vmfunc None sib displacement immediate lock rex is_modrm is_sib disp_is imm_is = let short = no_imm immediate rules.None rex refl imm_is in omega (arith, no_sib sib is_sib, no_disp displacement disp_is, short)
+tail_11 Vmfunc None sib displacement immediate lock rex is_modrm is_sib disp_is imm_is =
+    let short = no_imm immediate rules.None rex refl imm_is in
+    omega (arith, no_sib sib is_sib, no_disp displacement disp_is, short)
 tail_11 Vmfunc (Some modrm) sib displacement immediate lock rex is_modrm is_sib disp_is imm_is = absurd cc
 
 -- the lengths of the fields of a valid instruction
 pub fields_13 : (insn : Insn) → IsValid insn
-    → length (lock_bytes insn.lock) + length (option_to_list insn.rex) + length (op_bytes insn.op) + length (option_to_list insn.modrm) + length (option_to_list insn.sib) + length (disp_bytes insn.disp) + length (imm_bytes insn.imm) ≤ 13
+    → length (lock_bytes insn.lock) + length (option_to_list insn.rex) + length (op_bytes insn.op) + length
+    (option_to_list insn.modrm) + length (option_to_list insn.sib) + length (disp_bytes insn.disp) + length
+    (imm_bytes insn.imm) ≤ 13
 fields_13 insn valid =
-    let tail = tail_11 insn.op insn.modrm insn.sib insn.disp insn.imm insn.lock insn.rex valid.modrm valid.sib valid.disp valid.imm in
+    let tail =
+    tail_11 insn.op insn.modrm insn.sib insn.disp insn.imm insn.lock insn.rex valid.modrm valid.sib valid.disp valid.imm in
     omega (arith, one_lock insn.lock, one_field insn.rex, tail)
 
 pub spelling_13 : (insn : Insn) → IsValid insn → length (spelling insn) ≤ 13
 spelling_13 insn valid =
-    let tail = tail_11 insn.op insn.modrm insn.sib insn.disp insn.imm insn.lock insn.rex valid.modrm valid.sib valid.disp valid.imm in
-    let a = length-append (front_bytes insn.lock insn.rex insn.op) (option_to_list insn.modrm ++ (option_to_list insn.sib ++ (disp_bytes insn.disp ++ imm_bytes insn.imm))) in
+    let tail =
+    tail_11 insn.op insn.modrm insn.sib insn.disp insn.imm insn.lock insn.rex valid.modrm valid.sib valid.disp valid.imm in
+    let a = length-append (front_bytes insn.lock insn.rex insn.op)
+    (option_to_list insn.modrm ++ (option_to_list insn.sib ++ (disp_bytes insn.disp ++ imm_bytes insn.imm))) in
     let b = length-append (lock_bytes insn.lock) (option_to_list insn.rex ++ op_bytes insn.op) in
     let c = length-append (option_to_list insn.rex) (op_bytes insn.op) in
     let d = length-append (option_to_list insn.modrm) (option_to_list insn.sib ++ (disp_bytes insn.disp ++ imm_bytes insn.imm)) in

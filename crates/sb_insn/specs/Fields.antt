@@ -14,9 +14,9 @@ use Rattle.sb_insn.specs.declared.opcode_map.RmRule.{RmRule}
 use Rattle.sb_insn.specs.declared.opcode_map.RmRule.TheVariants as rm_rule
 use Rattle.sb_insn.specs.declared.opcode_map.ImmRule.{ImmRule}
 use Rattle.sb_insn.specs.declared.opcode_map.ImmRule.TheVariants as imm_rule
-use Rattle.sb_insn.specs.declared.opcode_map.Operand.{Operand}
+use Rattle.sb_insn.specs.declared.opcode_map.ModRmOpcode.{ModRmOpcode}
 use Rattle.sb_insn.specs.declared.opcode_map.Cell.{Cell}
-use Rattle.sb_insn.specs.declared.opcode_map.Cell.TheVariants.{Absent, Plain, ModRm, Extended}
+use Rattle.sb_insn.specs.declared.opcode_map.Cell.TheVariants.{Absent, NoModRm, ModRm, Extended}
 use Rattle.sb_insn.specs.Groups.{operand_of}
 
 -- ---- REX
@@ -83,25 +83,25 @@ permits_rm rm_rule.Any modrm = true
 permits_rm rm_rule.Memory modrm = not (is_register modrm)
 
 -- without a REX byte the byte registers 4 to 7 are AH, CH, DH and BH
-abbrev pub needs_rex : Operand → ℕ → Bool
+abbrev pub needs_rex : ModRmOpcode → ℕ → Bool
 needs_rex operand modrm =
     (operand.byte_reg && nat_le 4 (reg_field modrm))
     || (operand.byte_rm && (is_register modrm && nat_le 4 (rm_field modrm)))
 
 -- the operands permit this ModRM byte behind these prefixes
-unfoldable pub permits : Operand → Bool → Option ℕ → ℕ → Bool
+unfoldable pub permits : ModRmOpcode → Bool → Option ℕ → ℕ → Bool
 permits operand lock rex modrm =
     (not lock || (operand.lock && not (is_register modrm)))
     && (permits_rm operand.rm modrm && not (is_none rex && needs_rex operand modrm))
 
-abbrev pub some_permits : Option Operand → Bool → Option ℕ → ℕ → Bool
+abbrev pub some_permits : Option ModRmOpcode → Bool → Option ℕ → ℕ → Bool
 some_permits None lock rex modrm = false
 some_permits (Some operand) lock rex modrm = permits operand lock rex modrm
 
 -- the opcode has no ModRM byte, and permits these prefixes
 abbrev pub stands_alone : Cell → Bool → Option ℕ → Bool
 stands_alone Absent lock rex = false
-stands_alone (Plain plain) lock rex = not lock && permits_rex plain.rex rex
+stands_alone (NoModRm plain) lock rex = not lock && permits_rex plain.rex rex
 stands_alone (ModRm operand) lock rex = false
 stands_alone (Extended group form imm) lock rex = false
 
@@ -156,11 +156,11 @@ kind_of_disp (disp.D32 value) = disp_kind.D32
 
 abbrev pub alone_rule : Cell → ImmRule
 alone_rule Absent = imm_rule.None
-alone_rule (Plain plain) = plain.imm
+alone_rule (NoModRm plain) = plain.imm
 alone_rule (ModRm operand) = imm_rule.None
 alone_rule (Extended group form imm) = imm_rule.None
 
-abbrev pub operand_rule : Option Operand → ImmRule
+abbrev pub operand_rule : Option ModRmOpcode → ImmRule
 operand_rule None = imm_rule.None
 operand_rule (Some operand) = operand.imm
 

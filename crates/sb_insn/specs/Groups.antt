@@ -5,23 +5,23 @@ use Rattle.sb_insn.specs.declared.opcode_map.OperandForm.{OperandForm}
 use Rattle.sb_insn.specs.declared.opcode_map.OperandForm.TheVariants.{RmImm}
 use Rattle.sb_insn.specs.declared.opcode_map.ImmRule.{ImmRule}
 use Rattle.sb_insn.specs.declared.opcode_map.ImmRule.TheVariants as imm_rule
-use Rattle.sb_insn.specs.declared.opcode_map.Operand.{Operand}
+use Rattle.sb_insn.specs.declared.opcode_map.ModRmOpcode.{ModRmOpcode}
 use Rattle.sb_insn.specs.declared.opcode_map.Group.{Group}
 use Rattle.sb_insn.specs.declared.opcode_map.Group.TheVariants.{Group1, Group2, Group3, Group5, Group11, Group16}
 use Rattle.sb_insn.specs.declared.opcode_map.Cell.{Cell}
-use Rattle.sb_insn.specs.declared.opcode_map.Cell.TheVariants.{Absent, Plain, ModRm, Extended}
-use Rattle.sb_insn.specs.OpcodeMap.{lockable, unlocked}
+use Rattle.sb_insn.specs.declared.opcode_map.Cell.TheVariants.{Absent, NoModRm, ModRm, Extended}
+use Rattle.sb_insn.specs.OpcodeMap.{lockable, not_lockable}
 
 -- a row of a group: what this reg field makes of the opcode
 pub record Extension : Type 0 where
   pub digit : ℕ
-  pub operand : Operand
+  pub operand : ModRmOpcode
 
-abbrev pub extension : ℕ → Operand → Extension
+abbrev pub extension : ℕ → ModRmOpcode → Extension
 extension digit operand = record { digit = digit; operand = operand }
 
 -- the first row of the reg field
-abbrev pub extended_by : ℕ → List Extension → Option Operand
+abbrev pub extended_by : ℕ → List Extension → Option ModRmOpcode
 extended_by reg [] = None
 extended_by reg (row ∷ rows) = if reg == row.digit then Some row.operand else extended_by reg rows
 
@@ -33,34 +33,34 @@ extensions Group1 form imm =
     ∷ extension 4 (lockable And form imm)
     ∷ extension 5 (lockable Sub form imm)
     ∷ extension 6 (lockable Xor form imm)
-    ∷ extension 7 (unlocked Cmp form imm)
+    ∷ extension 7 (not_lockable Cmp form imm)
     ∷ []
 extensions Group2 form imm =
-    extension 4 (unlocked Shl form imm)
-    ∷ extension 5 (unlocked Shr form imm)
-    ∷ extension 7 (unlocked Sar form imm)
+    extension 4 (not_lockable Shl form imm)
+    ∷ extension 5 (not_lockable Shr form imm)
+    ∷ extension 7 (not_lockable Sar form imm)
     ∷ []
 extensions Group3 form imm =
-    extension 0 (unlocked Test RmImm imm_rule.I32)
+    extension 0 (not_lockable Test RmImm imm_rule.I32)
     ∷ extension 2 (lockable Not form imm)
     ∷ extension 3 (lockable Neg form imm)
     ∷ []
 extensions Group5 form imm =
     extension 0 (lockable Inc form imm)
     ∷ extension 1 (lockable Dec form imm)
-    ∷ extension 2 (unlocked Call form imm)
-    ∷ extension 4 (unlocked Jmp form imm)
-    ∷ extension 6 (unlocked Push form imm)
+    ∷ extension 2 (not_lockable Call form imm)
+    ∷ extension 4 (not_lockable Jmp form imm)
+    ∷ extension 6 (not_lockable Push form imm)
     ∷ []
-extensions Group11 form imm = extension 0 (unlocked Mov form imm) ∷ []
-extensions Group16 form imm = extension 0 (unlocked Nop form imm) ∷ []
+extensions Group11 form imm = extension 0 (not_lockable Mov form imm) ∷ []
+extensions Group16 form imm = extension 0 (not_lockable Nop form imm) ∷ []
 
-unfoldable pub group_operand : Group → OperandForm → ImmRule → ℕ → Option Operand
+unfoldable pub group_operand : Group → OperandForm → ImmRule → ℕ → Option ModRmOpcode
 group_operand group form imm reg = extended_by reg (extensions group form imm)
 
 -- what a ModRM byte with this reg field means behind an opcode
-abbrev pub operand_of : Cell → ℕ → Option Operand
+abbrev pub operand_of : Cell → ℕ → Option ModRmOpcode
 operand_of Absent reg = None
-operand_of (Plain plain) reg = None
+operand_of (NoModRm plain) reg = None
 operand_of (ModRm operand) reg = Some operand
 operand_of (Extended group form imm) reg = group_operand group form imm reg

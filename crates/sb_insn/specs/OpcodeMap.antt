@@ -11,36 +11,76 @@ use Rattle.sb_insn.specs.declared.opcode_map.RexRule.TheVariants.{Refused, Permi
 use Rattle.sb_insn.specs.declared.opcode_map.RmRule.TheVariants as rm_rule
 use Rattle.sb_insn.specs.declared.opcode_map.ImmRule.{ImmRule}
 use Rattle.sb_insn.specs.declared.opcode_map.ImmRule.TheVariants as imm_rule
-use Rattle.sb_insn.specs.declared.opcode_map.Operand.{Operand}
+use Rattle.sb_insn.specs.declared.opcode_map.ModRmOpcode.{ModRmOpcode}
 use Rattle.sb_insn.specs.declared.opcode_map.Group.TheVariants.{Group1, Group2, Group3, Group5, Group11, Group16}
 use Rattle.sb_insn.specs.declared.opcode_map.Cell.{Cell}
-use Rattle.sb_insn.specs.declared.opcode_map.Cell.TheVariants.{Absent, Plain, ModRm, Extended}
+use Rattle.sb_insn.specs.declared.opcode_map.Cell.TheVariants.{Absent, NoModRm, ModRm, Extended}
 
 -- ---- what stands with an opcode
 
 -- rm is a destination: LOCK may stand where it names memory
-abbrev pub lockable : Mnemonic → OperandForm → ImmRule → Operand
-lockable mnemonic form imm = record { lock = true; rm = rm_rule.Any; byte_reg = false; byte_rm = false; imm = imm; instruction = record { mnemonic = mnemonic; form = form } }
+abbrev pub lockable : Mnemonic → OperandForm → ImmRule → ModRmOpcode
+lockable mnemonic form imm =
+    record {
+      lock = true;
+      rm = rm_rule.Any;
+      byte_reg = false;
+      byte_rm = false;
+      imm = imm;
+      instruction = record { mnemonic = mnemonic; form = form };
+    }
 
 -- LOCK may not stand
-abbrev pub unlocked : Mnemonic → OperandForm → ImmRule → Operand
-unlocked mnemonic form imm = record { lock = false; rm = rm_rule.Any; byte_reg = false; byte_rm = false; imm = imm; instruction = record { mnemonic = mnemonic; form = form } }
+abbrev pub not_lockable : Mnemonic → OperandForm → ImmRule → ModRmOpcode
+not_lockable mnemonic form imm =
+    record {
+      lock = false;
+      rm = rm_rule.Any;
+      byte_reg = false;
+      byte_rm = false;
+      imm = imm;
+      instruction = record { mnemonic = mnemonic; form = form };
+    }
 
 -- rm names memory, whose address is the operand (M in the SDM)
-abbrev pub address : Mnemonic → OperandForm → Operand
-address mnemonic form = record { lock = false; rm = rm_rule.Memory; byte_reg = false; byte_rm = false; imm = imm_rule.None; instruction = record { mnemonic = mnemonic; form = form } }
+abbrev pub address : Mnemonic → OperandForm → ModRmOpcode
+address mnemonic form =
+    record {
+      lock = false;
+      rm = rm_rule.Memory;
+      byte_reg = false;
+      byte_rm = false;
+      imm = imm_rule.None;
+      instruction = record { mnemonic = mnemonic; form = form };
+    }
 
 -- both operands are bytes (Eb and Gb)
-abbrev pub of_bytes : Mnemonic → OperandForm → Operand
-of_bytes mnemonic form = record { lock = false; rm = rm_rule.Any; byte_reg = true; byte_rm = true; imm = imm_rule.None; instruction = record { mnemonic = mnemonic; form = form } }
+abbrev pub of_bytes : Mnemonic → OperandForm → ModRmOpcode
+of_bytes mnemonic form =
+    record {
+      lock = false;
+      rm = rm_rule.Any;
+      byte_reg = true;
+      byte_rm = true;
+      imm = imm_rule.None;
+      instruction = record { mnemonic = mnemonic; form = form };
+    }
 
 -- rm is a byte, and reg is not (Eb and Gv)
-abbrev pub from_byte : Mnemonic → OperandForm → Operand
-from_byte mnemonic form = record { lock = false; rm = rm_rule.Any; byte_reg = false; byte_rm = true; imm = imm_rule.None; instruction = record { mnemonic = mnemonic; form = form } }
+abbrev pub from_byte : Mnemonic → OperandForm → ModRmOpcode
+from_byte mnemonic form =
+    record {
+      lock = false;
+      rm = rm_rule.Any;
+      byte_reg = false;
+      byte_rm = true;
+      imm = imm_rule.None;
+      instruction = record { mnemonic = mnemonic; form = form };
+    }
 
 -- no ModRM byte
 abbrev pub plain : RexRule → Mnemonic → OperandForm → ImmRule → Cell
-plain rex mnemonic form imm = Plain (record { rex = rex; imm = imm; instruction = record { mnemonic = mnemonic; form = form } })
+plain rex mnemonic form imm = NoModRm (record { rex = rex; imm = imm; instruction = record { mnemonic = mnemonic; form = form } })
 
 -- ---- rows
 
@@ -73,38 +113,38 @@ span low high cell = record { opcodes = Span low high; cell = cell }
 abbrev pub one_byte_rows : List Row
 one_byte_rows =
     row 0x01 (ModRm (lockable Add RmReg imm_rule.None))
-    ∷ row 0x03 (ModRm (unlocked Add RegRm imm_rule.None))
+    ∷ row 0x03 (ModRm (not_lockable Add RegRm imm_rule.None))
     ∷ row 0x05 (plain Permitted Add AccImm imm_rule.I32)
     ∷ row 0x09 (ModRm (lockable Or RmReg imm_rule.None))
-    ∷ row 0x0B (ModRm (unlocked Or RegRm imm_rule.None))
+    ∷ row 0x0B (ModRm (not_lockable Or RegRm imm_rule.None))
     ∷ row 0x0D (plain Permitted Or AccImm imm_rule.I32)
     ∷ row 0x21 (ModRm (lockable And RmReg imm_rule.None))
-    ∷ row 0x23 (ModRm (unlocked And RegRm imm_rule.None))
+    ∷ row 0x23 (ModRm (not_lockable And RegRm imm_rule.None))
     ∷ row 0x25 (plain Permitted And AccImm imm_rule.I32)
     ∷ row 0x29 (ModRm (lockable Sub RmReg imm_rule.None))
-    ∷ row 0x2B (ModRm (unlocked Sub RegRm imm_rule.None))
+    ∷ row 0x2B (ModRm (not_lockable Sub RegRm imm_rule.None))
     ∷ row 0x2D (plain Permitted Sub AccImm imm_rule.I32)
     ∷ row 0x31 (ModRm (lockable Xor RmReg imm_rule.None))
-    ∷ row 0x33 (ModRm (unlocked Xor RegRm imm_rule.None))
+    ∷ row 0x33 (ModRm (not_lockable Xor RegRm imm_rule.None))
     ∷ row 0x35 (plain Permitted Xor AccImm imm_rule.I32)
-    ∷ row 0x39 (ModRm (unlocked Cmp RmReg imm_rule.None))
-    ∷ row 0x3B (ModRm (unlocked Cmp RegRm imm_rule.None))
+    ∷ row 0x39 (ModRm (not_lockable Cmp RmReg imm_rule.None))
+    ∷ row 0x3B (ModRm (not_lockable Cmp RegRm imm_rule.None))
     ∷ row 0x3D (plain Permitted Cmp AccImm imm_rule.I32)
     ∷ span 0x50 0x57 (plain Permitted Push Opcode imm_rule.None)
     ∷ span 0x58 0x5F (plain Permitted Pop Opcode imm_rule.None)
     ∷ row 0x68 (plain Refused Push Imm imm_rule.I32)
-    ∷ row 0x69 (ModRm (unlocked Imul RegRmImm imm_rule.I32))
+    ∷ row 0x69 (ModRm (not_lockable Imul RegRmImm imm_rule.I32))
     ∷ row 0x6A (plain Refused Push Imm imm_rule.I8)
-    ∷ row 0x6B (ModRm (unlocked Imul RegRmImm imm_rule.I8))
+    ∷ row 0x6B (ModRm (not_lockable Imul RegRmImm imm_rule.I8))
     ∷ span 0x70 0x7F (plain Refused Jcc Relative imm_rule.I8)
     ∷ row 0x81 (Extended Group1 RmImm imm_rule.I32)
     ∷ row 0x83 (Extended Group1 RmImm imm_rule.I8)
-    ∷ row 0x85 (ModRm (unlocked Test RmReg imm_rule.None))
+    ∷ row 0x85 (ModRm (not_lockable Test RmReg imm_rule.None))
     ∷ row 0x87 (ModRm (lockable Xchg RmReg imm_rule.None))
     ∷ row 0x88 (ModRm (of_bytes Mov RmReg))
-    ∷ row 0x89 (ModRm (unlocked Mov RmReg imm_rule.None))
+    ∷ row 0x89 (ModRm (not_lockable Mov RmReg imm_rule.None))
     ∷ row 0x8A (ModRm (of_bytes Mov RegRm))
-    ∷ row 0x8B (ModRm (unlocked Mov RegRm imm_rule.None))
+    ∷ row 0x8B (ModRm (not_lockable Mov RegRm imm_rule.None))
     ∷ row 0x8D (ModRm (address Lea RegRm))
     ∷ row 0x90 (plain Refused Nop Nothing imm_rule.None)
     ∷ span 0xB8 0xBF (plain Permitted Mov OpcodeImm imm_rule.Wide)
@@ -126,10 +166,10 @@ two_byte_rows =
     ∷ row 0x0B (plain Refused Ud2 Nothing imm_rule.None)
     ∷ row 0x1F (Extended Group16 Rm imm_rule.None)
     ∷ span 0x80 0x8F (plain Refused Jcc Relative imm_rule.I32)
-    ∷ row 0xAF (ModRm (unlocked Imul RegRm imm_rule.None))
+    ∷ row 0xAF (ModRm (not_lockable Imul RegRm imm_rule.None))
     ∷ row 0xB1 (ModRm (lockable Cmpxchg RmReg imm_rule.None))
     ∷ row 0xB6 (ModRm (from_byte Movzx RegRm))
-    ∷ row 0xBC (ModRm (unlocked Bsf RegRm imm_rule.None))
+    ∷ row 0xBC (ModRm (not_lockable Bsf RegRm imm_rule.None))
     ∷ row 0xC1 (ModRm (lockable Xadd RmReg imm_rule.None))
     ∷ []
 

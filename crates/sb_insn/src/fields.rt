@@ -32,7 +32,7 @@ ghost use Rattle.sb_insn.specs.Fields.{
 };
 
 use crate::insn::{Disp, DispKind, Imm, ImmKind};
-use crate::opcode_map::{Cell, ImmRule, Operand, RexRule, RmRule};
+use crate::opcode_map::{Cell, ImmRule, ModRmOpcode, RexRule, RmRule};
 use crate::opcodes::operand_of;
 
 // ---- REX (SDM volume 2, section 2.2.1)
@@ -161,7 +161,7 @@ fn is_register(modrm: u8) -> bool
 
 /// Whether a byte register is named that only a REX byte gives: without one, 4 to 7 are AH, CH, DH and BH.
 #[inline(always)]
-fn needs_rex(operand: &Operand, modrm: u8) -> bool
+fn needs_rex(operand: &ModRmOpcode, modrm: u8) -> bool
     ensures { result ≡ needs_rex operand.now modrm }
 {
     (operand.byte_reg && reg_field(modrm) >= 4)
@@ -193,7 +193,7 @@ fn permits_rm(rule: RmRule, modrm: u8) -> bool
 /// Whether an opcode with these operands permits this ModRM byte behind these prefixes.
 #[inline(always)]
 #[tactic(auto, unfolding(crate::specs::Fields::permits))]
-fn permits(operand: &Operand, lock: bool, rex: Option<u8>, modrm: u8) -> bool
+fn permits(operand: &ModRmOpcode, lock: bool, rex: Option<u8>, modrm: u8) -> bool
     ensures { result ≡ permits operand.now lock rex modrm }
 {
     (!lock || (operand.lock && !is_register(modrm)))
@@ -217,7 +217,7 @@ pub fn stands_alone(cell: Cell, lock: bool, rex: Option<u8>) -> bool
     ensures { result ≡ stands_alone cell lock rex }
 {
     match cell {
-        Cell::Plain(plain) => !lock && permits_rex(plain.rex, rex),
+        Cell::NoModRm(plain) => !lock && permits_rex(plain.rex, rex),
         Cell::Absent | Cell::ModRm(_) | Cell::Extended(..) => false,
     }
 }
@@ -291,7 +291,7 @@ fn rule_of(cell: Cell, modrm: Option<u8>) -> ImmRule
 {
     match modrm {
         None => match cell {
-            Cell::Plain(plain) => plain.imm,
+            Cell::NoModRm(plain) => plain.imm,
             _ => ImmRule::None,
         },
         Some(modrm) => match operand_of(cell, reg_field(modrm)) {

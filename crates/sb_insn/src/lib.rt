@@ -28,7 +28,8 @@ pub use fields::{
 pub use insn::{Disp, DispKind, Imm, ImmKind, Insn, Op};
 pub use listing::{instruction_of, operand_for, valid_is_listed};
 pub use opcode_map::{
-    Cell, Group, ImmRule, Instruction, Mnemonic, Operand, OperandForm, Plain, RexRule, RmRule,
+    Cell, Group, ImmRule, Instruction, Mnemonic, ModRmOpcode, NoModRmOpcode, OperandForm, RexRule,
+    RmRule,
 };
 pub use opcodes::cell_of;
 pub use registers::{Flags, Regs};

@@ -1,11 +1,11 @@
 //! Which instruction of the opcode maps an `Insn` is.
 
 ghost use Rattle.std.specs.Prelude.{◌≡◌};
-ghost use Rattle.sb_insn.specs.Listing.{named, instruction_of as instruction_at, operand_for as operand_at, ValidListed};
+ghost use Rattle.sb_insn.specs.Listing.{named_instruction, instruction_of, operand_for, ValidListed};
 
 use crate::fields::reg_field;
 use crate::insn::Insn;
-use crate::opcode_map::{Cell, Instruction, Operand};
+use crate::opcode_map::{Cell, Instruction, ModRmOpcode};
 use crate::opcodes::{cell_of, operand_of};
 
 /// What the opcode maps say of its ModRM byte; `None` where no ModRM byte stands, or where its opcode has none or its
@@ -13,8 +13,8 @@ use crate::opcodes::{cell_of, operand_of};
 ///
 /// It looks at the opcode, and at the reg field of ModRM where the opcode is of a group; the rest may be invalid.
 #[tactic(auto, unfolding(crate::specs::Listing::operand_for))]
-pub fn operand_for(insn: &Insn) -> Option<Operand>
-    ensures { result ≡ operand_at insn.now }
+pub fn operand_for(insn: &Insn) -> Option<ModRmOpcode>
+    ensures { result ≡ operand_for insn.now }
 {
     match insn.modrm {
         None => None,
@@ -23,8 +23,8 @@ pub fn operand_for(insn: &Insn) -> Option<Operand>
 }
 
 /// The instruction of an operand.
-fn named(operand: Option<Operand>) -> Option<Instruction>
-    ensures { result ≡ named operand }
+fn named_instruction(operand: Option<ModRmOpcode>) -> Option<Instruction>
+    ensures { result ≡ named_instruction operand }
 {
     match operand {
         None => None,
@@ -38,13 +38,13 @@ fn named(operand: Option<Operand>) -> Option<Instruction>
 /// It looks at the opcode, and at the reg field of ModRM where the opcode is of a group; the rest may be invalid.
 #[tactic(auto, unfolding(crate::specs::Listing::instruction_of, crate::specs::Listing::operand_for))]
 pub fn instruction_of(insn: &Insn) -> Option<Instruction>
-    ensures { result ≡ instruction_at insn.now }
+    ensures { result ≡ instruction_of insn.now }
 {
     match cell_of(insn.op) {
         Cell::Absent => None,
-        Cell::Plain(plain) => Some(plain.instruction),
+        Cell::NoModRm(plain) => Some(plain.instruction),
         Cell::ModRm(operand) => Some(operand.instruction),
-        Cell::Extended(..) => named(operand_for(insn)),
+        Cell::Extended(..) => named_instruction(operand_for(insn)),
     }
 }
 

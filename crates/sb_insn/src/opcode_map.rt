@@ -145,7 +145,7 @@ pub enum ImmRule {
 
 /// What stands with an opcode that has no ModRM byte. LOCK never does.
 #[derive(Clone, Copy, Debug, PartialEq, Eq)]
-pub struct Plain {
+pub struct NoModRmOpcode {
     /// Whether REX may stand.
     pub rex: RexRule,
     /// Which immediate stands.
@@ -156,7 +156,7 @@ pub struct Plain {
 
 /// What stands with an opcode that has a ModRM byte. REX may always.
 #[derive(Clone, Copy, Debug, PartialEq, Eq)]
-pub struct Operand {
+pub struct ModRmOpcode {
     /// LOCK may stand, where rm names memory.
     pub lock: bool,
     /// What rm may name.
@@ -194,9 +194,9 @@ pub enum Cell {
     /// No instruction of the subset.
     Absent,
     /// An opcode without ModRM byte.
-    Plain(Plain),
+    NoModRm(NoModRmOpcode),
     /// An opcode with a ModRM byte.
-    ModRm(Operand),
+    ModRm(ModRmOpcode),
     /// An opcode that the reg field of its ModRM byte extends, with the operands and the immediate of its group.
     Extended(Group, OperandForm, ImmRule),
 }

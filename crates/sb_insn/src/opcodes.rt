@@ -5,8 +5,8 @@
 //! and `D3` /6; `F7` /1 and /5.
 
 ghost use Rattle.std.specs.Prelude.{◌≡◌};
-ghost use Rattle.sb_insn.specs.OpcodeMap.{one_byte, two_byte, cell_of as cell_at, lockable, unlocked, address, of_bytes, from_byte, plain};
-ghost use Rattle.sb_insn.specs.Groups.{group_operand, operand_of as operand_at};
+ghost use Rattle.sb_insn.specs.OpcodeMap.{one_byte, two_byte, cell_of, lockable, not_lockable, address, of_bytes, from_byte, plain};
+ghost use Rattle.sb_insn.specs.Groups.{group_operand, operand_of};
 
 use crate::insn::Op;
 use crate::opcode_map::Mnemonic::{
@@ -19,14 +19,15 @@ use crate::opcode_map::OperandForm::{
 };
 use crate::opcode_map::RexRule::{Permitted, Refused};
 use crate::opcode_map::{
-    Cell, Group, ImmRule, Instruction, Mnemonic, Operand, OperandForm, Plain, RexRule, RmRule,
+    Cell, Group, ImmRule, Instruction, Mnemonic, ModRmOpcode, NoModRmOpcode, OperandForm, RexRule,
+    RmRule,
 };
 
 /// rm is a destination: LOCK may stand where it names memory.
-const fn lockable(mnemonic: Mnemonic, form: OperandForm, imm: ImmRule) -> Operand
+const fn lockable(mnemonic: Mnemonic, form: OperandForm, imm: ImmRule) -> ModRmOpcode
     ensures { result ≡ lockable mnemonic form imm }
 {
-    Operand {
+    ModRmOpcode {
         lock: true,
         rm: RmRule::Any,
         byte_reg: false,
@@ -37,10 +38,10 @@ const fn lockable(mnemonic: Mnemonic, form: OperandForm, imm: ImmRule) -> Operan
 }
 
 /// LOCK may not stand.
-const fn unlocked(mnemonic: Mnemonic, form: OperandForm, imm: ImmRule) -> Operand
-    ensures { result ≡ unlocked mnemonic form imm }
+const fn not_lockable(mnemonic: Mnemonic, form: OperandForm, imm: ImmRule) -> ModRmOpcode
+    ensures { result ≡ not_lockable mnemonic form imm }
 {
-    Operand {
+    ModRmOpcode {
         lock: false,
         rm: RmRule::Any,
         byte_reg: false,
@@ -51,10 +52,10 @@ const fn unlocked(mnemonic: Mnemonic, form: OperandForm, imm: ImmRule) -> Operan
 }
 
 /// rm names memory, whose address is the operand.
-const fn address(mnemonic: Mnemonic, form: OperandForm) -> Operand
+const fn address(mnemonic: Mnemonic, form: OperandForm) -> ModRmOpcode
     ensures { result ≡ address mnemonic form }
 {
-    Operand {
+    ModRmOpcode {
         lock: false,
         rm: RmRule::Memory,
         byte_reg: false,
@@ -65,10 +66,10 @@ const fn address(mnemonic: Mnemonic, form: OperandForm) -> Operand
 }
 
 /// Both operands are bytes.
-const fn of_bytes(mnemonic: Mnemonic, form: OperandForm) -> Operand
+const fn of_bytes(mnemonic: Mnemonic, form: OperandForm) -> ModRmOpcode
     ensures { result ≡ of_bytes mnemonic form }
 {
-    Operand {
+    ModRmOpcode {
         lock: false,
         rm: RmRule::Any,
         byte_reg: true,
@@ -79,10 +80,10 @@ const fn of_bytes(mnemonic: Mnemonic, form: OperandForm) -> Operand
 }
 
 /// rm is a byte, and reg is not.
-const fn from_byte(mnemonic: Mnemonic, form: OperandForm) -> Operand
+const fn from_byte(mnemonic: Mnemonic, form: OperandForm) -> ModRmOpcode
     ensures { result ≡ from_byte mnemonic form }
 {
-    Operand {
+    ModRmOpcode {
         lock: false,
         rm: RmRule::Any,
         byte_reg: false,
@@ -96,7 +97,7 @@ const fn from_byte(mnemonic: Mnemonic, form: OperandForm) -> Operand
 const fn plain(rex: RexRule, mnemonic: Mnemonic, form: OperandForm, imm: ImmRule) -> Cell
     ensures { result ≡ plain rex mnemonic form imm }
 {
-    Cell::Plain(Plain {
+    Cell::NoModRm(NoModRmOpcode {
         rex,
         imm,
         instruction: Instruction { mnemonic, form },
@@ -110,38 +111,38 @@ fn one_byte(opcode: u8) -> Cell
 {
     match opcode {
         0x01 => Cell::ModRm(lockable(Add, RmReg, ImmRule::None)),
-        0x03 => Cell::ModRm(unlocked(Add, RegRm, ImmRule::None)),
+        0x03 => Cell::ModRm(not_lockable(Add, RegRm, ImmRule::None)),
         0x05 => plain(Permitted, Add, AccImm, ImmRule::I32),
         0x09 => Cell::ModRm(lockable(Or, RmReg, ImmRule::None)),
-        0x0B => Cell::ModRm(unlocked(Or, RegRm, ImmRule::None)),
+        0x0B => Cell::ModRm(not_lockable(Or, RegRm, ImmRule::None)),
         0x0D => plain(Permitted, Or, AccImm, ImmRule::I32),
         0x21 => Cell::ModRm(lockable(And, RmReg, ImmRule::None)),
-        0x23 => Cell::ModRm(unlocked(And, RegRm, ImmRule::None)),
+        0x23 => Cell::ModRm(not_lockable(And, RegRm, ImmRule::None)),
         0x25 => plain(Permitted, And, AccImm, ImmRule::I32),
         0x29 => Cell::ModRm(lockable(Sub, RmReg, ImmRule::None)),
-        0x2B => Cell::ModRm(unlocked(Sub, RegRm, ImmRule::None)),
+        0x2B => Cell::ModRm(not_lockable(Sub, RegRm, ImmRule::None)),
         0x2D => plain(Permitted, Sub, AccImm, ImmRule::I32),
         0x31 => Cell::ModRm(lockable(Xor, RmReg, ImmRule::None)),
-        0x33 => Cell::ModRm(unlocked(Xor, RegRm, ImmRule::None)),
+        0x33 => Cell::ModRm(not_lockable(Xor, RegRm, ImmRule::None)),
         0x35 => plain(Permitted, Xor, AccImm, ImmRule::I32),
-        0x39 => Cell::ModRm(unlocked(Cmp, RmReg, ImmRule::None)),
-        0x3B => Cell::ModRm(unlocked(Cmp, RegRm, ImmRule::None)),
+        0x39 => Cell::ModRm(not_lockable(Cmp, RmReg, ImmRule::None)),
+        0x3B => Cell::ModRm(not_lockable(Cmp, RegRm, ImmRule::None)),
         0x3D => plain(Permitted, Cmp, AccImm, ImmRule::I32),
         0x50..=0x57 => plain(Permitted, Push, Opcode, ImmRule::None),
         0x58..=0x5F => plain(Permitted, Pop, Opcode, ImmRule::None),
         0x68 => plain(Refused, Push, Imm, ImmRule::I32),
-        0x69 => Cell::ModRm(unlocked(Imul, RegRmImm, ImmRule::I32)),
+        0x69 => Cell::ModRm(not_lockable(Imul, RegRmImm, ImmRule::I32)),
         0x6A => plain(Refused, Push, Imm, ImmRule::I8),
-        0x6B => Cell::ModRm(unlocked(Imul, RegRmImm, ImmRule::I8)),
+        0x6B => Cell::ModRm(not_lockable(Imul, RegRmImm, ImmRule::I8)),
         0x70..=0x7F => plain(Refused, Jcc, Relative, ImmRule::I8),
         0x81 => Cell::Extended(Group::Group1, RmImm, ImmRule::I32),
         0x83 => Cell::Extended(Group::Group1, RmImm, ImmRule::I8),
-        0x85 => Cell::ModRm(unlocked(Test, RmReg, ImmRule::None)),
+        0x85 => Cell::ModRm(not_lockable(Test, RmReg, ImmRule::None)),
         0x87 => Cell::ModRm(lockable(Xchg, RmReg, ImmRule::None)),
         0x88 => Cell::ModRm(of_bytes(Mov, RmReg)),
-        0x89 => Cell::ModRm(unlocked(Mov, RmReg, ImmRule::None)),
+        0x89 => Cell::ModRm(not_lockable(Mov, RmReg, ImmRule::None)),
         0x8A => Cell::ModRm(of_bytes(Mov, RegRm)),
-        0x8B => Cell::ModRm(unlocked(Mov, RegRm, ImmRule::None)),
+        0x8B => Cell::ModRm(not_lockable(Mov, RegRm, ImmRule::None)),
         0x8D => Cell::ModRm(address(Lea, RegRm)),
         0x90 => plain(Refused, Nop, Nothing, ImmRule::None),
         0xB8..=0xBF => plain(Permitted, Mov, OpcodeImm, ImmRule::Wide),
@@ -168,10 +169,10 @@ fn two_byte(opcode: u8) -> Cell
         0x0B => plain(Refused, Ud2, Nothing, ImmRule::None),
         0x1F => Cell::Extended(Group::Group16, Rm, ImmRule::None),
         0x80..=0x8F => plain(Refused, Jcc, Relative, ImmRule::I32),
-        0xAF => Cell::ModRm(unlocked(Imul, RegRm, ImmRule::None)),
+        0xAF => Cell::ModRm(not_lockable(Imul, RegRm, ImmRule::None)),
         0xB1 => Cell::ModRm(lockable(Cmpxchg, RmReg, ImmRule::None)),
         0xB6 => Cell::ModRm(from_byte(Movzx, RegRm)),
-        0xBC => Cell::ModRm(unlocked(Bsf, RegRm, ImmRule::None)),
+        0xBC => Cell::ModRm(not_lockable(Bsf, RegRm, ImmRule::None)),
         0xC1 => Cell::ModRm(lockable(Xadd, RmReg, ImmRule::None)),
         _ => Cell::Absent,
     }
@@ -179,7 +180,7 @@ fn two_byte(opcode: u8) -> Cell
 
 /// What the opcode maps say of an opcode.
 pub fn cell_of(op: Op) -> Cell
-    ensures { result ≡ cell_at op }
+    ensures { result ≡ cell_of op }
 {
     match op {
         Op::One(opcode) => one_byte(opcode),
@@ -192,7 +193,7 @@ pub fn cell_of(op: Op) -> Cell
 /// What a reg field makes of an opcode of the group, whose operands and immediate the opcode gives.
 #[inline(always)]
 #[tactic(auto, unfolding(crate::specs::Groups::group_operand))]
-fn group_operand(group: Group, form: OperandForm, imm: ImmRule, digit: u8) -> Option<Operand>
+fn group_operand(group: Group, form: OperandForm, imm: ImmRule, digit: u8) -> Option<ModRmOpcode>
     ensures { result ≡ group_operand group form imm digit }
 {
     match (group, digit) {
@@ -201,31 +202,31 @@ fn group_operand(group: Group, form: OperandForm, imm: ImmRule, digit: u8) -> Op
         (Group::Group1, 4) => Some(lockable(And, form, imm)),
         (Group::Group1, 5) => Some(lockable(Sub, form, imm)),
         (Group::Group1, 6) => Some(lockable(Xor, form, imm)),
-        (Group::Group1, 7) => Some(unlocked(Cmp, form, imm)),
-        (Group::Group2, 4) => Some(unlocked(Shl, form, imm)),
-        (Group::Group2, 5) => Some(unlocked(Shr, form, imm)),
-        (Group::Group2, 7) => Some(unlocked(Sar, form, imm)),
-        (Group::Group3, 0) => Some(unlocked(Test, RmImm, ImmRule::I32)),
+        (Group::Group1, 7) => Some(not_lockable(Cmp, form, imm)),
+        (Group::Group2, 4) => Some(not_lockable(Shl, form, imm)),
+        (Group::Group2, 5) => Some(not_lockable(Shr, form, imm)),
+        (Group::Group2, 7) => Some(not_lockable(Sar, form, imm)),
+        (Group::Group3, 0) => Some(not_lockable(Test, RmImm, ImmRule::I32)),
         (Group::Group3, 2) => Some(lockable(Not, form, imm)),
         (Group::Group3, 3) => Some(lockable(Neg, form, imm)),
         (Group::Group5, 0) => Some(lockable(Inc, form, imm)),
         (Group::Group5, 1) => Some(lockable(Dec, form, imm)),
-        (Group::Group5, 2) => Some(unlocked(Call, form, imm)),
-        (Group::Group5, 4) => Some(unlocked(Jmp, form, imm)),
-        (Group::Group5, 6) => Some(unlocked(Push, form, imm)),
-        (Group::Group11, 0) => Some(unlocked(Mov, form, imm)),
-        (Group::Group16, 0) => Some(unlocked(Nop, form, imm)),
+        (Group::Group5, 2) => Some(not_lockable(Call, form, imm)),
+        (Group::Group5, 4) => Some(not_lockable(Jmp, form, imm)),
+        (Group::Group5, 6) => Some(not_lockable(Push, form, imm)),
+        (Group::Group11, 0) => Some(not_lockable(Mov, form, imm)),
+        (Group::Group16, 0) => Some(not_lockable(Nop, form, imm)),
         _ => None,
     }
 }
 
 /// What a ModRM byte with this reg field means behind an opcode.
 #[inline(always)]
-pub fn operand_of(cell: Cell, reg: u8) -> Option<Operand>
-    ensures { result ≡ operand_at cell reg }
+pub fn operand_of(cell: Cell, reg: u8) -> Option<ModRmOpcode>
+    ensures { result ≡ operand_of cell reg }
 {
     match cell {
-        Cell::Absent | Cell::Plain(_) => None,
+        Cell::Absent | Cell::NoModRm(_) => None,
         Cell::ModRm(operand) => Some(operand),
         Cell::Extended(group, form, imm) => group_operand(group, form, imm, reg),
     }

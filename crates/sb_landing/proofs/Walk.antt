@@ -14,7 +14,7 @@ use Rattle.sb_exec.proofs.Accesses.{row_without_store_runs}
 use Rattle.sb_state.specs.declared.state.Flight.{Flight}
 use Rattle.sb_trace.specs.State.{State, flight_at, with_flight}
 use Rattle.sb_trace.specs.PlainMemory.{plain, plain_byte}
-use Rattle.sb_trace.specs.Step.{executed}
+use Rattle.sb_trace.specs.Step.{execution_in_view}
 use Rattle.sb_landing.specs.Moved.{landing_regs}
 use Rattle.sb_landing.specs.Rows.{row_at}
 use Rattle.sb_landing.specs.Stages.{Stage}
@@ -28,19 +28,24 @@ Finds state number view loads word = row_load_answer (plain number view) loads s
 abbrev pub only_regs : State → Regs → Execution State (Unit {0})
 only_regs state regs = record { answer = Ok Next; registers = regs; meaning = state; account = tt }
 
-pub leads_on : (state : State) (number view : ℕ) (start : Regs) (from to : Stage) (loads : Load) (word : ℕ) → Leads start from to loads word
-    → Finds state number view loads word → executed state number view (row_at from.phase).insn (landing_regs start from.moved) ≡ only_regs state (landing_regs start to.moved)
+pub leads_on : (state : State) (number view : ℕ) (start : Regs) (from to : Stage) (loads : Load) (word : ℕ)
+    → Leads start from to loads word
+    → Finds state number view loads word
+    → execution_in_view state number view (row_at from.phase).insn (landing_regs start from.moved)
+    ≡ only_regs state (landing_regs start to.moved)
 leads_on state number view start from to loads word leads finds =
     ap (λ row. execution_of (plain number view) row (landing_regs start from.moved) state tt) leads.meaning
     ∙ (row_without_store_runs (plain number view) loads leads.after (landing_regs start from.moved) state tt word finds
     ∙ ap (only_regs state) leads.regs)
 
-set_within : {A : Type 0} (list : List (Option A)) (index : ℕ) (value : Option A) → index < length list → unwrap_or (slice_get (slice_set list index value) index) None ≡ value
+set_within : {A : Type 0} (list : List (Option A)) (index : ℕ) (value : Option A) → index < length list
+    → unwrap_or (slice_get (slice_set list index value) index) None ≡ value
 set_within [] index value below = absurd (omega (arith, below))
 set_within (first ∷ list) zero value below = refl
 set_within (first ∷ list) (suc index) value below = set_within list index value (omega (arith, below))
 
 -- where the list of flights has a place for the thread
-pub flight_placed : (state : State) (number : ℕ) (next : Option Flight) → number < length state.flights → flight_at (with_flight state number next) number ≡ next
+pub flight_placed : (state : State) (number : ℕ) (next : Option Flight) → number < length state.flights
+    → flight_at (with_flight state number next) number ≡ next
 unfolding flight_at with_flight
 flight_placed state number next below = set_within state.flights number next below

@@ -13,8 +13,8 @@ use Rattle.sb_trace.specs.State.{Process, process_at}
 use Rattle.sb_trace.specs.State.{State, thread_at, flight_at, with_flight, with_regs}
 use Rattle.sb_trace.specs.Start.{ProcessImage, ThreadEntry, start_state}
 use Rattle.sb_trace.specs.PlainMemory.{plain}
-use Rattle.sb_trace.specs.Flight.{first_flight, flown}
-use Rattle.sb_trace.specs.Step.{Steps, executed}
+use Rattle.sb_trace.specs.Flight.{first_flight, landing_step}
+use Rattle.sb_trace.specs.Step.{Steps, execution_in_view}
 use Rattle.sb_insn.specs.declared.insn.Insn.{Insn}
 use Rattle.std.specs.List.{AllByRecursion}
 use Rattle.sb_trace.specs.Sound.{IsSound}
@@ -105,13 +105,13 @@ StepsKeepBound =
 abbrev pub InstructionsKeepBound : Type 0
 InstructionsKeepBound =
     (old : State) (core view : ℕ) (insn : Insn) (regs after : Regs) → IsBound old
-    → IsBound (with_regs (executed old core view insn regs).meaning core after)
+    → IsBound (with_regs (execution_in_view old core view insn regs).meaning core after)
 
 -- a step in flight
 abbrev pub FlightsKeepBound : Type 0
 FlightsKeepBound =
     (state : State) (core : ℕ) (flight : Flight) → IsSound state → IsBound state → flight_at state core ≡ Some flight
-    → IsBound (flown state core flight).1
+    → IsBound (landing_step state core flight).1
 
 -- ---- the index of a new binding
 

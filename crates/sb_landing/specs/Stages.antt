@@ -2,9 +2,9 @@
 use Rattle.std.specs.Prelude.{ℕ, ◌+◌, ◌-◌, ◌*◌, ◌^◌, List, [], ◌∷◌, false, Option, Some, None, slice_index, bit_and}
 use Rattle.sb_insn.specs.declared.registers.Flags.{Flags}
 use Rattle.sb_insn.specs.declared.registers.Regs.{Regs}
-use Rattle.sb_alu.specs.declared.size.Size.TheVariants.{Quad}
-use Rattle.sb_exec.specs.Arithmetic.{logical, added}
-use Rattle.sb_exec.specs.Shift.{shifted_left}
+use Rattle.sb_alu.specs.declared.size.Size.TheVariants.{Quadword}
+use Rattle.sb_exec.specs.Arithmetic.{logic_outcome, sum_outcome}
+use Rattle.sb_exec.specs.Shift.{shl_outcome}
 use Rattle.sb_state.specs.declared.state.Decision.{Decision}
 use Rattle.sb_state.specs.declared.state.Decision.TheVariants as decision
 use Rattle.sb_trace.specs.Registers.{zero_flags}
@@ -55,20 +55,20 @@ abbrev pub with_mask : Landing → Moved
 with_mask landing = record (begun landing) { rax = landing.mask }
 
 abbrev pub tested : Landing → Moved
-tested landing = record (with_mask landing) { flags = (logical Quad (bit_and landing.mask landing.mask)).flags }
+tested landing = record (with_mask landing) { flags = (logic_outcome Quadword (bit_and landing.mask landing.mask)).flags }
 
 -- the mask without its lowest bit
 abbrev pub lowered : Landing → ℕ
 lowered landing = bit_and (landing.mask - 1) landing.mask
 
 abbrev pub without_bit : Landing → Moved
-without_bit landing = record (tested landing) { rcx = lowered landing; flags = (logical Quad (lowered landing)).flags }
+without_bit landing = record (tested landing) { rcx = lowered landing; flags = (logic_outcome Quadword (lowered landing)).flags }
 
 abbrev pub with_bit : Landing → Moved
 with_bit landing =
     record (without_bit landing) {
       r10 = lowest_bit landing.mask;
-      flags = record ((logical Quad (lowered
+      flags = record ((logic_outcome Quadword (lowered
           landing)).flags) { zf = false };
     }
 
@@ -83,12 +83,12 @@ distance landing = lowest_bit landing.mask * 2 ^ 14
 
 abbrev pub shifted : Landing → Moved
 shifted landing =
-    record (exchanged landing) { r10 = distance landing; flags = (shifted_left Quad (lowest_bit landing.mask) 14).flags }
+    record (exchanged landing) { r10 = distance landing; flags = (shl_outcome Quadword (lowest_bit landing.mask) 14).flags }
 
 abbrev pub on_stack : Landing → Moved
 on_stack landing = record (shifted landing) {
   rsp = landing.base + distance landing;
-  flags = (added Quad landing.base (distance landing)).flags;
+  flags = (sum_outcome Quadword landing.base (distance landing)).flags;
 }
 
 abbrev pub cleared : Moved → Moved

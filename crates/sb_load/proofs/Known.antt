@@ -41,20 +41,27 @@ pub record IsKnown (made : Output) : Type 0 where
 known_prop : (made : Output) → IsProp (IsKnown made)
 known_prop made = hlevel le_prop
 
-known_of : (load : Load) (process : ℕ) → process < length load.bundle.images → IsLoadable load → IsKnown (rewritten_of load.rewritten process)
+known_of : (load : Load) (process : ℕ) → process < length load.bundle.images → IsLoadable load
+    → IsKnown (rewritten_of load.rewritten process)
 known_of load process within known =
     let has = text_of load.bundle.images load.rewritten process within known.grammar.images known.texts in
     let made : Output = rewritten_of load.rewritten process in
-    record { text = counted_text has.text made has.size has.is_rewritten; area = small_area has.text made has.is_rewritten; starts = rising_starts has.text made has.is_rewritten }
+    record {
+      text = counted_text has.text made has.size has.is_rewritten;
+      area = small_area has.text made has.is_rewritten;
+      starts = rising_starts has.text made has.is_rewritten;
+    }
 
 -- what is read at the number of a process is what its text becomes
-pub is_of : (load : Load) (process : ℕ) (made : Output) → process < length load.bundle.images → ∥ IsLoadable load ∥₁ → made ≡ get_or load.rewritten process made
+pub is_of : (load : Load) (process : ℕ) (made : Output) → process < length load.bundle.images → ∥ IsLoadable load ∥₁
+    → made ≡ get_or load.rewritten process made
     → made ≡ rewritten_of load.rewritten process
 is_of load process made within loadable is =
     let below : process < length load.rewritten = omega (arith, text_count load loadable) in
     ap (λ found. unwrap_or found nothing) (sym (slice_get_read load.rewritten (length load.rewritten) process made refl below is))
 
-pub known : (load : Load) (process : ℕ) (made : Output) → process < length load.bundle.images → ∥ IsLoadable load ∥₁ → made ≡ get_or load.rewritten process made → IsKnown made
+pub known : (load : Load) (process : ℕ) (made : Output) → process < length load.bundle.images → ∥ IsLoadable load ∥₁
+    → made ≡ get_or load.rewritten process made → IsKnown made
 known load process made within loadable is =
     subst IsKnown (sym (is_of load process made within loadable is))
     (∥∥₁_elim loadable (known_prop (rewritten_of load.rewritten process)) (λ all. known_of load process within all))

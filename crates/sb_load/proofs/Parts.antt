@@ -23,44 +23,78 @@ as_many [] (made ∷ others) are = absurd are
 as_many (image ∷ images) [] are = absurd are
 as_many (image ∷ images) (made ∷ others) are = ap (λ (n : ℕ). suc n) (as_many images others are.1)
 
-rewritten_push : (images : List Image) (rewritten : List Output) (image : Image) (made : Output) → AreRewritten images rewritten → Rewrites image.text (Ok made)
+rewritten_push : (images : List Image) (rewritten : List Output) (image : Image) (made : Output)
+    → AreRewritten images rewritten → Rewrites image.text (Ok made)
     → AreRewritten (images ++ image ∷ []) (rewritten ++ made ∷ [])
 rewritten_push [] [] image made are one = (one, tt)
 rewritten_push [] (other ∷ rewritten) image made are one = absurd are
 rewritten_push (before ∷ images) [] image made are one = absurd are
-rewritten_push (before ∷ images) (other ∷ rewritten) image made are one = (are.0, rewritten_push images rewritten image made are.1 one)
+rewritten_push (before ∷ images) (other ∷ rewritten) image made are one =
+    (are.0, rewritten_push images rewritten image made are.1 one)
 
-pub one_more_text : (images : List Image) (rewritten more : List Output) (k : ℕ) (image : Image) (text : List ℕ) (made : Output) → k < length images → image ≡ get_or images k image → text ≡ image.text
-    → AreRewritten (take k images) rewritten → Rewrites text (Ok made) → more ≡ rewritten ++ made ∷ [] → AreRewritten (take (k + 1) images) more
+pub one_more_text : (images : List Image) (rewritten more : List Output) (k : ℕ) (image : Image) (text : List ℕ) (made : Output)
+    → k < length images → image ≡ get_or images k image → text ≡ image.text
+    → AreRewritten (take k images) rewritten → Rewrites text (Ok made) → more ≡ rewritten ++ made ∷ []
+    → AreRewritten (take (k + 1) images) more
 one_more_text images rewritten more k image text made within is its_text are one pushed =
     let longer : AreRewritten (take k images ++ image ∷ []) (rewritten ++ made ∷ []) =
     rewritten_push (take k images) rewritten image made are (subst (λ (bytes : List ℕ). Rewrites bytes (Ok made)) its_text one) in
-    let front : take (k + 1) images ≡ take k images ++ image ∷ [] = take_more images k image within ∙ ap (λ (one : Image). take k images ++ one ∷ []) (sym is) in
-    subst (λ (list : List Output). AreRewritten (take (k + 1) images) list) (sym pushed) (subst (λ (list : List Image). AreRewritten list (rewritten ++ made ∷ [])) (sym front) longer)
+    let front : take (k + 1) images ≡ take k images ++ image ∷ [] =
+    take_more images k image within ∙ ap (λ (one : Image). take k images ++ one ∷ []) (sym is) in
+    subst (λ (list : List Output). AreRewritten (take (k + 1) images) list) (sym pushed)
+    (subst (λ (list : List Image). AreRewritten list (rewritten ++ made ∷ [])) (sym front) longer)
 
-refused_at : (images : List Image) (rewritten : List Output) (k : ℕ) (why : RewriteRefusal) (image : Image) → k < length images → image ≡ get_or images k image
+refused_at : (images : List Image) (rewritten : List Output) (k : ℕ) (why : RewriteRefusal) (image : Image)
+    → k < length images → image ≡ get_or images k image
     → AreRewritten (take k images) rewritten → Rewrites image.text (Err why) → why ≢ cause.Memory → IsFirstRefused images k why
 refused_at images rewritten k why image within is are refused not_memory =
-    let cut : images ≡ take k images ++ image ∷ drop (k + 1) images = cut_at images k image within ∙ ap (λ (one : Image). take k images ++ one ∷ drop (k + 1) images) (sym is) in
-    (take k images, image, drop (k + 1) images, cut, sym (length-take-le k images (omega arith)), rewritten, are, refused, not_memory)
+    let cut : images ≡ take k images ++ image ∷ drop (k + 1) images =
+    cut_at images k image within ∙ ap (λ (one : Image). take k images ++ one ∷ drop (k + 1) images) (sym is) in (
+      take k images,
+      image,
+      drop (k + 1) images,
+      cut,
+      sym (length-take-le k images (omega arith)),
+      rewritten,
+      are,
+      refused,
+      not_memory,
+    )
 
-refused_by : (images : List Image) (rewritten : List Output) (k : ℕ) (why : RewriteRefusal) (image : Image) → k < length images → image ≡ get_or images k image
+refused_by : (images : List Image) (rewritten : List Output) (k : ℕ) (why : RewriteRefusal) (image : Image)
+    → k < length images → image ≡ get_or images k image
     → AreRewritten (take k images) rewritten → Rewrites image.text (Err why) → RewritesTexts images (Err (refusal_of k why))
-refused_by images rewritten k (cause.Undecoded at) image within is are refused = refused_at images rewritten k (cause.Undecoded at) image within is are refused (λ same. absurd cc)
-refused_by images rewritten k (cause.BadTarget at) image within is are refused = refused_at images rewritten k (cause.BadTarget at) image within is are refused (λ same. absurd cc)
-refused_by images rewritten k (cause.Unmovable at) image within is are refused = refused_at images rewritten k (cause.Unmovable at) image within is are refused (λ same. absurd cc)
-refused_by images rewritten k (cause.AreaFull at) image within is are refused = refused_at images rewritten k (cause.AreaFull at) image within is are refused (λ same. absurd cc)
-refused_by images rewritten k (cause.Left at) image within is are refused = refused_at images rewritten k (cause.Left at) image within is are refused (λ same. absurd cc)
+refused_by images rewritten k (cause.Undecoded at) image within is are refused =
+    refused_at images rewritten k (cause.Undecoded at) image within is are refused (λ same. absurd cc)
+refused_by images rewritten k (cause.BadTarget at) image within is are refused =
+    refused_at images rewritten k (cause.BadTarget at) image within is are refused (λ same. absurd cc)
+refused_by images rewritten k (cause.Unmovable at) image within is are refused =
+    refused_at images rewritten k (cause.Unmovable at) image within is are refused (λ same. absurd cc)
+refused_by images rewritten k (cause.AreaFull at) image within is are refused =
+    refused_at images rewritten k (cause.AreaFull at) image within is are refused (λ same. absurd cc)
+refused_by images rewritten k (cause.Left at) image within is are refused =
+    refused_at images rewritten k (cause.Left at) image within is are refused (λ same. absurd cc)
 refused_by images rewritten k cause.Memory image within is are refused = tt
 
-pub refused_text : (images : List Image) (rewritten : List Output) (k : ℕ) (why : RewriteRefusal) (image : Image) (text : List ℕ) → k < length images → image ≡ get_or images k image
-    → text ≡ image.text → AreRewritten (take k images) rewritten → Rewrites text (Err why) → RewritesTexts images (Err (refusal_of k why))
+pub refused_text : (images : List Image) (rewritten : List Output) (k : ℕ) (why : RewriteRefusal) (image : Image) (text : List ℕ)
+    → k < length images → image ≡ get_or images k image
+    → text ≡ image.text → AreRewritten (take k images) rewritten → Rewrites text (Err why)
+    → RewritesTexts images (Err (refusal_of k why))
 refused_text images rewritten k why image text within is its_text are refused =
     refused_by images rewritten k why image within is are (subst (λ (bytes : List ℕ). Rewrites bytes (Err why)) its_text refused)
 
 -- ---- cores
 
-pub refused_core : (rewritten : List Output) (cores : List CoreStart) (k : ℕ) (d : CoreStart) → k < length cores → AllByRecursion (HasEntry rewritten) (take k cores) → ¬ HasEntry rewritten (get_or cores k d)
+pub refused_core : (rewritten : List Output) (cores : List CoreStart) (k : ℕ) (d : CoreStart) → k < length cores
+    → AllByRecursion (HasEntry rewritten) (take k cores) → ¬ HasEntry rewritten (get_or cores k d)
     → IsFirstBadEntry rewritten cores k (get_or cores k d).entry
-refused_core rewritten cores k d within all wrong =
-    (take k cores, get_or cores k d, drop (k + 1) cores, cut_at cores k d within, sym (length-take-le k cores (omega arith)), all, wrong, refl)
+refused_core rewritten cores k d within all wrong = (
+  take k cores,
+  get_or cores k d,
+  drop (k + 1) cores,
+  cut_at cores k d within,
+  sym (length-take-le k cores (omega arith)),
+  all,
+  wrong,
+  refl,
+)

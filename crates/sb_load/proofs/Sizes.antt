@@ -9,7 +9,7 @@ use Rattle.sb_insn.specs.Spelling.{spelling}
 use Rattle.sb_forms.specs.declared.answer.Form.{Form}
 use Rattle.sb_forms.specs.declared.answer.Form.TheVariants as form
 use Rattle.sb_forms.specs.Answers.{IsSmall, HasRoom}
-use Rattle.sb_forms.specs.Pieces.{jump}
+use Rattle.sb_forms.specs.Pieces.{jump_insn}
 use Rattle.sb_forms.specs.Table.{form_of}
 use Rattle.sb_forms.proofs.Room.{form_roomy}
 use Rattle.sb_bundle.specs.declared.bundle.Image.{Image}
@@ -26,7 +26,8 @@ use Rattle.sb_load.specs.Checks.{HasSmallArea, AllSmallAreas}
 -- ---- the area
 
 -- slots that do not end behind the area are in it
-slots_within : (text : List ℕ) (at slot : ℕ) (insns : List Insn) → slot ≤ area_end → NoneOf EndsBehindArea (places_from text at slot insns)
+slots_within : (text : List ℕ) (at slot : ℕ) (insns : List Insn) → slot ≤ area_end
+    → NoneOf EndsBehindArea (places_from text at slot insns)
     → slot + length (flat_map area_bytes (places_from text at slot insns)) ≤ area_end
 unfolding places_from
 slots_within text at slot [] within none = omega arith
@@ -36,12 +37,14 @@ slots_within text at slot (insn ∷ insns) within none =
     let later : List Place = places_from text (at + length (spelling insn)) next insns in
     let ends : area_end < next → ⊥ = none.0 in
     let fits : next ≤ area_end = omega arith in
-    let behind : next + length (flat_map area_bytes later) ≤ area_end = slots_within text (at + length (spelling insn)) next insns fits none.1 in
+    let behind : next + length (flat_map area_bytes later) ≤ area_end =
+    slots_within text (at + length (spelling insn)) next insns fits none.1 in
     omega (arith, length-append (area_bytes first) (flat_map area_bytes later))
 
 pub small_area : (text : List ℕ) (made : Output) → Rewrites text (Ok made) → HasSmallArea made
 small_area text made (of_text, are, fits, is, free) =
-    let none : NoneOf EndsBehindArea (places text are.insns) = subst (λ (list : List Place). NoneOf EndsBehindArea list) are.places_are fits.1 in
+    let none : NoneOf EndsBehindArea (places text are.insns) =
+    subst (λ (list : List Place). NoneOf EndsBehindArea list) are.places_are fits.1 in
     let within = slots_within text text_address area_address are.insns (omega arith) none in
     let size : length made.area ≡ length (flat_map area_bytes (places text are.insns)) =
     ap (λ (one : Output). length one.area) is ∙ ap (λ (list : List Place). length (flat_map area_bytes list)) are.places_are in
@@ -55,8 +58,8 @@ small_areas (image ∷ images) (made ∷ others) are = (small_area image.text ma
 
 -- ---- the text
 
-jump_size : (from to : ℕ) → length (spelling (jump from to)) ≡ 5
-unfolding jump
+jump_size : (from to : ℕ) → length (spelling (jump_insn from to)) ≡ 5
+unfolding jump_insn
 jump_size from to = refl
 
 -- in place of an instruction stand at most six times as many bytes
@@ -69,12 +72,13 @@ bytes_bound (form.Moved pre main post) insn at slot roomy =
       arith,
       some_spelling insn,
       jump_size at slot,
-      length-append (spelling (jump at slot)) (replicate (length (spelling insn) - 5) 0x90),
+      length-append (spelling (jump_insn at slot)) (replicate (length (spelling insn) - 5) 0x90),
       length-replicate {A = ℕ} (length (spelling insn) - 5) 0x90,
     )
 bytes_bound form.Unmovable insn at slot roomy = omega arith
 
-text_bound : (text : List ℕ) (at slot : ℕ) (insns : List Insn) → AllValid insns → length (flat_map text_bytes (places_from text at slot insns)) ≤ 6 * length (spelled insns)
+text_bound : (text : List ℕ) (at slot : ℕ) (insns : List Insn) → AllValid insns
+    → length (flat_map text_bytes (places_from text at slot insns)) ≤ 6 * length (spelled insns)
 unfolding places_from
 text_bound text at slot [] valid = omega arith
 text_bound text at slot (insn ∷ insns) valid =
@@ -97,7 +101,8 @@ counted_text text made size (of_text, are, fits, is, free) =
 -- ---- the starts
 
 pub rising_starts : (text : List ℕ) (made : Output) → Rewrites text (Ok made) → IsStrictlyIncreasing made.starts
-rising_starts text made (of_text, are, fits, is, free) = subst (λ (one : Output). IsStrictlyIncreasing one.starts) (sym is) (ordered text of_text are).starts
+rising_starts text made (of_text, are, fits, is, free) =
+    subst (λ (one : Output). IsStrictlyIncreasing one.starts) (sym is) (ordered text of_text are).starts
 
 -- ---- by process
 
@@ -107,9 +112,11 @@ pub record HasText (made : Output) : Type 0 where
   pub size : length text ≤ 2097152
   pub is_rewritten : Rewrites text (Ok made)
 
-pub text_of : (images : List Image) (rewritten : List Output) (process : ℕ) → process < length images → AllByRecursion IsImage images → AreRewritten images rewritten
+pub text_of : (images : List Image) (rewritten : List Output) (process : ℕ) → process < length images
+    → AllByRecursion IsImage images → AreRewritten images rewritten
     → HasText (rewritten_of rewritten process)
 text_of [] rewritten process within good are = absurd (omega arith)
 text_of (image ∷ images) [] process within good are = absurd are
-text_of (image ∷ images) (made ∷ others) zero within good are = record { text = image.text; size = good.0.text.1; is_rewritten = are.0 }
+text_of (image ∷ images) (made ∷ others) zero within good are =
+    record { text = image.text; size = good.0.text.1; is_rewritten = are.0 }
 text_of (image ∷ images) (made ∷ others) (suc process) within good are = text_of images others process (omega arith) good.1 are.1

@@ -35,13 +35,15 @@ HasEntry rewritten core = Contains (rewritten_of rewritten core.process).starts 
 -- the texts before that of this process can be rewritten, and its own cannot, for this cause
 abbrev pub IsFirstRefused : List Image → ℕ → RewriteRefusal → Type 0
 IsFirstRefused images process why =
-    (before : List Image) × (image : Image) × (after : List Image) × (images ≡ before ++ image ∷ after) × (process ≡ length before)
+    (before : List Image) × (image : Image) × (after : List Image) × (images ≡ before ++ image ∷ after)
+    × (process ≡ length before)
     × (rewritten : List Output) × AreRewritten before rewritten × Rewrites image.text (Err why) × (why ≢ cause.Memory)
 
 -- the cores before this one start at instructions, and this one at another address
 abbrev pub IsFirstBadEntry : List Output → List CoreStart → ℕ → ℕ → Type 0
 IsFirstBadEntry rewritten cores core at =
-    (before : List CoreStart) × (first : CoreStart) × (after : List CoreStart) × (cores ≡ before ++ first ∷ after) × (core ≡ length before)
+    (before : List CoreStart) × (first : CoreStart) × (after : List CoreStart) × (cores ≡ before ++ first ∷ after)
+    × (core ≡ length before)
     × AllByRecursion (HasEntry rewritten) before × ¬ HasEntry rewritten first × (at ≡ first.entry)
 
 -- there are fewer frames than the bundle takes
@@ -64,13 +66,16 @@ pub record IsLoadable (load : Load) : Type 0 where
 abbrev pub Loads : Bundle → Result Load LoadRefusal → Type 0
 Loads bundle (Ok load) = (load.bundle ≡ bundle) × IsLoadable load
 Loads bundle (Err (Process process why)) = IsFirstRefused bundle.images process why
-Loads bundle (Err (BadEntry core at)) = (rewritten : List Output) × AreRewritten bundle.images rewritten × IsFirstBadEntry rewritten bundle.cores core at
+Loads bundle (Err (BadEntry core at)) =
+    (rewritten : List Output) × AreRewritten bundle.images rewritten × IsFirstBadEntry rewritten bundle.cores core at
 Loads bundle (Err (NoFrames need have)) =
-    (rewritten : List Output) × AreRewritten bundle.images rewritten × AllByRecursion (HasEntry rewritten) bundle.cores × LacksFrames bundle rewritten need have
+    (rewritten : List Output) × AreRewritten bundle.images rewritten × AllByRecursion (HasEntry rewritten) bundle.cores
+    × LacksFrames bundle rewritten need have
 Loads bundle (Err Memory) = Unit {0}
 
 -- a bundle has one answer, but for want of memory
 abbrev pub OneAnswer : Type 0
 OneAnswer =
-    (bundle : Bundle) (first second : Result Load LoadRefusal) → first ≢ Err Memory → second ≢ Err Memory → Loads bundle first → Loads bundle second
+    (bundle : Bundle) (first second : Result Load LoadRefusal) → first ≢ Err Memory → second ≢ Err Memory → Loads bundle first
+    → Loads bundle second
     → first ≡ second

@@ -7,8 +7,8 @@ ghost use Rattle.sb_load.specs.Need.{page_count, process_need, area_need, need_o
 ghost use Rattle.sb_load.specs.Checks.{HasSmallArea, AllSmallAreas};
 
 use sb_abi::{PROCESS_FRAMES, THREAD_FRAMES};
-use sb_memory::page_count;
 use sb_bundle::{Bundle, Image};
+use sb_memory::page_count;
 use sb_rewrite::Rewritten;
 
 /// The pages that the bytes of a text, of initial data or of a rewrite area take.

@@ -26,7 +26,8 @@ words_put_next (word ∷ words) bytes place zero within =
 words_put_next (word ∷ words) bytes place (suc index) within =
     let there : place + 8 + 8 * index ≡ place + 8 * suc index = omega arith in
     words_put_next words (put_word bytes place word) (place + 8) index (omega arith)
-    ∙ ap (λ (at : ℕ). put_word (words_put (put_word bytes place word) (place + 8) (take index words)) at (get_or words index 0)) there
+    ∙ ap (λ (at : ℕ). put_word (words_put (put_word bytes place word) (place + 8) (take index words)) at (get_or words index 0))
+    there
 
 -- ---- pages in frames
 

@@ -17,15 +17,18 @@ place_of (WriteByte place byte) = place
 place_of (WriteWord place word) = place
 
 -- the account after words are read at these places, in order, by the rule of the memory
-abbrev pub after_words : {Account : Type 0} → (PhysCall → Physical → Account → Account) → Physical → List ℕ → Account → Account
-after_words rule memory [] account = account
-after_words rule memory (place ∷ places) account = after_words rule memory places (rule (ReadWord place) memory account)
+abbrev pub account_after_words : {Account : Type 0} → (PhysCall → Physical → Account → Account) → Physical → List ℕ → Account
+    → Account
+account_after_words rule memory [] account = account
+account_after_words rule memory (place ∷ places) account =
+    account_after_words rule memory places (rule (ReadWord place) memory account)
 
 -- the account after calls that leave the memory as it is
-abbrev pub after_reads : {Account : Type 0} → (PhysCall → Physical → Account → Account) → Physical → List PhysCall → Account
+abbrev pub account_after_reads : {Account : Type 0} → (PhysCall → Physical → Account → Account) → Physical → List PhysCall
     → Account
-after_reads rule memory [] account = account
-after_reads rule memory (call ∷ calls) account = after_reads rule memory calls (rule call memory account)
+    → Account
+account_after_reads rule memory [] account = account
+account_after_reads rule memory (call ∷ calls) account = account_after_reads rule memory calls (rule call memory account)
 
 -- the calls that read words at these places
 abbrev pub word_calls : List ℕ → List PhysCall

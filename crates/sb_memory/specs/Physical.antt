@@ -48,5 +48,5 @@ pub record IsPhysical (memory : Physical) : Type 0 where
   pub bytes : (place : ℕ) → get_or memory.bytes place 0 < 256
 
 -- memory of zeros that has all its frames
-abbrev pub zeroed : ℕ → Physical
-zeroed frames = record { bytes = replicate (PAGE_SIZE * frames) 0; present = replicate frames true }
+abbrev pub zeroed_memory : ℕ → Physical
+zeroed_memory frames = record { bytes = replicate (PAGE_SIZE * frames) 0; present = replicate frames true }

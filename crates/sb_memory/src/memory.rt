@@ -2,14 +2,14 @@
 
 ghost use Rattle.std.specs.Prelude.{◌≡◌, ℕ, ◌+◌, ◌*◌, ◌≤◌, ◌<◌, length, get_or, IfOk};
 ghost use Rattle.sb_memory.specs.declared.page.TheConstants.{PAGE_SIZE};
-ghost use Rattle.sb_memory.specs.Physical.{HasSize, IsPhysical, IsPlace, IsWordPlace, HasAllFrames, frame_count, zeroed};
+ghost use Rattle.sb_memory.specs.Physical.{HasSize, IsPhysical, IsPlace, IsWordPlace, HasAllFrames, frame_count, zeroed_memory};
 ghost use Rattle.sb_memory.specs.Reading.{with_bytes};
-ghost use Rattle.sb_memory.specs.Words.{word_at, put_word as word_put, put_bytes as bytes_put, clear_frame as frame_cleared};
+ghost use Rattle.sb_memory.specs.Words.{word_at, put_word, put_bytes, clear_frame};
 
 use crate::address::{Frame, Missing, PhysAddr};
 use crate::bytes::{put_bytes, put_word, put_zeros, word};
-use crate::phys::Phys;
 use crate::page::PAGE_SIZE;
+use crate::phys::Phys;
 use std::alloc::{AllocError, Global};
 use std::marker::Model;
 
@@ -38,7 +38,7 @@ impl Model for Memory {
 impl Memory {
     /// Memory of zeros.
     pub fn new(alloc: Global, frames: u32) -> Result<Memory, AllocError>
-        ensures { IfOk result (λ memory. memory ≡ zeroed frames) }
+        ensures { IfOk result (λ memory. memory ≡ zeroed_memory frames) }
     {
         let bytes = vec![in alloc; 0u8; PAGE_SIZE as usize * frames as usize]?;
         Ok(Memory { bytes, frames })
@@ -62,7 +62,7 @@ impl Memory {
     /// Puts a word at a place that is a multiple of 8.
     pub fn set_word(&mut self, at: PhysAddr, word: u64)
         requires { IsWordPlace self.old at.0 }
-        ensures written { self.new ≡ with_bytes self.old (word_put self.old.bytes at.0 word) }
+        ensures written { self.new ≡ with_bytes self.old (put_word self.old.bytes at.0 word) }
         ensures size { HasSize self.new }
     {
         put_word(&mut self.bytes, at.0 as usize, word);
@@ -71,7 +71,7 @@ impl Memory {
     /// Puts bytes at a place.
     pub fn set_bytes(&mut self, at: PhysAddr, bytes: &[u8])
         requires { at.0 + length bytes.now ≤ PAGE_SIZE * frame_count self.old }
-        ensures written { self.new ≡ with_bytes self.old (bytes_put self.old.bytes at.0 bytes.now) }
+        ensures written { self.new ≡ with_bytes self.old (put_bytes self.old.bytes at.0 bytes.now) }
         ensures size { HasSize self.new }
     {
         put_bytes(&mut self.bytes, at.0 as usize, bytes);
@@ -81,7 +81,7 @@ impl Memory {
     #[tactic(auto, unfolding(crate::specs::Words::clear_frame))]
     pub fn clear_frame(&mut self, frame: Frame)
         requires { frame.0 < frame_count self.old }
-        ensures written { self.new ≡ with_bytes self.old (frame_cleared self.old.bytes frame.0) }
+        ensures written { self.new ≡ with_bytes self.old (clear_frame self.old.bytes frame.0) }
         ensures size { HasSize self.new }
     {
         put_zeros(&mut self.bytes, frame.base().0 as usize, PAGE_SIZE as usize);

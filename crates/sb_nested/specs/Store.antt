@@ -1,7 +1,7 @@
 -- Stores through the nested walk, and the account of every access.
 use Rattle.std.specs.Prelude.{ℕ, ◌/◌, ◌%◌, ◌==◌, ◌&&◌, ◌≡◌, true, Bool, List, [], ◌∷◌, Result, Ok, Err, if◌then◌else◌}
 use Rattle.sb_memory.specs.Physical.{Physical, IsPlace, has_frame, frame_of}
-use Rattle.sb_memory.specs.Accounts.{PhysCall, WriteByte, WriteWord, after_reads}
+use Rattle.sb_memory.specs.Accounts.{PhysCall, WriteByte, WriteWord, account_after_reads}
 use Rattle.sb_memory.specs.Reading.{byte_written, word_written}
 use Rattle.sb_memory.specs.declared.address.Access.{Access}
 use Rattle.sb_memory.specs.declared.address.Access.TheVariants.{Read, Write, Fetch}
@@ -39,17 +39,20 @@ put_value memory [] value = memory
 put_value memory (place ∷ places) value = put_value (byte_written memory place.0 (value % 256)) places (value / 256)
 
 -- the account after that
-abbrev pub after_writes : {Account : Type 0} → (PhysCall → Physical → Account → Account) → Physical → List PhysAddr → ℕ → Account → Account
+abbrev pub after_writes : {Account : Type 0} → (PhysCall → Physical → Account → Account) → Physical → List PhysAddr → ℕ
+    → Account → Account
 after_writes rule memory [] value account = account
 after_writes rule memory (place ∷ places) value account =
-    after_writes rule (byte_written memory place.0 (value % 256)) places (value / 256) (rule (WriteByte place.0 (value % 256)) memory account)
+    after_writes rule (byte_written memory place.0 (value % 256)) places (value / 256)
+    (rule (WriteByte place.0 (value % 256)) memory account)
 
 -- the same where the places are known
 abbrev pub put_answer : Physical → Result (List PhysAddr) BusStop → ℕ → Physical
 put_answer memory (Ok places) value = put_value memory places value
 put_answer memory (Err stop) value = memory
 
-abbrev pub after_answer : {Account : Type 0} → (PhysCall → Physical → Account → Account) → Physical → Result (List PhysAddr) BusStop → ℕ → Account → Account
+abbrev pub after_answer : {Account : Type 0} → (PhysCall → Physical → Account → Account) → Physical
+    → Result (List PhysAddr) BusStop → ℕ → Account → Account
 after_answer rule memory (Ok places) value account = after_writes rule memory places value account
 after_answer rule memory (Err stop) value account = account
 
@@ -59,7 +62,8 @@ put_word_at memory (Ok place) word = word_written memory place.0 word
 put_word_at memory (Err stop) word = memory
 
 -- the account after that
-abbrev pub after_word : {Account : Type 0} → (PhysCall → Physical → Account → Account) → Physical → Result PhysAddr NestedStop → ℕ → Account → Account
+abbrev pub after_word : {Account : Type 0} → (PhysCall → Physical → Account → Account) → Physical → Result PhysAddr NestedStop
+    → ℕ → Account → Account
 after_word rule memory (Ok place) word account = rule (WriteWord place.0 word) memory account
 after_word rule memory (Err stop) word account = account
 
@@ -82,14 +86,18 @@ view_stored core address size value = view (memory_stored core address size valu
 unfoldable pub store_rule : {Account : Type 0} → (PhysCall → Physical → Account → Account) → View → ℕ → ℕ → ℕ → Account → Account
 store_rule rule core address size value account =
     if is_whole address size
-    then after_word rule core.physical (place_of core Write address) value (after_reads rule core.physical (look_calls core address size) account)
-    else after_answer rule core.physical (bytes_from (store_place core) address size) value (after_reads rule core.physical (load_calls core Write address size) account)
+    then after_word rule core.physical (place_of core Write address) value
+    (account_after_reads rule core.physical (look_calls core address size) account)
+    else after_answer rule core.physical (bytes_from (store_place core) address size) value
+    (account_after_reads rule core.physical (load_calls core Write address size) account)
 
 -- the account after a call
 unfoldable pub view_rule : {Account : Type 0} → (PhysCall → Physical → Account → Account) → BusCall → View → Account → Account
-view_rule rule (FetchByte address) core account = after_reads rule core.physical (byte_calls core Fetch address) account
-view_rule rule (LoadBytes address size) core account = after_reads rule core.physical (load_calls core Read address size) account
-view_rule rule (LoadForWrite address size) core account = after_reads rule core.physical (load_calls core Write address size) account
+view_rule rule (FetchByte address) core account = account_after_reads rule core.physical (byte_calls core Fetch address) account
+view_rule rule (LoadBytes address size) core account =
+    account_after_reads rule core.physical (load_calls core Read address size) account
+view_rule rule (LoadForWrite address size) core account =
+    account_after_reads rule core.physical (load_calls core Write address size) account
 view_rule rule (StoreBytes address size value) core account = store_rule rule core address size value account
 
 -- what the bus of a core is to an instruction

@@ -6,7 +6,7 @@ ghost use Rattle.sb_memory.specs.declared.address.Access.TheVariants.{Write};
 ghost use Rattle.sb_walks.specs.Entry.{frame_in};
 ghost use Rattle.sb_walks.specs.Ept.{is_eptp};
 ghost use Rattle.sb_bus.specs.Access.{IsSize, byte_for, bytes_from, store_answer};
-ghost use Rattle.sb_memory.specs.Accounts.{after_reads};
+ghost use Rattle.sb_memory.specs.Accounts.{account_after_reads};
 ghost use Rattle.sb_nested.specs.View.{view, view_byte};
 ghost use Rattle.sb_nested.specs.Store.{after_answer, load_calls, put_answer, store_place};
 
@@ -61,7 +61,7 @@ fn store_bytes<P: Phys>(
     ensures answer { result ≡ store_answer (byte_for (view_byte (view (P.meaning phys.old) eptp cr3)) Write) at.0 size }
     ensures memory { P.meaning phys.new ≡ put_answer (P.meaning phys.old) (bytes_from (store_place (view (P.meaning phys.old) eptp cr3)) at.0 size) value }
     ensures stopped { IfErr result (λ stop. P.meaning phys.new ≡ P.meaning phys.old) }
-    ensures account { P.account phys.new ≡ after_answer P.rule (P.meaning phys.old) (bytes_from (store_place (view (P.meaning phys.old) eptp cr3)) at.0 size) value (after_reads P.rule (P.meaning phys.old) (load_calls (view (P.meaning phys.old) eptp cr3) Write at.0 size) (P.account phys.old)) }
+    ensures account { P.account phys.new ≡ after_answer P.rule (P.meaning phys.old) (bytes_from (store_place (view (P.meaning phys.old) eptp cr3)) at.0 size) value (account_after_reads P.rule (P.meaning phys.old) (load_calls (view (P.meaning phys.old) eptp cr3) Write at.0 size) (P.account phys.old)) }
     ensures kept { P.kept phys.new ≡ P.kept phys.old }
 {
     let mut places = [PhysAddr(0); 8];

@@ -1,12 +1,12 @@
 //! Bytes read through the nested walk.
 
 ghost use Rattle.std.specs.Prelude.{◌≡◌, ◌*◌, ◌%◌, ◌≤◌, ◌<◌, ◌^◌, IfOk, IsTrue};
-ghost use Rattle.sb_memory.specs.Accounts.{after_reads};
+ghost use Rattle.sb_memory.specs.Accounts.{account_after_reads};
 ghost use Rattle.sb_memory.specs.Physical.{frame_count};
 ghost use Rattle.sb_walks.specs.Entry.{frame_in};
 ghost use Rattle.sb_walks.specs.Ept.{is_eptp};
 ghost use Rattle.sb_bus.specs.Access.{byte_for, loaded_from};
-ghost use Rattle.sb_nested.specs.Stop.{stop_at as stop_of};
+ghost use Rattle.sb_nested.specs.Stop.{stop_at};
 ghost use Rattle.sb_nested.specs.View.{byte_calls, view, view_byte};
 ghost use Rattle.sb_nested.specs.Store.{load_calls};
 
@@ -17,7 +17,7 @@ use sb_walks::{NestedStop, TableStop, WalkStop};
 
 /// What an instruction meets where the walk of an address is refused.
 pub fn stop_at(at: Linear, stop: NestedStop) -> BusStop
-    ensures { result ≡ stop_of at.0 stop }
+    ensures { result ≡ stop_at at.0 stop }
 {
     match stop {
         NestedStop::Walk(WalkStop::NonCanonical) => BusStop::Fault(FaultKind::Canon, at),
@@ -43,7 +43,7 @@ pub fn byte<P: Phys>(
     requires root { frame_in eptp < frame_count (P.meaning phys.old) }
     ensures answer { result ≡ view_byte (view (P.meaning phys.old) eptp cr3) at.0 access }
     ensures same { P.meaning phys.new ≡ P.meaning phys.old }
-    ensures account { P.account phys.new ≡ after_reads P.rule (P.meaning phys.old) (byte_calls (view (P.meaning phys.old) eptp cr3) access at.0) (P.account phys.old) }
+    ensures account { P.account phys.new ≡ account_after_reads P.rule (P.meaning phys.old) (byte_calls (view (P.meaning phys.old) eptp cr3) access at.0) (P.account phys.old) }
     ensures kept { P.kept phys.new ≡ P.kept phys.old }
 {
     match translate(phys, eptp, cr3, at, access) {
@@ -71,7 +71,7 @@ pub fn bytes<P: Phys>(
     ensures answer { result ≡ loaded_from (byte_for (view_byte (view (P.meaning phys.old) eptp cr3)) access) at.0 size }
     ensures range { IfOk result (λ number. number < 256 ^ size) }
     ensures same { P.meaning phys.new ≡ P.meaning phys.old }
-    ensures account { P.account phys.new ≡ after_reads P.rule (P.meaning phys.old) (load_calls (view (P.meaning phys.old) eptp cr3) access at.0 size) (P.account phys.old) }
+    ensures account { P.account phys.new ≡ account_after_reads P.rule (P.meaning phys.old) (load_calls (view (P.meaning phys.old) eptp cr3) access at.0 size) (P.account phys.old) }
     ensures kept { P.kept phys.new ≡ P.kept phys.old }
 {
     if size == 0 {

@@ -2,14 +2,14 @@
 
 ghost use Rattle.std.specs.Prelude.{◌≡◌, ◌*◌, ◌<◌, IfOk, IsTrue};
 ghost use Rattle.sb_memory.specs.declared.page.TheConstants.{PAGE_SIZE};
-ghost use Rattle.sb_memory.specs.Accounts.{after_words};
+ghost use Rattle.sb_memory.specs.Accounts.{account_after_words};
 ghost use Rattle.sb_memory.specs.Physical.{frame_count};
 ghost use Rattle.sb_walks.specs.Entry.{frame_in};
 ghost use Rattle.sb_walks.specs.Ept.{is_eptp};
-ghost use Rattle.sb_walks.specs.Guest.{walk_reads, walked};
-ghost use Rattle.sb_walks.specs.Nested.{entries_reads, guest_entry, mapped, translated, translation_reads};
+ghost use Rattle.sb_walks.specs.Guest.{walk_reads, guest_walk};
+ghost use Rattle.sb_walks.specs.Nested.{entries_reads, guest_entry, mapped_answer, translation, translation_reads};
 
-use crate::tables::EptTables;
+use crate::tables::TablesBehindEpt;
 use sb_eptwalk::ept_walk;
 use sb_memory::{Access, GuestPhys, Linear, Phys, PhysAddr};
 use sb_pagewalk::walk;
@@ -26,12 +26,12 @@ fn guest_walk<P: Phys>(
 ) -> Result<GuestPhys, WalkStop>
     requires eptp { IsTrue (is_eptp eptp) }
     requires root { frame_in eptp < frame_count (P.meaning phys.old) }
-    ensures answer { result ≡ walked (guest_entry (mapped (P.meaning phys.old) eptp)) cr3 at.0 access }
+    ensures answer { result ≡ guest_walk (guest_entry (mapped_answer (P.meaning phys.old) eptp)) cr3 at.0 access }
     ensures same { P.meaning phys.new ≡ P.meaning phys.old }
-    ensures account { P.account phys.new ≡ after_words P.rule (P.meaning phys.old) (entries_reads (mapped (P.meaning phys.old) eptp) (walk_reads (guest_entry (mapped (P.meaning phys.old) eptp)) cr3 at.0 access)) (P.account phys.old) }
+    ensures account { P.account phys.new ≡ account_after_words P.rule (P.meaning phys.old) (entries_reads (mapped_answer (P.meaning phys.old) eptp) (walk_reads (guest_entry (mapped_answer (P.meaning phys.old) eptp)) cr3 at.0 access)) (P.account phys.old) }
     ensures kept { P.kept phys.new ≡ P.kept phys.old }
 {
-    walk(&mut EptTables { phys, eptp }, cr3, at, access)
+    walk(&mut TablesBehindEpt { phys, eptp }, cr3, at, access)
 }
 
 /// The physical address of a linear one for a user-mode access: the guest's walk from the table to which CR3 leads, in which
@@ -39,7 +39,7 @@ fn guest_walk<P: Phys>(
 ///
 /// `Walk` is a refusal of the guest's walk, where an entry that cannot be read through the EPT is `WalkStop::Table`. `Page` is
 /// a refusal of the EPT at the address to which that walk leads.
-#[tactic(auto, using(sb_memory::proofs::Accounts::after_words_append), unfolding(sb_walks::specs::Nested::translated, sb_walks::specs::Nested::translation_reads))]
+#[tactic(auto, using(sb_memory::proofs::Accounts::after_words_append), unfolding(sb_walks::specs::Nested::translation, sb_walks::specs::Nested::translation_reads))]
 pub fn translate<P: Phys>(
     phys: &mut P,
     eptp: u64,
@@ -49,10 +49,10 @@ pub fn translate<P: Phys>(
 ) -> Result<PhysAddr, NestedStop>
     requires eptp { IsTrue (is_eptp eptp) }
     requires root { frame_in eptp < frame_count (P.meaning phys.old) }
-    ensures answer { result ≡ translated (mapped (P.meaning phys.old) eptp) cr3 at.0 access }
+    ensures answer { result ≡ translation (mapped_answer (P.meaning phys.old) eptp) cr3 at.0 access }
     ensures inside { IfOk result (λ place. place.0 < PAGE_SIZE * frame_count (P.meaning phys.old)) }
     ensures same { P.meaning phys.new ≡ P.meaning phys.old }
-    ensures account { P.account phys.new ≡ after_words P.rule (P.meaning phys.old) (translation_reads (mapped (P.meaning phys.old) eptp) cr3 at.0 access) (P.account phys.old) }
+    ensures account { P.account phys.new ≡ account_after_words P.rule (P.meaning phys.old) (translation_reads (mapped_answer (P.meaning phys.old) eptp) cr3 at.0 access) (P.account phys.old) }
     ensures kept { P.kept phys.new ≡ P.kept phys.old }
 {
     match guest_walk(phys, eptp, cr3, at, access) {

@@ -1,14 +1,14 @@
 //! Bytes written one by one through the nested walk.
 
 ghost use Rattle.std.specs.Prelude.{◌≡◌, ◌≤◌, ◌<◌, ◌+◌, ◌++◌, ◌^◌, Ok, IfOk, OnOk, OnErr, IfErr, IsTrue, length, slice_index, [], ◌∷◌, Err};
-ghost use Rattle.sb_memory.specs.Accounts.{after_reads};
+ghost use Rattle.sb_memory.specs.Accounts.{account_after_reads};
 ghost use Rattle.sb_memory.specs.Physical.{frame_count};
 ghost use Rattle.sb_memory.specs.declared.address.Access.TheVariants.{Write};
 ghost use Rattle.sb_walks.specs.Entry.{frame_in};
 ghost use Rattle.sb_walks.specs.Ept.{is_eptp};
 ghost use Rattle.sb_bus.specs.Access.{bytes_from};
 ghost use Rattle.sb_nested.specs.View.{byte_calls, view, view_byte};
-ghost use Rattle.sb_nested.specs.Store.{AllHeld, after_writes, load_calls, put_value, store_place as place_stored};
+ghost use Rattle.sb_nested.specs.Store.{AllHeld, after_writes, load_calls, put_value, store_place};
 
 use crate::look::stop_at;
 use crate::nested::translate;
@@ -35,12 +35,12 @@ pub fn put<P: Phys>(phys: &mut P, places: &[PhysAddr], value: u64)
 fn store_place<P: Phys>(phys: &mut P, eptp: u64, cr3: u64, at: Linear) -> Result<PhysAddr, BusStop>
     requires eptp { IsTrue (is_eptp eptp) }
     requires root { frame_in eptp < frame_count (P.meaning phys.old) }
-    ensures answer { result ≡ place_stored (view (P.meaning phys.old) eptp cr3) at.0 }
+    ensures answer { result ≡ store_place (view (P.meaning phys.old) eptp cr3) at.0 }
     ensures byte { IfOk result (λ place. view_byte (view (P.meaning phys.old) eptp cr3) at.0 Write ≡ Ok (slice_index (P.meaning phys.old).bytes place.0)) }
     ensures stop { IfErr result (λ stop. view_byte (view (P.meaning phys.old) eptp cr3) at.0 Write ≡ Err stop) }
     ensures held { IfOk result (λ place. AllHeld (P.meaning phys.old) (place ∷ [])) }
     ensures same { P.meaning phys.new ≡ P.meaning phys.old }
-    ensures account { P.account phys.new ≡ after_reads P.rule (P.meaning phys.old) (byte_calls (view (P.meaning phys.old) eptp cr3) Write at.0) (P.account phys.old) }
+    ensures account { P.account phys.new ≡ account_after_reads P.rule (P.meaning phys.old) (byte_calls (view (P.meaning phys.old) eptp cr3) Write at.0) (P.account phys.old) }
     ensures kept { P.kept phys.new ≡ P.kept phys.old }
 {
     match translate(phys, eptp, cr3, at, Access::Write) {
@@ -63,11 +63,11 @@ pub fn store_places<P: Phys>(
 ) -> Result<(), BusStop>
     requires eptp { IsTrue (is_eptp eptp) }
     requires root { frame_in eptp < frame_count (P.meaning phys.old) }
-    ensures ok { OnOk result (bytes_from (place_stored (view (P.meaning phys.old) eptp cr3)) at.0 (length into.old) ≡ Ok into.new) }
-    ensures err { IfErr result (λ stop. bytes_from (place_stored (view (P.meaning phys.old) eptp cr3)) at.0 (length into.old) ≡ Err stop) }
+    ensures ok { OnOk result (bytes_from (store_place (view (P.meaning phys.old) eptp cr3)) at.0 (length into.old) ≡ Ok into.new) }
+    ensures err { IfErr result (λ stop. bytes_from (store_place (view (P.meaning phys.old) eptp cr3)) at.0 (length into.old) ≡ Err stop) }
     ensures held { OnOk result (AllHeld (P.meaning phys.old) into.new) }
     ensures same { P.meaning phys.new ≡ P.meaning phys.old }
-    ensures account { P.account phys.new ≡ after_reads P.rule (P.meaning phys.old) (load_calls (view (P.meaning phys.old) eptp cr3) Write at.0 (length into.old)) (P.account phys.old) }
+    ensures account { P.account phys.new ≡ account_after_reads P.rule (P.meaning phys.old) (load_calls (view (P.meaning phys.old) eptp cr3) Write at.0 (length into.old)) (P.account phys.old) }
     ensures kept { P.kept phys.new ≡ P.kept phys.old }
 {
     if let Some((first, rest)) = into.split_first_mut() {

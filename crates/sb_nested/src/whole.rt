@@ -2,7 +2,7 @@
 
 ghost use Rattle.std.specs.Prelude.{◌≡◌, ◌*◌, ◌%◌, ◌≤◌, ◌<◌, IfOk, IfErr, IsTrue};
 ghost use Rattle.sb_memory.specs.declared.page.TheConstants.{PAGE_SIZE};
-ghost use Rattle.sb_memory.specs.Accounts.{after_reads};
+ghost use Rattle.sb_memory.specs.Accounts.{account_after_reads};
 ghost use Rattle.sb_memory.specs.Outcome.{done};
 ghost use Rattle.sb_memory.specs.Physical.{frame_count};
 ghost use Rattle.sb_memory.specs.declared.address.Access.TheVariants.{Write};
@@ -26,7 +26,7 @@ fn look<P: Phys>(phys: &mut P, eptp: u64, cr3: u64, at: Linear) -> Result<PhysAd
     ensures inside { IfOk result (λ place. place.0 < PAGE_SIZE * frame_count (P.meaning phys.old)) }
     ensures offset { IfOk result (λ place. place.0 % PAGE_SIZE ≡ at.0 % PAGE_SIZE) }
     ensures same { P.meaning phys.new ≡ P.meaning phys.old }
-    ensures account { P.account phys.new ≡ after_reads P.rule (P.meaning phys.old) (walk_calls (view (P.meaning phys.old) eptp cr3) Write at.0) (P.account phys.old) }
+    ensures account { P.account phys.new ≡ account_after_reads P.rule (P.meaning phys.old) (walk_calls (view (P.meaning phys.old) eptp cr3) Write at.0) (P.account phys.old) }
     ensures kept { P.kept phys.new ≡ P.kept phys.old }
 {
     match translate(phys, eptp, cr3, at, Access::Write) {
@@ -42,7 +42,7 @@ fn look_on<P: Phys>(phys: &mut P, eptp: u64, cr3: u64, at: Linear, count: u8) ->
     requires root { frame_in eptp < frame_count (P.meaning phys.old) }
     ensures answer { result ≡ done (bytes_from (walk_place (view (P.meaning phys.old) eptp cr3)) at.0 count) }
     ensures same { P.meaning phys.new ≡ P.meaning phys.old }
-    ensures account { P.account phys.new ≡ after_reads P.rule (P.meaning phys.old) (look_calls (view (P.meaning phys.old) eptp cr3) at.0 count) (P.account phys.old) }
+    ensures account { P.account phys.new ≡ account_after_reads P.rule (P.meaning phys.old) (look_calls (view (P.meaning phys.old) eptp cr3) at.0 count) (P.account phys.old) }
     ensures kept { P.kept phys.new ≡ P.kept phys.old }
 {
     if count == 0 {
@@ -68,7 +68,7 @@ pub fn store_word<P: Phys>(
     ensures answer { result ≡ store_answer (byte_for (view_byte (view (P.meaning phys.old) eptp cr3)) Write) at.0 8 }
     ensures memory { P.meaning phys.new ≡ put_word_at (P.meaning phys.old) (place_of (view (P.meaning phys.old) eptp cr3) Write at.0) word }
     ensures stopped { IfErr result (λ stop. P.meaning phys.new ≡ P.meaning phys.old) }
-    ensures account { P.account phys.new ≡ after_word P.rule (P.meaning phys.old) (place_of (view (P.meaning phys.old) eptp cr3) Write at.0) word (after_reads P.rule (P.meaning phys.old) (look_calls (view (P.meaning phys.old) eptp cr3) at.0 8) (P.account phys.old)) }
+    ensures account { P.account phys.new ≡ after_word P.rule (P.meaning phys.old) (place_of (view (P.meaning phys.old) eptp cr3) Write at.0) word (account_after_reads P.rule (P.meaning phys.old) (look_calls (view (P.meaning phys.old) eptp cr3) at.0 8) (P.account phys.old)) }
     ensures kept { P.kept phys.new ≡ P.kept phys.old }
 {
     let place = look(phys, eptp, cr3, at)?;

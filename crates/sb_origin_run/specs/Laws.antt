@@ -15,59 +15,91 @@ use Rattle.sb_origin_run.specs.Related.{IsAt, AccessesAt, Related, IsStraight, A
 
 -- the original registers of a thread are a function of its registers and its words
 abbrev pub OriginalState : {M A N : Type 0} → Interface M A → (Words → M → N → Type 0) → Type 0
-OriginalState bus Holds = (at : Position) (state : Slotted) (regs : Regs) → IsAt bus Holds at state regs → original_at at state ≡ regs
+OriginalState bus Holds = (at : Position) (state : Slotted) (regs : Regs) → IsAt bus Holds at state regs
+    → original_at at state ≡ regs
 
 -- what the instructions of a slot access
 abbrev pub SlotAccesses : {M A N : Type 0} → Interface M A → (Words → M → N → Type 0) → Type 0
 SlotAccesses bus Holds = (at : Position) (state : Slotted) (regs : Regs) → IsAt bus Holds at state regs → AccessesAt at state regs
 
 -- one step
-abbrev pub StepsAlike : {M A N B : Type 0} → Interface M A → Interface N B → (Words → M → N → Type 0) → (ℕ → ℕ → Type 0) → (BusStop → BusStop) → Code → Code → (ℕ → Position) → Type 0
+abbrev pub StepsAlike : {M A N B : Type 0} → Interface M A → Interface N B → (Words → M → N → Type 0) → (ℕ → ℕ → Type 0)
+    → (BusStop → BusStop) → Code → Code → (ℕ → Position) → Type 0
 StepsAlike {M} {A} {N} {B} bus original Holds IsOutside naming target source place =
     AreBeside bus original Holds IsOutside naming → ((address : ℕ) → Stands bus Holds target source place address (place address))
-    → (left : Thread M A) (right : Thread N B) → Related bus Holds place left right → IsStraight bus Holds IsOutside target source place left
-    → StepAlike bus Holds naming place (place left.regs.rip) left right (step bus target left) (step original source right) (is_extra (place left.regs.rip))
+    → (left : Thread M A) (right : Thread N B) → Related bus Holds place left right
+    → IsStraight bus Holds IsOutside target source place left
+    → StepAlike bus Holds naming place (place left.regs.rip) left right (step bus target left) (step original source right)
+    (is_extra (place left.regs.rip))
 
 -- a run of so many entries, none of them stray
-abbrev pub RunsAlike : {M A N B : Type 0} → Interface M A → Interface N B → (Words → M → N → Type 0) → (ℕ → ℕ → Type 0) → (BusStop → BusStop) → Code → Code → (ℕ → Position) → Type 0
+abbrev pub RunsAlike : {M A N B : Type 0} → Interface M A → Interface N B → (Words → M → N → Type 0) → (ℕ → ℕ → Type 0)
+    → (BusStop → BusStop) → Code → Code → (ℕ → Position) → Type 0
 RunsAlike {M} {A} {N} {B} bus original Holds IsOutside naming target source place =
     AreBeside bus original Holds IsOutside naming → ((address : ℕ) → Stands bus Holds target source place address (place address))
-    → (count : ℕ) (left : Thread M A) (right : Thread N B) → Related bus Holds place left right → AreStraight bus Holds IsOutside target source place count left
-    → RunAlike bus Holds naming place (run bus target count left) (run original source (length (original_lines place naming (run bus target count left).lines)) right)
+    → (count : ℕ) (left : Thread M A) (right : Thread N B) → Related bus Holds place left right
+    → AreStraight bus Holds IsOutside target source place count left
+    → RunAlike bus Holds naming place (run bus target count left)
+    (run original source (length (original_lines place naming (run bus target count left).lines)) right)
 
 -- a run of several threads, each with its own words
-abbrev pub ThreadsRunAlike : {M A N B : Type 0} → (ℕ → Interface M A) → (ℕ → Interface N B) → ((ℕ → Words) → M → N → Type 0) → (ℕ → ℕ → ℕ → Type 0) → (BusStop → BusStop) → (ℕ → Code) → (ℕ → Code) → (ℕ → ℕ → Position) → Type 0
+abbrev pub ThreadsRunAlike : {M A N B : Type 0} → (ℕ → Interface M A) → (ℕ → Interface N B) → ((ℕ → Words) → M → N → Type 0)
+    → (ℕ → ℕ → ℕ → Type 0) → (BusStop → BusStop) → (ℕ → Code) → (ℕ → Code) → (ℕ → ℕ → Position) → Type 0
 ThreadsRunAlike {M} {A} {N} {B} buses originals HoldsAll IsOutside naming targets sources places =
-    ((number : ℕ) → AreBeside (buses number) (beside_words (originals number)) (HoldsOf HoldsAll number) (IsOutside number) naming)
-    → ((number address : ℕ) → Stands (buses number) (HoldsOf HoldsAll number) (targets number) (sources number) (places number) address (places number address))
-    → (schedule : List ℕ) (left : Threads M A) (right : Threads N B) → ThreadsRelated buses HoldsAll places left right → ThreadsStraight buses HoldsAll IsOutside targets sources places schedule left
-    → ThreadsAlike buses HoldsAll naming places (threads_run buses targets schedule left) (threads_run originals sources (entries (threads_lines places naming (threads_run buses targets schedule left).lines)) right)
+    ((number : ℕ)
+    → AreBeside (buses number) (beside_words (originals number)) (HoldsOf HoldsAll number) (IsOutside number) naming)
+    → ((number address : ℕ)
+    → Stands (buses number) (HoldsOf HoldsAll number) (targets number) (sources number) (places number) address
+    (places number address))
+    → (schedule : List ℕ) (left : Threads M A) (right : Threads N B) → ThreadsRelated buses HoldsAll places left right
+    → ThreadsStraight buses HoldsAll IsOutside targets sources places schedule left
+    → ThreadsAlike buses HoldsAll naming places (threads_run buses targets schedule left)
+    (threads_run originals sources (entries (threads_lines places naming (threads_run buses targets schedule left).lines))
+    right)
 
 -- ---- what the table of forms has made
 
 -- what the table made of a code stands for it
 abbrev pub TextStands : {M A N : Type 0} → Interface M A → (Words → M → N → Type 0) → Code → Code → (ℕ → Position) → Type 0
-TextStands bus Holds target source place = HasWords bus Holds → IsMadeOf target source place → (address : ℕ) → Stands bus Holds target source place address (place address)
+TextStands bus Holds target source place = HasWords bus Holds → IsMadeOf target source place → (address : ℕ)
+    → Stands bus Holds target source place address (place address)
 
 -- a run of such a code is, without the extra lines, one of the original code, and ends in its state
-abbrev pub RewrittenRuns : {M A N B : Type 0} → Interface M A → Interface N B → (Words → M → N → Type 0) → (ℕ → ℕ → Type 0) → (BusStop → BusStop) → Code → Code → (ℕ → Position) → Type 0
+abbrev pub RewrittenRuns : {M A N B : Type 0} → Interface M A → Interface N B → (Words → M → N → Type 0) → (ℕ → ℕ → Type 0)
+    → (BusStop → BusStop) → Code → Code → (ℕ → Position) → Type 0
 RewrittenRuns {M} {A} {N} {B} bus original Holds IsOutside naming target source place =
     HasWords bus Holds → AreBeside bus original Holds IsOutside naming → IsMadeOf target source place
-    → (count : ℕ) (left : Thread M A) (right : Thread N B) → Related bus Holds place left right → AreStraight bus Holds IsOutside target source place count left
-    → RunAlike bus Holds naming place (run bus target count left) (run original source (length (original_lines place naming (run bus target count left).lines)) right)
+    → (count : ℕ) (left : Thread M A) (right : Thread N B) → Related bus Holds place left right
+    → AreStraight bus Holds IsOutside target source place count left
+    → RunAlike bus Holds naming place (run bus target count left)
+    (run original source (length (original_lines place naming (run bus target count left).lines)) right)
 
 -- the same of several threads
-abbrev pub RewrittenThreadsRun : {M A N B : Type 0} → (ℕ → Interface M A) → (ℕ → Interface N B) → ((ℕ → Words) → M → N → Type 0) → (ℕ → ℕ → ℕ → Type 0) → (BusStop → BusStop) → (ℕ → Code) → (ℕ → Code) → (ℕ → ℕ → Position) → Type 0
+abbrev pub RewrittenThreadsRun : {M A N B : Type 0} → (ℕ → Interface M A) → (ℕ → Interface N B)
+    → ((ℕ → Words) → M → N → Type 0) → (ℕ → ℕ → ℕ → Type 0) → (BusStop → BusStop) → (ℕ → Code) → (ℕ → Code)
+    → (ℕ → ℕ → Position) → Type 0
 RewrittenThreadsRun {M} {A} {N} {B} buses originals HoldsAll IsOutside naming targets sources places =
-    ((number : ℕ) → HasWords (buses number) (HoldsOf HoldsAll number)) → ((number : ℕ) → AreBeside (buses number) (beside_words (originals number)) (HoldsOf HoldsAll number) (IsOutside number) naming)
+    ((number : ℕ) → HasWords (buses number) (HoldsOf HoldsAll number))
+    → ((number : ℕ)
+    → AreBeside (buses number) (beside_words (originals number)) (HoldsOf HoldsAll number) (IsOutside number) naming)
     → ((number : ℕ) → IsMadeOf (targets number) (sources number) (places number))
-    → (schedule : List ℕ) (left : Threads M A) (right : Threads N B) → ThreadsRelated buses HoldsAll places left right → ThreadsStraight buses HoldsAll IsOutside targets sources places schedule left
-    → ThreadsAlike buses HoldsAll naming places (threads_run buses targets schedule left) (threads_run originals sources (entries (threads_lines places naming (threads_run buses targets schedule left).lines)) right)
+    → (schedule : List ℕ) (left : Threads M A) (right : Threads N B) → ThreadsRelated buses HoldsAll places left right
+    → ThreadsStraight buses HoldsAll IsOutside targets sources places schedule left
+    → ThreadsAlike buses HoldsAll naming places (threads_run buses targets schedule left)
+    (threads_run originals sources (entries (threads_lines places naming (threads_run buses targets schedule left).lines))
+    right)
 
 -- the same with a kernel that serves alike, in each mode of which the table has made the code
-abbrev pub RewrittenSystemRuns : {V M A N B : Type 0} → System V M A → System V N B → ((ℕ → Words) → M → N → Type 0) → (ℕ → ℕ → ℕ → Type 0) → (BusStop → BusStop) → (V → ℕ → ℕ → Position) → Type 0
+abbrev pub RewrittenSystemRuns : {V M A N B : Type 0} → System V M A → System V N B → ((ℕ → Words) → M → N → Type 0)
+    → (ℕ → ℕ → ℕ → Type 0) → (BusStop → BusStop) → (V → ℕ → ℕ → Position) → Type 0
 RewrittenSystemRuns {V} {M} {A} {N} {B} system original HoldsAll IsOutside naming places =
-    ((mode : V) (number : ℕ) → HasWords (system.buses mode number) (HoldsOf HoldsAll number)) → ((mode : V) (number : ℕ) → AreBeside (system.buses mode number) (beside_words (original.buses mode number)) (HoldsOf HoldsAll number) (IsOutside number) naming)
-    → ((mode : V) (number : ℕ) → IsMadeOf (system.codes mode number) (original.codes mode number) (places mode number)) → ServesAlike system original HoldsAll naming places
-    → (schedule : List ℕ) (left : State V M A) (right : State V N B) → StatesRelated system.buses HoldsAll places left right → ServedStraight system original HoldsAll IsOutside places schedule left
-    → ServedAlike system original HoldsAll naming places schedule left (served_entries (original_served places naming (served_lines system schedule left))) right
+    ((mode : V) (number : ℕ) → HasWords (system.buses mode number) (HoldsOf HoldsAll number))
+    → ((mode : V) (number : ℕ)
+    → AreBeside (system.buses mode number) (beside_words (original.buses mode number)) (HoldsOf HoldsAll number)
+    (IsOutside number) naming)
+    → ((mode : V) (number : ℕ) → IsMadeOf (system.codes mode number) (original.codes mode number) (places mode number))
+    → ServesAlike system original HoldsAll naming places
+    → (schedule : List ℕ) (left : State V M A) (right : State V N B) → StatesRelated system.buses HoldsAll places left right
+    → ServedStraight system original HoldsAll IsOutside places schedule left
+    → ServedAlike system original HoldsAll naming places schedule left
+    (served_entries (original_served places naming (served_lines system schedule left))) right

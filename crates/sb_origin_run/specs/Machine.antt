@@ -59,7 +59,8 @@ pub record Run (Meaning Account : Type 0) : Type 0 where
 
 -- behind an instruction that goes on, the rest of the run; anything else ends it, and the thread stays as it was
 abbrev pub run_on : {M A : Type 0} → (Thread M A → Run M A) → Thread M A → Event → Thread M A → Run M A
-run_on rest before (Ran Next) after = record { lines = record { rip = before.regs.rip; event = Ran Next } ∷ (rest after).lines; end = (rest after).end }
+run_on rest before (Ran Next) after =
+    record { lines = record { rip = before.regs.rip; event = Ran Next } ∷ (rest after).lines; end = (rest after).end }
 run_on rest before event after = record { lines = record { rip = before.regs.rip; event = event } ∷ []; end = before }
 
 -- so many entries of a schedule

@@ -40,7 +40,11 @@ threads_on rest number before (Ran Next) after = record {
   lines = record { thread = number; line = record { rip = (before.regs number).rip; event = Ran Next } } ∷ (rest after).lines;
   end = (rest after).end;
 }
-threads_on rest number before event after = record { lines = record { thread = number; line = record { rip = (before.regs number).rip; event = event } } ∷ []; end = before }
+threads_on rest number before event after =
+    record {
+      lines = record { thread = number; line = record { rip = (before.regs number).rip; event = event } } ∷ [];
+      end = before;
+    }
 
 abbrev pub threads_step : {M A : Type 0} → (ℕ → Interface M A) → (ℕ → Code) → ℕ → Threads M A → Made M A
 threads_step buses codes number all = step (buses number) (codes number) (thread_of number all)
@@ -49,7 +53,8 @@ threads_step buses codes number all = step (buses number) (codes number) (thread
 abbrev pub threads_run : {M A : Type 0} → (ℕ → Interface M A) → (ℕ → Code) → List ℕ → Threads M A → ThreadsRun M A
 threads_run buses codes [] all = record { lines = []; end = all }
 threads_run buses codes (number ∷ schedule) all =
-    threads_on (threads_run buses codes schedule) number all (threads_step buses codes number all).event (with_thread number (threads_step buses codes number all).thread all)
+    threads_on (threads_run buses codes schedule) number all (threads_step buses codes number all).event
+    (with_thread number (threads_step buses codes number all).thread all)
 
 -- the lines without the extra ones, and the entries that are left
 abbrev pub threads_lines : (ℕ → ℕ → Position) → (BusStop → BusStop) → List ThreadLine → List ThreadLine
@@ -58,7 +63,10 @@ threads_lines places naming (one ∷ lines) =
     if is_extra (places one.thread one.line.rip) then threads_lines places naming lines
     else record {
       thread = one.thread;
-      line = record { rip = original_rip (places one.thread one.line.rip) one.line.rip; event = told_event naming one.line.event };
+      line = record {
+        rip = original_rip (places one.thread one.line.rip) one.line.rip;
+        event = told_event naming one.line.event;
+      };
     } ∷ threads_lines places naming lines
 
 abbrev pub entries : List ThreadLine → List ℕ
@@ -84,18 +92,25 @@ beside_words bus = record {
 
 -- ---- related threads
 
-pub record ThreadsRelated {M A N B : Type 0} (buses : ℕ → Interface M A) (HoldsAll : (ℕ → Words) → M → N → Type 0) (places : ℕ → ℕ → Position) (left : Threads M A) (right : Threads N B) : Type 0 where
+pub record ThreadsRelated {M A N B : Type 0} (buses : ℕ → Interface M A) (HoldsAll : (ℕ → Words) → M → N → Type 0) (places : ℕ → ℕ
+    → Position) (left : Threads M A) (right : Threads N B) : Type 0 where
   pub words : ℕ → Words
   pub holds : HoldsAll words left.meaning right.meaning
-  pub at : (number : ℕ) → IsAt (buses number) (HoldsOf HoldsAll number) (places number (left.regs number).rip) (record { regs = left.regs number; words = words number }) (right.regs number)
+  pub at : (number : ℕ)
+      → IsAt (buses number) (HoldsOf HoldsAll number) (places number (left.regs number).rip)
+      (record { regs = left.regs number; words = words number }) (right.regs number)
 
-abbrev pub ThreadsStraight : {M A N : Type 0} → (ℕ → Interface M A) → ((ℕ → Words) → M → N → Type 0) → (ℕ → ℕ → ℕ → Type 0) → (ℕ → Code) → (ℕ → Code) → (ℕ → ℕ → Position) → List ℕ → Threads M A → Type 0
+abbrev pub ThreadsStraight : {M A N : Type 0} → (ℕ → Interface M A) → ((ℕ → Words) → M → N → Type 0) → (ℕ → ℕ → ℕ → Type 0)
+    → (ℕ → Code) → (ℕ → Code) → (ℕ → ℕ → Position) → List ℕ → Threads M A → Type 0
 ThreadsStraight buses HoldsAll IsOutside targets sources places [] left = Unit {0}
 ThreadsStraight buses HoldsAll IsOutside targets sources places (number ∷ schedule) left =
-    IsStraight (buses number) (HoldsOf HoldsAll number) (IsOutside number) (targets number) (sources number) (places number) (thread_of number left)
+    IsStraight (buses number) (HoldsOf HoldsAll number) (IsOutside number) (targets number) (sources number) (places number)
+    (thread_of number left)
     × WhereNext (threads_step buses targets number left).event
-    (ThreadsStraight buses HoldsAll IsOutside targets sources places schedule (with_thread number (threads_step buses targets number left).thread left))
+    (ThreadsStraight buses HoldsAll IsOutside targets sources places schedule
+    (with_thread number (threads_step buses targets number left).thread left))
 
-pub record ThreadsAlike {M A N B : Type 0} (buses : ℕ → Interface M A) (HoldsAll : (ℕ → Words) → M → N → Type 0) (naming : BusStop → BusStop) (places : ℕ → ℕ → Position) (rewritten : ThreadsRun M A) (original : ThreadsRun N B) : Type 0 where
+pub record ThreadsAlike {M A N B : Type 0} (buses : ℕ → Interface M A) (HoldsAll : (ℕ → Words) → M → N → Type 0) (naming : BusStop
+    → BusStop) (places : ℕ → ℕ → Position) (rewritten : ThreadsRun M A) (original : ThreadsRun N B) : Type 0 where
   pub lines : original.lines ≡ threads_lines places naming rewritten.lines
   pub end : ThreadsRelated buses HoldsAll places rewritten.end original.end

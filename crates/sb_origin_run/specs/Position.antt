@@ -94,7 +94,10 @@ abbrev pub original_lines : (ℕ → Position) → (BusStop → BusStop) → Lis
 original_lines place naming [] = []
 original_lines place naming (line ∷ lines) =
     if is_extra (place line.rip) then original_lines place naming lines
-    else record { rip = original_rip (place line.rip) line.rip; event = told_event naming line.event } ∷ original_lines place naming lines
+    else record {
+      rip = original_rip (place line.rip) line.rip;
+      event = told_event naming line.event;
+    } ∷ original_lines place naming lines
 
 -- ---- rewritten code
 
@@ -112,21 +115,31 @@ abbrev pub behind : ℕ → Insn → ℕ
 behind address insn = (address + length (spelling insn)) % 2 ^ 64
 
 -- A code stands for another at an address, by its position: what both have there, and where the next instruction lies.
-abbrev pub Stands : {M A N : Type 0} → Interface M A → (Words → M → N → Type 0) → Code → Code → (ℕ → Position) → ℕ → Position → Type 0
+abbrev pub Stands : {M A N : Type 0} → Interface M A → (Words → M → N → Type 0) → Code → Code → (ℕ → Position) → ℕ → Position
+    → Type 0
 Stands bus Holds target source place address Same = source address ≡ target address
 Stands bus Holds target source place address Changed =
     (row : Regs → Row) × (main : Insn) × (source address ≡ Some row) × (target address ≡ Some (λ regs. row_of main regs))
     × ((regs : Regs) → regs.rip ≡ address → IsRegs regs → InPlaceLaw (row regs) main regs)
 Stands bus Holds target source place address (Entry slot) =
-    (insn : Insn) × (target address ≡ Some (λ regs. row_of insn regs)) × (slot.start ≡ address) × (place slot.at ≡ in_pre slot [] slot.pre)
-    × ((state : Slotted) → state.regs.rip ≡ address → Works bus Holds insn state × (worked insn state ≡ record { regs = record (state.regs) { rip = slot.at }; words = state.words }))
-    × ((state : Slotted) → state.regs.rip ≡ slot.at → IsRegs state.regs → SlotGoes bus Holds (slot.row (record (state.regs) { rip = slot.start })) slot.start slot.pre slot.main slot.post state)
+    (insn : Insn) × (target address ≡ Some (λ regs. row_of insn regs)) × (slot.start ≡ address)
+    × (place slot.at ≡ in_pre slot [] slot.pre)
+    × ((state : Slotted) → state.regs.rip ≡ address
+    → Works bus Holds insn state
+    × (worked insn state ≡ record { regs = record (state.regs) { rip = slot.at }; words = state.words }))
+    × ((state : Slotted) → state.regs.rip ≡ slot.at → IsRegs state.regs
+    → SlotGoes bus Holds (slot.row (record (state.regs) { rip = slot.start })) slot.start slot.pre slot.main slot.post state)
 Stands bus Holds target source place address (AtOnce slot) =
-    (source address ≡ Some slot.row) × (target address ≡ Some (λ regs. row_of slot.main regs)) × HasNext place slot slot.post (behind address slot.main)
-    × ((state : Slotted) → state.regs.rip ≡ address → IsRegs state.regs → MainWorks bus Holds (slot.row state.regs) slot.main slot.post state)
+    (source address ≡ Some slot.row) × (target address ≡ Some (λ regs. row_of slot.main regs))
+    × HasNext place slot slot.post (behind address slot.main)
+    × ((state : Slotted) → state.regs.rip ≡ address → IsRegs state.regs
+    → MainWorks bus Holds (slot.row state.regs) slot.main slot.post state)
 Stands bus Holds target source place address (InPre slot done insn left) =
-    (target address ≡ Some (λ regs. row_of insn regs)) × (done ++ insn ∷ left ≡ slot.pre) × (place (behind address insn) ≡ in_pre slot (done ++ insn ∷ []) left)
+    (target address ≡ Some (λ regs. row_of insn regs)) × (done ++ insn ∷ left ≡ slot.pre)
+    × (place (behind address insn) ≡ in_pre slot (done ++ insn ∷ []) left)
 Stands bus Holds target source place address (AtMain slot) =
-    (source slot.start ≡ Some slot.row) × (target address ≡ Some (λ regs. row_of slot.main regs)) × HasNext place slot slot.post (behind address slot.main)
-Stands bus Holds target source place address (InPost slot insn left) = (target address ≡ Some (λ regs. row_of insn regs)) × IsNext place slot left (behind address insn)
+    (source slot.start ≡ Some slot.row) × (target address ≡ Some (λ regs. row_of slot.main regs))
+    × HasNext place slot slot.post (behind address slot.main)
+Stands bus Holds target source place address (InPost slot insn left) =
+    (target address ≡ Some (λ regs. row_of insn regs)) × IsNext place slot left (behind address insn)
 Stands bus Holds target source place address Nowhere = Unit {0}

@@ -26,7 +26,8 @@ abbrev pub made_of : {V M A : Type 0} → System V M A → ℕ → State V M A �
 made_of system number state = threads_step (system.buses state.mode) (system.codes state.mode) number state.threads
 
 abbrev pub after_event : {V M A : Type 0} → System V M A → ℕ → Event → State V M A → Made M A → State V M A
-after_event system number (Ran Next) state made = record { mode = state.mode; threads = with_thread number made.thread state.threads }
+after_event system number (Ran Next) state made =
+    record { mode = state.mode; threads = with_thread number made.thread state.threads }
 after_event system number event state made = system.serve number event state
 
 abbrev pub next_state : {V M A : Type 0} → System V M A → ℕ → State V M A → State V M A
@@ -47,7 +48,8 @@ line_of system number state = record {
 
 abbrev pub served_lines : {V M A : Type 0} → System V M A → List ℕ → State V M A → List (ServedLine V)
 served_lines system [] state = []
-served_lines system (number ∷ schedule) state = line_of system number state ∷ served_lines system schedule (next_state system number state)
+served_lines system (number ∷ schedule) state =
+    line_of system number state ∷ served_lines system schedule (next_state system number state)
 
 abbrev pub served_end : {V M A : Type 0} → System V M A → List ℕ → State V M A → State V M A
 served_end system [] state = state
@@ -55,14 +57,18 @@ served_end system (number ∷ schedule) state = served_end system schedule (next
 
 -- ---- its original lines
 
-abbrev pub original_served : {V : Type 0} → (V → ℕ → ℕ → Position) → (BusStop → BusStop) → List (ServedLine V) → List (ServedLine V)
+abbrev pub original_served : {V : Type 0} → (V → ℕ → ℕ → Position) → (BusStop → BusStop) → List (ServedLine V)
+    → List (ServedLine V)
 original_served places naming [] = []
 original_served places naming (one ∷ lines) =
     if is_extra (places one.mode one.thread one.line.rip) then original_served places naming lines
     else record {
       mode = one.mode;
       thread = one.thread;
-      line = record { rip = original_rip (places one.mode one.thread one.line.rip) one.line.rip; event = told_event naming one.line.event };
+      line = record {
+        rip = original_rip (places one.mode one.thread one.line.rip) one.line.rip;
+        event = told_event naming one.line.event;
+      };
     } ∷ original_served places naming lines
 
 abbrev pub served_entries : {V : Type 0} → List (ServedLine V) → List ℕ
@@ -70,23 +76,32 @@ served_entries lines = map (λ one. one.thread) lines
 
 -- ---- related states
 
-pub record StatesRelated {V M A N B : Type 0} (buses : V → ℕ → Interface M A) (HoldsAll : (ℕ → Words) → M → N → Type 0) (places : V → ℕ → ℕ → Position) (left : State V M A) (right : State V N B) : Type 0 where
+pub record StatesRelated {V M A N B : Type 0} (buses : V → ℕ → Interface M A) (HoldsAll : (ℕ → Words) → M → N
+    → Type 0) (places : V → ℕ → ℕ → Position) (left : State V M A) (right : State V N B) : Type 0 where
   pub mode : right.mode ≡ left.mode
   pub threads : ThreadsRelated (buses left.mode) HoldsAll (places left.mode) left.threads right.threads
 
 -- both kernels serve an event alike
-abbrev pub ServesAlike : {V M A N B : Type 0} → System V M A → System V N B → ((ℕ → Words) → M → N → Type 0) → (BusStop → BusStop) → (V → ℕ → ℕ → Position) → Type 0
+abbrev pub ServesAlike : {V M A N B : Type 0} → System V M A → System V N B → ((ℕ → Words) → M → N → Type 0)
+    → (BusStop → BusStop) → (V → ℕ → ℕ → Position) → Type 0
 ServesAlike {V} {M} {A} {N} {B} system original HoldsAll naming places =
-    (number : ℕ) (event : Event) (left : State V M A) (right : State V N B) → StatesRelated system.buses HoldsAll places left right → (event ≡ Ran Next → ⊥) → (made_of system number left).event ≡ event
-    → is_extra (places left.mode number (left.threads.regs number).rip) ≡ false → StatesRelated system.buses HoldsAll places (system.serve number event left) (original.serve number (told_event naming event) right)
+    (number : ℕ) (event : Event) (left : State V M A) (right : State V N B)
+    → StatesRelated system.buses HoldsAll places left right → (event ≡ Ran Next → ⊥)
+    → (made_of system number left).event ≡ event
+    → is_extra (places left.mode number (left.threads.regs number).rip) ≡ false
+    → StatesRelated system.buses HoldsAll places (system.serve number event left)
+    (original.serve number (told_event naming event) right)
 
-abbrev pub ServedStraight : {V M A N B : Type 0} → System V M A → System V N B → ((ℕ → Words) → M → N → Type 0) → (ℕ → ℕ → ℕ → Type 0) → (V → ℕ → ℕ → Position) → List ℕ → State V M A → Type 0
+abbrev pub ServedStraight : {V M A N B : Type 0} → System V M A → System V N B → ((ℕ → Words) → M → N → Type 0)
+    → (ℕ → ℕ → ℕ → Type 0) → (V → ℕ → ℕ → Position) → List ℕ → State V M A → Type 0
 ServedStraight system original HoldsAll IsOutside places [] state = Unit {0}
 ServedStraight system original HoldsAll IsOutside places (number ∷ schedule) state =
-    IsStraight (system.buses state.mode number) (HoldsOf HoldsAll number) (IsOutside number) (system.codes state.mode number) (original.codes state.mode number) (places state.mode number) (thread_of number state.threads)
+    IsStraight (system.buses state.mode number) (HoldsOf HoldsAll number) (IsOutside number) (system.codes state.mode number)
+    (original.codes state.mode number) (places state.mode number) (thread_of number state.threads)
     × ServedStraight system original HoldsAll IsOutside places schedule (next_state system number state)
 
-pub record ServedAlike {V M A N B : Type 0} (system : System V M A) (original : System V N B) (HoldsAll : (ℕ → Words) → M → N → Type 0) (naming : BusStop → BusStop) (places : V → ℕ → ℕ → Position)
+pub record ServedAlike {V M A N B : Type 0} (system : System V M A) (original : System V N B) (HoldsAll : (ℕ → Words) → M → N
+    → Type 0) (naming : BusStop → BusStop) (places : V → ℕ → ℕ → Position)
     (schedule : List ℕ) (left : State V M A) (entries : List ℕ) (right : State V N B) : Type 0 where
   pub lines : served_lines original entries right ≡ original_served places naming (served_lines system schedule left)
   pub end : StatesRelated system.buses HoldsAll places (served_end system schedule left) (served_end original entries right)

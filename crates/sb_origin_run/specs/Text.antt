@@ -7,7 +7,7 @@ use Rattle.sb_insn.specs.Grammar.{IsValid}
 use Rattle.sb_exec.specs.Row.{Row}
 use Rattle.sb_exec.specs.Rows.{row_of}
 use Rattle.sb_forms.specs.declared.slots.Site.{Site}
-use Rattle.sb_forms.specs.Pieces.{jump}
+use Rattle.sb_forms.specs.Pieces.{jump_insn}
 use Rattle.sb_forms.specs.Places.{HasForm}
 use Rattle.sb_forms.specs.Table.{Replacement, InPlace, Moved, replacement}
 use Rattle.sb_forms.specs.Answers.{IsSite}
@@ -34,16 +34,23 @@ pub record IsReplaced (address : ℕ) (row : Regs → Row) (form : Replacement) 
 abbrev pub IsPlaced : Code → Code → (ℕ → Position) → ℕ → Position → Type 0
 IsPlaced target source place address Same = source address ≡ target address
 IsPlaced target source place address Changed =
-    (row : Regs → Row) × (main : Insn) × (source address ≡ Some row) × (target address ≡ has_row main) × IsReplaced address row (InPlace (main ∷ []))
+    (row : Regs → Row) × (main : Insn) × (source address ≡ Some row) × (target address ≡ has_row main)
+    × IsReplaced address row (InPlace (main ∷ []))
 IsPlaced target source place address (Entry slot) =
-    (replaced : IsReplaced address slot.row (Moved slot.pre slot.main slot.post)) × (slot.start ≡ address) × (slot.at ≡ (replaced.site).slot)
-    × (target address ≡ has_row (jump address slot.at)) × (place slot.at ≡ in_pre slot [] slot.pre)
+    (replaced : IsReplaced address slot.row (Moved slot.pre slot.main slot.post)) × (slot.start ≡ address)
+    × (slot.at ≡ (replaced.site).slot)
+    × (target address ≡ has_row (jump_insn address slot.at)) × (place slot.at ≡ in_pre slot [] slot.pre)
 IsPlaced target source place address (AtOnce slot) =
-    (source address ≡ Some slot.row) × (target address ≡ has_row slot.main) × HasNext place slot slot.post (behind address slot.main) × IsReplaced address slot.row (InPlace (slot.main ∷ slot.post))
+    (source address ≡ Some slot.row) × (target address ≡ has_row slot.main)
+    × HasNext place slot slot.post (behind address slot.main) × IsReplaced address slot.row (InPlace (slot.main ∷ slot.post))
 IsPlaced target source place address (InPre slot done insn left) =
-    (target address ≡ has_row insn) × (done ++ insn ∷ left ≡ slot.pre) × (place (behind address insn) ≡ in_pre slot (done ++ insn ∷ []) left)
-IsPlaced target source place address (AtMain slot) = (source slot.start ≡ Some slot.row) × (target address ≡ has_row slot.main) × HasNext place slot slot.post (behind address slot.main)
-IsPlaced target source place address (InPost slot insn left) = (target address ≡ has_row insn) × IsNext place slot left (behind address insn)
+    (target address ≡ has_row insn) × (done ++ insn ∷ left ≡ slot.pre)
+    × (place (behind address insn) ≡ in_pre slot (done ++ insn ∷ []) left)
+IsPlaced target source place address (AtMain slot) =
+    (source slot.start ≡ Some slot.row) × (target address ≡ has_row slot.main)
+    × HasNext place slot slot.post (behind address slot.main)
+IsPlaced target source place address (InPost slot insn left) =
+    (target address ≡ has_row insn) × IsNext place slot left (behind address insn)
 IsPlaced target source place address Nowhere = Unit {0}
 
 -- at every address

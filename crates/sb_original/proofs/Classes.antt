@@ -10,19 +10,19 @@ use Rattle.sb_insn.specs.declared.opcode_map.Mnemonic.TheVariants as mnemonic
 use Rattle.sb_insn.specs.declared.opcode_map.OperandForm.{OperandForm}
 use Rattle.sb_insn.specs.declared.opcode_map.OperandForm.TheVariants as form
 use Rattle.sb_insn.specs.declared.opcode_map.Instruction.{Instruction}
-use Rattle.sb_insn.specs.declared.opcode_map.Operand.{Operand}
+use Rattle.sb_insn.specs.declared.opcode_map.ModRmOpcode.{ModRmOpcode}
 use Rattle.sb_insn.specs.declared.opcode_map.Cell.{Cell}
-use Rattle.sb_insn.specs.declared.opcode_map.Cell.TheVariants.{Absent, Plain, ModRm, Extended}
+use Rattle.sb_insn.specs.declared.opcode_map.Cell.TheVariants.{Absent, NoModRm, ModRm, Extended}
 use Rattle.sb_insn.specs.OpcodeMap.{one_byte, one_byte_rows, two_byte, two_byte_rows, cell_of}
 use Rattle.sb_insn.specs.Groups.{group_operand, operand_of}
 use Rattle.sb_insn.specs.Fields.{reg_field, some_permits, is_modrm_field, rex_w}
-use Rattle.sb_insn.specs.Listing.{named, instruction_in, instruction_of, operand_in, operand_for}
+use Rattle.sb_insn.specs.Listing.{named_instruction, instruction_in, instruction_of, operand_in, operand_for}
 use Rattle.sb_insn.specs.Grammar.{IsValid}
 use Rattle.sb_insn.proofs.Rows.{looked_up, some_holds}
 use Rattle.sb_alu.specs.declared.operation.Operation.TheVariants as operation
 use Rattle.sb_exec.specs.declared.action.Exchange.TheVariants as exchange
 use Rattle.sb_exec.specs.declared.action.Action.TheVariants.{Compute, ZeroExtend, LoadAddress, Exchange, JumpIf}
-use Rattle.sb_alu.specs.declared.size.Size.TheVariants.{Double, Quad}
+use Rattle.sb_alu.specs.declared.size.Size.TheVariants.{Doubleword, Quadword}
 use Rattle.sb_exec.specs.Operand.{reg_number, operand_size, opcode_of}
 use Rattle.sb_exec.specs.Actions.{byte_or, moved_size, condition_number, action_by, action_for, action_of}
 use Rattle.sb_forms.specs.Registers as forms
@@ -65,7 +65,7 @@ fits mnemonic.Ud2 form = false
 fits mnemonic.Vmfunc form = false
 fits _ form = is_rm_form form
 
-abbrev operand_fits : Operand → Bool
+abbrev operand_fits : ModRmOpcode → Bool
 operand_fits operand = fits operand.instruction.mnemonic operand.instruction.form
 
 one_fits : (opcode : ℕ) → of_cell operand_fits (one_byte opcode) ≡ true
@@ -86,17 +86,20 @@ op_fits Vmfunc = refl
 abbrev pub Fits : Option Instruction → Type 0
 Fits found = (instruction : Instruction) × (found ≡ Some instruction) × (fits instruction.mnemonic instruction.form ≡ true)
 
-some_fits : (operand : Option Operand) (lock : Bool) (rex : Option ℕ) (modrm : ℕ) → some_holds operand_fits operand ≡ true → some_permits operand lock rex modrm ≡ true → Fits (named operand)
+some_fits : (operand : Option ModRmOpcode) (lock : Bool) (rex : Option ℕ) (modrm : ℕ) → some_holds operand_fits operand ≡ true
+    → some_permits operand lock rex modrm ≡ true → Fits (named_instruction operand)
 some_fits None lock rex modrm e permitted = absurd cc
 some_fits (Some operand) lock rex modrm e permitted = (operand.instruction, refl, e)
 
-cell_fits : (cell : Cell) (lock : Bool) (rex modrm : Option ℕ) → of_cell operand_fits cell ≡ true → has_memory modrm ≡ true → is_modrm_field cell lock rex modrm ≡ true → Fits (instruction_in cell modrm)
+cell_fits : (cell : Cell) (lock : Bool) (rex modrm : Option ℕ) → of_cell operand_fits cell ≡ true → has_memory modrm ≡ true
+    → is_modrm_field cell lock rex modrm ≡ true → Fits (instruction_in cell modrm)
 cell_fits cell lock rex None e memory permitted = absurd cc
 cell_fits Absent lock rex (Some modrm) e memory permitted = absurd cc
-cell_fits (Plain plain) lock rex (Some modrm) e memory permitted = absurd cc
+cell_fits (NoModRm plain) lock rex (Some modrm) e memory permitted = absurd cc
 cell_fits (ModRm operand) lock rex (Some modrm) e memory permitted = (operand.instruction, refl, e)
 cell_fits (Extended group form imm) lock rex (Some modrm) e memory permitted =
-    some_fits (group_operand group form imm (reg_field modrm)) lock rex modrm (of_operand operand_fits (Extended group form imm) (reg_field modrm) e) permitted
+    some_fits (group_operand group form imm (reg_field modrm)) lock rex modrm
+    (of_operand operand_fits (Extended group form imm) (reg_field modrm) e) permitted
 
 pub memory_fits : (insn : Insn) → IsValid insn → has_memory insn.modrm ≡ true → Fits (instruction_of insn)
 unfolding instruction_of
@@ -104,7 +107,8 @@ memory_fits insn valid memory = cell_fits (cell_of insn.op) insn.lock insn.rex i
 
 -- ---- actions
 
-pub fits_action : (name : Mnemonic) (form : OperandForm) (insn : Insn) → fits name form ≡ true → is_call name ≡ false → is_jump name ≡ false → is_rm_action (action_by name form insn) ≡ true
+pub fits_action : (name : Mnemonic) (form : OperandForm) (insn : Insn) → fits name form ≡ true → is_call name ≡ false
+    → is_jump name ≡ false → is_rm_action (action_by name form insn) ≡ true
 unfolding action_by
 fits_action mnemonic.Add form insn e call jump = e
 fits_action mnemonic.Or form insn e call jump = e
@@ -141,7 +145,8 @@ fits_action mnemonic.Ud2 form insn e call jump = absurd cc
 fits_action mnemonic.Vmfunc form insn e call jump = absurd cc
 
 -- reg is named where the form is one of the two with reg and rm
-reg_shown : (hidden : ℕ → Bool) (form : OperandForm) (insn : Insn) → is_reg_rm form ≡ true → FormShown hidden form insn → hidden (reg_number insn) ≡ false
+reg_shown : (hidden : ℕ → Bool) (form : OperandForm) (insn : Insn) → is_reg_rm form ≡ true → FormShown hidden form insn
+    → hidden (reg_number insn) ≡ false
 reg_shown hidden form.RegRm insn e shown = shown
 reg_shown hidden form.RmReg insn e shown = absurd cc
 reg_shown hidden form.RmImm insn e shown = absurd cc
@@ -156,7 +161,8 @@ reg_shown hidden form.Imm insn e shown = absurd cc
 reg_shown hidden form.Relative insn e shown = absurd cc
 reg_shown hidden form.Nothing insn e shown = absurd cc
 
-rm_reg_shown : (hidden : ℕ → Bool) (form : OperandForm) (insn : Insn) → is_rm_reg form ≡ true → FormShown hidden form insn → hidden (reg_number insn) ≡ false
+rm_reg_shown : (hidden : ℕ → Bool) (form : OperandForm) (insn : Insn) → is_rm_reg form ≡ true → FormShown hidden form insn
+    → hidden (reg_number insn) ≡ false
 rm_reg_shown hidden form.RmReg insn e shown = shown
 rm_reg_shown hidden form.RegRm insn e shown = absurd cc
 rm_reg_shown hidden form.RmImm insn e shown = absurd cc
@@ -171,7 +177,8 @@ rm_reg_shown hidden form.Imm insn e shown = absurd cc
 rm_reg_shown hidden form.Relative insn e shown = absurd cc
 rm_reg_shown hidden form.Nothing insn e shown = absurd cc
 
-pub action_shown : (hidden : ℕ → Bool) (name : Mnemonic) (form : OperandForm) (insn : Insn) → fits name form ≡ true → FormShown hidden form insn → ActionShown hidden (action_by name form insn) insn
+pub action_shown : (hidden : ℕ → Bool) (name : Mnemonic) (form : OperandForm) (insn : Insn) → fits name form ≡ true
+    → FormShown hidden form insn → ActionShown hidden (action_by name form insn) insn
 unfolding action_by
 action_shown hidden mnemonic.Add form insn e shown = shown
 action_shown hidden mnemonic.Or form insn e shown = shown
@@ -209,7 +216,8 @@ action_shown hidden mnemonic.Vmfunc form insn e shown = tt
 
 -- ---- what is not named is not hidden
 
-names_not : (form : OperandForm) (insn : Insn) (number : ℕ) → is_named form insn number ≡ false → is_number (form_number form insn) number ≡ false
+names_not : (form : OperandForm) (insn : Insn) (number : ℕ) → is_named form insn number ≡ false
+    → is_number (form_number form insn) number ≡ false
 unfolding is_named
 names_not form insn number e =
     let first = or_parts (is_number (rm_number insn.modrm insn.rex) number) _ e in
@@ -217,17 +225,22 @@ names_not form insn number e =
     (or_parts (is_number (index_number insn.sib insn.rex) number) (is_number (form_number form insn) number) second.1).1
 
 -- a number that is named is not among those that are not
-pub number_shown : (named : ℕ) (form : OperandForm) (insn : Insn) (numbers : List ℕ) → form_number form insn ≡ Some named → NamesNone form insn numbers → hides numbers named ≡ false
+pub number_shown : (named : ℕ) (form : OperandForm) (insn : Insn) (numbers : List ℕ) → form_number form insn ≡ Some named
+    → NamesNone form insn numbers → hides numbers named ≡ false
 number_shown named form insn [] is none = refl
 number_shown named form insn (one ∷ others) is none =
     or_from (named == one) (hides others named)
     (ap (λ (number : Option ℕ). is_number number one) (sym is) ∙ names_not form insn one none.0)
     (number_shown named form insn others is none.1)
 
-reg_is_shown : (form : OperandForm) (insn : Insn) (numbers : List ℕ) → form_number form insn ≡ Some (forms.reg_number insn) → NamesNone form insn numbers → hides numbers (reg_number insn) ≡ false
-reg_is_shown form insn numbers is none = ap (λ (number : ℕ). hides numbers number) (sym (reg_number_same insn)) ∙ number_shown (forms.reg_number insn) form insn numbers is none
+reg_is_shown : (form : OperandForm) (insn : Insn) (numbers : List ℕ) → form_number form insn ≡ Some (forms.reg_number insn)
+    → NamesNone form insn numbers → hides numbers (reg_number insn) ≡ false
+reg_is_shown form insn numbers is none =
+    ap (λ (number : ℕ). hides numbers number) (sym (reg_number_same insn))
+    ∙ number_shown (forms.reg_number insn) form insn numbers is none
 
-pub form_shown : (form : OperandForm) (insn : Insn) (numbers : List ℕ) → NamesNone form insn numbers → FormShown (hides numbers) form insn
+pub form_shown : (form : OperandForm) (insn : Insn) (numbers : List ℕ) → NamesNone form insn numbers
+    → FormShown (hides numbers) form insn
 form_shown form.RmReg insn numbers none = reg_is_shown form.RmReg insn numbers refl none
 form_shown form.RegRm insn numbers none = reg_is_shown form.RegRm insn numbers refl none
 form_shown form.RegRmImm insn numbers none = reg_is_shown form.RegRmImm insn numbers refl none
@@ -244,18 +257,23 @@ form_shown form.Nothing insn numbers none = tt
 
 -- ---- the same action
 
-instruction_same : (cell : Cell) (modrm : Option ℕ) (byte : ℕ) → has_memory modrm ≡ true → reg_field byte ≡ reg_field (byte_of modrm) → instruction_in cell (Some byte) ≡ instruction_in cell modrm
+instruction_same : (cell : Cell) (modrm : Option ℕ) (byte : ℕ) → has_memory modrm ≡ true
+    → reg_field byte ≡ reg_field (byte_of modrm) → instruction_in cell (Some byte) ≡ instruction_in cell modrm
 instruction_same cell None byte memory same = absurd cc
 instruction_same Absent (Some modrm) byte memory same = refl
-instruction_same (Plain plain) (Some modrm) byte memory same = refl
+instruction_same (NoModRm plain) (Some modrm) byte memory same = refl
 instruction_same (ModRm operand) (Some modrm) byte memory same = refl
-instruction_same (Extended group form imm) (Some modrm) byte memory same = ap (λ (reg : ℕ). named (group_operand group form imm reg)) same
+instruction_same (Extended group form imm) (Some modrm) byte memory same =
+    ap (λ (reg : ℕ). named_instruction (group_operand group form imm reg)) same
 
-operand_same : (cell : Cell) (modrm : Option ℕ) (byte : ℕ) → has_memory modrm ≡ true → reg_field byte ≡ reg_field (byte_of modrm) → operand_in cell (Some byte) ≡ operand_in cell modrm
+operand_same : (cell : Cell) (modrm : Option ℕ) (byte : ℕ) → has_memory modrm ≡ true
+    → reg_field byte ≡ reg_field (byte_of modrm) → operand_in cell (Some byte) ≡ operand_in cell modrm
 operand_same cell None byte memory same = absurd cc
 operand_same cell (Some modrm) byte memory same = ap (λ (reg : ℕ). operand_of cell reg) same
 
-action_by_same : (name : Mnemonic) (form : OperandForm) (insn main : Insn) → operand_size main ≡ operand_size insn → moved_size main ≡ moved_size insn → condition_number main ≡ condition_number insn → action_by name form main ≡ action_by name form insn
+action_by_same : (name : Mnemonic) (form : OperandForm) (insn main : Insn) → operand_size main ≡ operand_size insn
+    → moved_size main ≡ moved_size insn → condition_number main ≡ condition_number insn
+    → action_by name form main ≡ action_by name form insn
 unfolding action_by
 action_by_same mnemonic.Add form insn main size moved number = ap (λ s. Compute operation.Add form s) size
 action_by_same mnemonic.Or form insn main size moved number = ap (λ s. Compute operation.Or form s) size
@@ -272,32 +290,41 @@ action_by_same mnemonic.Neg form insn main size moved number = ap (λ s. Compute
 action_by_same mnemonic.Imul form insn main size moved number = ap (λ s. Compute operation.Multiply form s) size
 action_by_same mnemonic.Shl form insn main size moved number = ap (λ s. Compute operation.ShiftLeft form s) size
 action_by_same mnemonic.Shr form insn main size moved number = ap (λ s. Compute operation.ShiftRight form s) size
-action_by_same mnemonic.Sar form insn main size moved number = ap (λ s. Compute operation.ShiftSigned form s) size
+action_by_same mnemonic.Sar form insn main size moved number = ap (λ s. Compute operation.ShiftArithmetic form s) size
 action_by_same mnemonic.Inc form insn main size moved number = ap (λ s. Compute operation.Increment form s) size
 action_by_same mnemonic.Dec form insn main size moved number = ap (λ s. Compute operation.Decrement form s) size
 action_by_same mnemonic.Bsf form insn main size moved number = ap (λ s. Compute operation.ScanForward form s) size
-action_by_same mnemonic.Xchg form insn main size moved number = ap (λ s. Exchange exchange.Swap s) size
-action_by_same mnemonic.Xadd form insn main size moved number = ap (λ s. Exchange exchange.Add s) size
-action_by_same mnemonic.Cmpxchg form insn main size moved number = ap (λ s. Exchange exchange.Compare s) size
+action_by_same mnemonic.Xchg form insn main size moved number = ap (λ s. Exchange exchange.Xchg s) size
+action_by_same mnemonic.Xadd form insn main size moved number = ap (λ s. Exchange exchange.Xadd s) size
+action_by_same mnemonic.Cmpxchg form insn main size moved number = ap (λ s. Exchange exchange.Cmpxchg s) size
 action_by_same mnemonic.Jcc form insn main size moved number = ap (λ n. JumpIf n) number
 action_by_same _ form insn main size moved number = refl
 
-pub action_same : (insn main : Insn) → instruction_of main ≡ instruction_of insn → operand_size main ≡ operand_size insn → moved_size main ≡ moved_size insn → condition_number main ≡ condition_number insn → action_of main ≡ action_of insn
+pub action_same : (insn main : Insn) → instruction_of main ≡ instruction_of insn → operand_size main ≡ operand_size insn
+    → moved_size main ≡ moved_size insn → condition_number main ≡ condition_number insn → action_of main ≡ action_of insn
 unfolding action_of
-action_same insn main same size moved number = ap (λ found. action_for found main) same ∙ for_same (instruction_of insn) insn main size moved number
+action_same insn main same size moved number =
+    ap (λ found. action_for found main) same ∙ for_same (instruction_of insn) insn main size moved number
   where
-    for_same : (found : Option Instruction) (insn main : Insn) → operand_size main ≡ operand_size insn → moved_size main ≡ moved_size insn → condition_number main ≡ condition_number insn → action_for found main ≡ action_for found insn
+    for_same : (found : Option Instruction) (insn main : Insn) → operand_size main ≡ operand_size insn
+        → moved_size main ≡ moved_size insn → condition_number main ≡ condition_number insn
+        → action_for found main ≡ action_for found insn
     for_same None insn main size moved number = refl
-    for_same (Some instruction) insn main size moved number = action_by_same instruction.mnemonic instruction.form insn main size moved number
+    for_same (Some instruction) insn main size moved number =
+        action_by_same instruction.mnemonic instruction.form insn main size moved number
 
 -- an instruction with another ModRM byte whose reg field is the same, and the same REX.W
-pub same_work : (insn main : Insn) (byte : ℕ) → has_memory insn.modrm ≡ true → main.op ≡ insn.op → main.modrm ≡ Some byte → reg_field byte ≡ reg_field (byte_of insn.modrm) → rex_w main.rex ≡ rex_w insn.rex → action_of main ≡ action_of insn
+pub same_work : (insn main : Insn) (byte : ℕ) → has_memory insn.modrm ≡ true → main.op ≡ insn.op → main.modrm ≡ Some byte
+    → reg_field byte ≡ reg_field (byte_of insn.modrm) → rex_w main.rex ≡ rex_w insn.rex → action_of main ≡ action_of insn
 unfolding instruction_of operand_for
 same_work insn main byte memory op modrm reg wide =
-    let size : operand_size main ≡ operand_size insn = ap (λ (bit : ℕ). if bit == 1 then Quad else Double) wide in
+    let size : operand_size main ≡ operand_size insn = ap (λ (bit : ℕ). if bit == 1 then Quadword else Doubleword) wide in
     let found : instruction_of main ≡ instruction_of insn =
-    ap (λ o. instruction_in (cell_of o) main.modrm) op ∙ ap (λ m. instruction_in (cell_of insn.op) m) modrm ∙ instruction_same (cell_of insn.op) insn.modrm byte memory reg in
+    ap (λ o. instruction_in (cell_of o) main.modrm) op ∙ ap (λ m. instruction_in (cell_of insn.op) m) modrm
+    ∙ instruction_same (cell_of insn.op) insn.modrm byte memory reg in
     let operand : operand_for main ≡ operand_for insn =
-    ap (λ o. operand_in (cell_of o) main.modrm) op ∙ ap (λ m. operand_in (cell_of insn.op) m) modrm ∙ operand_same (cell_of insn.op) insn.modrm byte memory reg in
-    let moved : moved_size main ≡ moved_size insn = ap (λ o. byte_or o (operand_size main)) operand ∙ ap (λ s. byte_or (operand_for insn) s) size in
+    ap (λ o. operand_in (cell_of o) main.modrm) op ∙ ap (λ m. operand_in (cell_of insn.op) m) modrm
+    ∙ operand_same (cell_of insn.op) insn.modrm byte memory reg in
+    let moved : moved_size main ≡ moved_size insn =
+    ap (λ o. byte_or o (operand_size main)) operand ∙ ap (λ s. byte_or (operand_for insn) s) size in
     action_same insn main found size moved (ap (λ o. opcode_of o % 16) op)

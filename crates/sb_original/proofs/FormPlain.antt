@@ -10,9 +10,9 @@ use Rattle.sb_exec.specs.Interface.{Interface}
 use Rattle.sb_exec.specs.Operand.{next_rip}
 use Rattle.sb_exec.specs.Rows.{row_of}
 use Rattle.sb_forms.specs.declared.slots.Site.{Site}
-use Rattle.sb_forms.specs.Pieces.{is_sib_0f, exchanged}
+use Rattle.sb_forms.specs.Pieces.{is_sib_0f, sib_exchanged}
 use Rattle.sb_forms.specs.Mains.{with_displacement}
-use Rattle.sb_forms.specs.Table.{InPlace, moved, bytes_of, is_modrm}
+use Rattle.sb_forms.specs.Table.{InPlace, move_outcome, bytes_of, is_modrm}
 use Rattle.sb_forms.specs.Answers.{IsSmall}
 use Rattle.sb_forms.proofs.Lengths.{exchanged_length}
 use Rattle.sb_forms.proofs.Operands.{modrm_is}
@@ -28,15 +28,18 @@ use Rattle.sb_original.proofs.FormAddress.{alike_accesses, row_goes}
 
 -- registers of which none is hidden
 pub all_same : (regs other : Regs) → AgreeBut (hides []) regs other → other.general ≡ regs.general
-all_same regs other agree = ext_get_or 0 other.general regs.general (agree.other_count ∙ sym agree.count) (λ k _. agree.seen k refl)
+all_same regs other agree =
+    ext_get_or 0 other.general regs.general (agree.other_count ∙ sym agree.count) (λ k _. agree.seen k refl)
 
 -- ---- base and index exchanged, in place
 
-pub exchanged_law : {M A N : Type 0} (bus : Interface M A) (Holds : Words → M → N → Type 0) (insn : Insn) (instruction : Instruction) (start : ℕ) (state : Slotted) → IsMemoryWork insn instruction → is_sib_0f insn.sib ≡ true
-    → IsRegs state.regs → FormLaw bus Holds insn start state (InPlace (exchanged insn ∷ []))
+pub exchanged_law : {M A N : Type 0} (bus : Interface M A) (Holds : Words → M → N
+    → Type 0) (insn : Insn) (instruction : Instruction) (start : ℕ) (state : Slotted)
+    → IsMemoryWork insn instruction → is_sib_0f insn.sib ≡ true
+    → IsRegs state.regs → FormLaw bus Holds insn start state (InPlace (sib_exchanged insn ∷ []))
 exchanged_law bus Holds insn instruction start state work is regs =
     let old : Regs = record (state.regs) { rip = start } in
-    let main = exchanged insn in
+    let main = sib_exchanged insn in
     let alike = exchanged_main insn instruction old work is regs.count in
     let is_rm = work_is_rm insn instruction work in
     let main_rm = ap (λ (a : Action). is_rm_action a) (exchanged_action insn work.memory) ∙ is_rm in record {
@@ -44,18 +47,23 @@ exchanged_law bus Holds insn instruction start state work is regs =
       registers = λ loaded.
           let follow = (alike.after loaded).regs in
           regs_same _ _ (all_same ((row_of insn old).after loaded).regs ((row_of main old).after loaded).regs follow.agree)
-          (row_goes main old loaded main_rm ∙ ap (λ (n : ℕ). (start + n) % 2 ^ 64) (exchanged_length insn is) ∙ sym (row_goes insn old loaded is_rm)) follow.agree.flags;
+          (row_goes main old loaded main_rm ∙ ap (λ (n : ℕ). (start + n) % 2 ^ 64) (exchanged_length insn is)
+          ∙ sym (row_goes insn old loaded is_rm)) follow.agree.flags;
     }
 
 -- ---- a displacement behind ModRM 0F
 
-pub displaced_law : {M A N : Type 0} (bus : Interface M A) (Holds : Words → M → N → Type 0) (insn : Insn) (instruction : Instruction) (site : Site) (start : ℕ) (state : Slotted) → IsMemoryWork insn instruction → is_modrm 0x0F insn.modrm ≡ true
-    → IsEntered insn site start state → IsSmall (bytes_of (moved site [] (with_displacement insn) [])) → FormLaw bus Holds insn start state (moved site [] (with_displacement insn) [])
+pub displaced_law : {M A N : Type 0} (bus : Interface M A) (Holds : Words → M → N
+    → Type 0) (insn : Insn) (instruction : Instruction) (site : Site) (start : ℕ) (state : Slotted)
+    → IsMemoryWork insn instruction → is_modrm 0x0F insn.modrm ≡ true
+    → IsEntered insn site start state → IsSmall (bytes_of (move_outcome site [] (with_displacement insn) []))
+    → FormLaw bus Holds insn start state (move_outcome site [] (with_displacement insn) [])
 displaced_law bus Holds insn instruction site start state work e entered small =
     let is = modrm_is 0x0F insn.modrm e in
     let old : Regs = record (state.regs) { rip = start } in
     let main = with_displacement insn in
-    let agree : AgreeBut (hides []) old state.regs = record { flags = refl; count = entered.regs.count; other_count = entered.regs.count; seen = λ number _. refl } in
+    let agree : AgreeBut (hides []) old state.regs =
+    record { flags = refl; count = entered.regs.count; other_count = entered.regs.count; seen = λ number _. refl } in
     let alike = displaced_main insn instruction old state.regs work is agree in
     let is_rm = work_is_rm insn instruction work in
     let main_rm = ap (λ (a : Action). is_rm_action a) (displaced_action insn is) ∙ is_rm in
@@ -75,9 +83,11 @@ displaced_law bus Holds insn instruction site start state work e entered small =
             let follow = (alike.after loaded).regs in
             let there : now.regs.rip ≡ next_rip main state.regs = row_goes main state.regs loaded main_rm in (
               jumped site.next now,
-              jump_does bus Holds from site.next now (omega (arith, there, entered.at, entered.place.slot, small.work)) (omega (arith, entered.place.slot, small.work)) (omega (arith, entered.place.next)),
+              jump_does bus Holds from site.next now (omega (arith, there, entered.at, entered.place.slot, small.work))
+                  (omega (arith, entered.place.slot, small.work)) (omega (arith, entered.place.next)),
               tt,
-              regs_same (jumped site.next now).regs after (all_same after now.regs follow.agree) (sym (row_goes insn old loaded is_rm ∙ goes)) follow.agree.flags,
+              regs_same (jumped site.next now).regs after (all_same after now.regs follow.agree)
+                  (sym (row_goes insn old loaded is_rm ∙ goes)) follow.agree.flags,
             );
       });
     }

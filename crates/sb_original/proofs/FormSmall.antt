@@ -15,10 +15,10 @@ use Rattle.sb_insn.specs.Fields.{is_none, permits, has_sib, modrm_disp, is_modrm
 use Rattle.sb_insn.specs.Listing.{instruction_of, operand_for}
 use Rattle.sb_insn.specs.Grammar.{IsValid}
 use Rattle.sb_exec.specs.Size.{low}
-use Rattle.sb_exec.specs.Operand.{merged}
+use Rattle.sb_exec.specs.Operand.{register_after_write}
 use Rattle.sb_exec.specs.Address.{operand_address, rm_place}
-use Rattle.sb_exec.specs.Operated.{operated}
-use Rattle.sb_exec.specs.WriteBack.{written, destination, first_operand, last_operand, written_back, computed}
+use Rattle.sb_exec.specs.Operated.{operation_outcome}
+use Rattle.sb_exec.specs.WriteBack.{write_result, destination, first_operand, last_operand, result_or_nothing, compute_result}
 use Rattle.sb_exec.specs.Actions.{action_by, action_of}
 use Rattle.sb_exec.specs.Rows.{rm_use, load_of, store_of, after_action, effect_of, row_of}
 use Rattle.sb_forms.specs.Table.{is_one_byte, is_modrm, is_add_esp_edx, add_from_rm}
@@ -31,16 +31,29 @@ abbrev pub add_to_rm : Insn
 add_to_rm = record { lock = false; rex = None; op = One 0x01; modrm = Some 0xD4; sib = None; disp = disp.None; imm = imm.None }
 
 pub add_rows : (regs : Regs) → InPlaceLaw (row_of add_to_rm regs) add_from_rm regs
-unfolding row_of action_of action_by instruction_of operand_for one_byte load_of store_of after_action effect_of computed destination first_operand last_operand operated written_back written rm_use rm_place operand_address low merged
-add_rows regs = record { accesses = record { load = refl; store = refl; effect = refl; stored = λ loaded. refl }; registers = λ loaded. refl }
+unfolding row_of action_of action_by instruction_of operand_for one_byte load_of store_of after_action effect_of compute_result
+    destination first_operand last_operand operation_outcome result_or_nothing write_result rm_use rm_place operand_address low
+    register_after_write
+add_rows regs =
+    record { accesses = record { load = refl; store = refl; effect = refl; stored = λ loaded. refl }; registers = λ loaded. refl }
 
 abbrev Whole : Bool → Option ℕ → Option ℕ → Disp → Imm → Op → Option ℕ → Type 0
 Whole lock rex sib displacement immediate op modrm =
-    is_none rex ≡ true → is_modrm_field (cell_of op) lock rex modrm ≡ true → is_sib_field modrm sib ≡ true → kind_of_disp displacement ≡ disp_kind_of modrm sib
+    is_none rex ≡ true → is_modrm_field (cell_of op) lock rex modrm ≡ true → is_sib_field modrm sib ≡ true
+    → kind_of_disp displacement ≡ disp_kind_of modrm sib
     → kind_of_imm immediate ≡ imm_kind_of (rule_of (cell_of op) modrm) rex
-    → (let i : Insn = record { lock = lock; rex = rex; op = op; modrm = modrm; sib = sib; disp = displacement; imm = immediate } in i) ≡ add_to_rm
+    → (let i : Insn = record {
+      lock = lock;
+      rex = rex;
+      op = op;
+      modrm = modrm;
+      sib = sib;
+      disp = displacement;
+      imm = immediate;
+    } in i) ≡ add_to_rm
 
-whole_fields : (lock : Bool) (rex sib : Option ℕ) (displacement : Disp) (immediate : Imm) → Whole lock rex sib displacement immediate (One 0x01) (Some 0xD4)
+whole_fields : (lock : Bool) (rex sib : Option ℕ) (displacement : Disp) (immediate : Imm)
+    → Whole lock rex sib displacement immediate (One 0x01) (Some 0xD4)
 unfolding one_byte permits has_sib modrm_disp
 whole_fields lock (Some rex) sib displacement immediate none e s d i = absurd cc
 whole_fields true None sib displacement immediate none e s d i = absurd cc
@@ -58,8 +71,11 @@ add_is insn valid e =
     let behind = and_parts (is_one_byte 0x01 insn.op) (is_modrm 0xD4 insn.modrm) parts.1 in
     let fields : Whole insn.lock insn.rex insn.sib insn.disp insn.imm insn.op insn.modrm =
     subst (λ op. Whole insn.lock insn.rex insn.sib insn.disp insn.imm op insn.modrm) (sym (one_byte_is 0x01 insn.op behind.0))
-    (subst (λ modrm. Whole insn.lock insn.rex insn.sib insn.disp insn.imm (One 0x01) modrm) (sym (modrm_is 0xD4 insn.modrm behind.1)) (whole_fields insn.lock insn.rex insn.sib insn.disp insn.imm)) in
+    (subst (λ modrm. Whole insn.lock insn.rex insn.sib insn.disp insn.imm (One 0x01) modrm)
+    (sym (modrm_is 0xD4 insn.modrm behind.1)) (whole_fields insn.lock insn.rex insn.sib insn.disp insn.imm)) in
     fields parts.0 valid.modrm valid.sib valid.disp valid.imm
 
-pub add_law : (insn : Insn) (regs : Regs) → IsValid insn → is_add_esp_edx insn ≡ true → InPlaceLaw (row_of insn regs) add_from_rm regs
-add_law insn regs valid e = subst (λ (i : Insn). InPlaceLaw (row_of i regs) add_from_rm regs) (sym (add_is insn valid e)) (add_rows regs)
+pub add_law : (insn : Insn) (regs : Regs) → IsValid insn → is_add_esp_edx insn ≡ true
+    → InPlaceLaw (row_of insn regs) add_from_rm regs
+add_law insn regs valid e =
+    subst (λ (i : Insn). InPlaceLaw (row_of i regs) add_from_rm regs) (sym (add_is insn valid e)) (add_rows regs)

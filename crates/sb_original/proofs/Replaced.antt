@@ -20,7 +20,7 @@ use Rattle.sb_insn.specs.declared.opcode_map.Instruction.{Instruction}
 use Rattle.sb_insn.specs.declared.opcode_map.ImmRule.{ImmRule}
 use Rattle.sb_insn.specs.declared.opcode_map.ImmRule.TheVariants as rules
 use Rattle.sb_insn.specs.declared.opcode_map.Cell.{Cell}
-use Rattle.sb_insn.specs.declared.opcode_map.Cell.TheVariants.{Absent, Plain, ModRm, Extended}
+use Rattle.sb_insn.specs.declared.opcode_map.Cell.TheVariants.{Absent, NoModRm, ModRm, Extended}
 use Rattle.sb_insn.specs.OpcodeMap.{one_byte, one_byte_rows, two_byte, two_byte_rows, cell_of}
 use Rattle.sb_insn.specs.Spelling.{number, spelling}
 use Rattle.sb_insn.specs.Fields.{is_register, is_wide, mod_field, is_modrm_field, is_sib_field, disp_kind_of, kind_of_disp, rule_of, imm_kind_of, kind_of_imm, rex_w}
@@ -28,7 +28,7 @@ use Rattle.sb_insn.specs.Listing.{instruction_in, instruction_of}
 use Rattle.sb_insn.specs.Grammar.{IsValid, FitsImm}
 use Rattle.sb_insn.proofs.Rows.{looked_up}
 use Rattle.sb_alu.specs.declared.size.Size.{Size}
-use Rattle.sb_alu.specs.declared.size.Size.TheVariants.{Double, Quad}
+use Rattle.sb_alu.specs.declared.size.Size.TheVariants.{Doubleword, Quadword}
 use Rattle.sb_alu.specs.declared.operation.Operation.{Operation}
 use Rattle.sb_alu.specs.declared.operation.Operation.TheVariants as operation
 use Rattle.sb_exec.specs.declared.action.Action.TheVariants.{Compute}
@@ -39,10 +39,10 @@ use Rattle.sb_exec.specs.Row.{Row}
 use Rattle.sb_exec.specs.Rows.{row_of}
 use Rattle.sb_forms.specs.declared.slots.Site.{Site}
 use Rattle.sb_forms.specs.Holding.{holds_pattern}
-use Rattle.sb_forms.specs.Pieces.{is_sib_0f, exchanged}
+use Rattle.sb_forms.specs.Pieces.{is_sib_0f, sib_exchanged}
 use Rattle.sb_forms.specs.Mains.{with_displacement}
 use Rattle.sb_forms.specs.Places.{is_distance, is_direct, HasForm}
-use Rattle.sb_forms.specs.Table.{Replacement, Keep, InPlace, Moved, Unmovable, moved, is_vmfunc, is_modrm, is_add_esp_edx, completes_pattern, begins_with_01_d4, begins_at_modrm, has_memory, is_call, is_jump, jump_form, wide_constant_form, address_and_constant_form, address_form, constant_form, form_by, slot_form, slot_form_of, is_exchangeable, held_form, nop, add_from_rm, replacement}
+use Rattle.sb_forms.specs.Table.{Replacement, Keep, InPlace, Moved, Unmovable, move_outcome, is_vmfunc, is_modrm, is_add_esp_edx, completes_pattern, begins_with_01_d4, begins_at_modrm, has_memory, is_call, is_jump, jump_form, wide_constant_form, address_and_constant_form, address_form, constant_form, form_by, slot_form, slot_form_of, is_exchangeable, held_form, nop, add_from_rm, replacement}
 use Rattle.sb_forms.proofs.Held.{none_held}
 use Rattle.sb_forms.proofs.Operands.{modrm_is}
 use Rattle.sb_forms.proofs.ByTable.{IsHeld}
@@ -98,7 +98,8 @@ call_rm _ kinds e call = absurd cc
 abbrev TableCase : Mnemonic → OperandForm → Type 0
 TableCase name kinds =
     ((kind : Operation) × (constant_operation name ≡ Some kind) × (is_imm_form kinds ≡ true))
-    ⊎ (((name ≡ mnemonic.Imul) × (kinds ≡ form.RegRmImm)) ⊎ (((name ≡ mnemonic.Push) × (kinds ≡ form.Imm)) ⊎ (is_distance kinds ≡ true)))
+    ⊎ (((name ≡ mnemonic.Imul) × (kinds ≡ form.RegRmImm))
+    ⊎ (((name ≡ mnemonic.Push) × (kinds ≡ form.Imm)) ⊎ (is_distance kinds ≡ true)))
 
 table_case : (name : Mnemonic) (kinds : OperandForm) → has_table_row name kinds ≡ true → TableCase name kinds
 table_case mnemonic.Add kinds e = inl (operation.Add, refl, e)
@@ -121,7 +122,8 @@ imm_rm form.AccImm e rm = absurd cc
 imm_rm form.OpcodeImm e rm = absurd cc
 imm_rm _ e rm = absurd cc
 
-eight_rm : (name : Mnemonic) (kinds : OperandForm) (kind : Operation) → constant_operation name ≡ Some kind → fits name kinds ≡ true → is_rm_form kinds ≡ true
+eight_rm : (name : Mnemonic) (kinds : OperandForm) (kind : Operation) → constant_operation name ≡ Some kind
+    → fits name kinds ≡ true → is_rm_form kinds ≡ true
 eight_rm mnemonic.Add kinds kind is e = e
 eight_rm mnemonic.Or kinds kind is e = e
 eight_rm mnemonic.And kinds kind is e = e
@@ -132,13 +134,15 @@ eight_rm mnemonic.Test kinds kind is e = e
 eight_rm mnemonic.Mov kinds kind is e = e
 eight_rm _ kinds kind is e = absurd cc
 
-move_name : (name : Mnemonic) (kinds : OperandForm) → is_move_to_opcode name kinds ≡ true → (name ≡ mnemonic.Mov) × (kinds ≡ form.OpcodeImm)
+move_name : (name : Mnemonic) (kinds : OperandForm) → is_move_to_opcode name kinds ≡ true
+    → (name ≡ mnemonic.Mov) × (kinds ≡ form.OpcodeImm)
 move_name mnemonic.Mov form.OpcodeImm e = (refl, refl)
 move_name mnemonic.Mov _ e = absurd cc
 move_name _ kinds e = absurd cc
 
 -- an immediate of four bytes behind 0F is that of no jump or call with a memory operand
-no_through : (name : Mnemonic) (kinds : OperandForm) → has_table_row name kinds ≡ true → fits name kinds ≡ true → (is_call name ≡ false) × (is_jump name ≡ false)
+no_through : (name : Mnemonic) (kinds : OperandForm) → has_table_row name kinds ≡ true → fits name kinds ≡ true
+    → (is_call name ≡ false) × (is_jump name ≡ false)
 no_through mnemonic.Jmp form.Rm e f = absurd cc
 no_through mnemonic.Jmp form.Relative e f = absurd cc
 no_through mnemonic.Jmp _ e f = absurd cc
@@ -155,7 +159,7 @@ is_rm_imm form.RegRmImm = true
 is_rm_imm _ = false
 
 abbrev none_alone : Cell → Bool
-none_alone (Plain plain) = not (is_rm_imm plain.instruction.form)
+none_alone (NoModRm plain) = not (is_rm_imm plain.instruction.form)
 none_alone _ = true
 
 one_none : (opcode : ℕ) → none_alone (one_byte opcode) ≡ true
@@ -172,30 +176,39 @@ op_none (Two opcode) = two_none opcode
 op_none Endbr = refl
 op_none Vmfunc = refl
 
-plain_not : (one instruction : Instruction) → not (is_rm_imm one.form) ≡ true → Some one ≡ Some instruction → is_rm_imm instruction.form ≡ true → ⊥
+plain_not : (one instruction : Instruction) → not (is_rm_imm one.form) ≡ true → Some one ≡ Some instruction
+    → is_rm_imm instruction.form ≡ true → ⊥
 plain_not one instruction e is rm =
     let same : one ≡ instruction = cc in
     both_ways (not (is_rm_imm one.form)) (ap (λ (i : Instruction). not (is_rm_imm i.form)) same ∙ ap (λ t. not t) rm) e
 
-register_in : (cell : Cell) (lock : Bool) (rex modrm : Option ℕ) (instruction : Instruction) → none_alone cell ≡ true → is_modrm_field cell lock rex modrm ≡ true → instruction_in cell modrm ≡ Some instruction → is_rm_imm instruction.form ≡ true
+register_in : (cell : Cell) (lock : Bool) (rex modrm : Option ℕ) (instruction : Instruction) → none_alone cell ≡ true
+    → is_modrm_field cell lock rex modrm ≡ true → instruction_in cell modrm ≡ Some instruction
+    → is_rm_imm instruction.form ≡ true
     → has_memory modrm ≡ false → (byte : ℕ) × (modrm ≡ Some byte) × (mod_field byte ≡ 3)
-register_in cell lock rex (Some byte) instruction e stands is rm alone = (byte, refl, eqb-true (mod_field byte) 3 (not_false (is_register byte) alone))
+register_in cell lock rex (Some byte) instruction e stands is rm alone =
+    (byte, refl, eqb-true (mod_field byte) 3 (not_false (is_register byte) alone))
   where
     not_false : (b : Bool) → not b ≡ false → b ≡ true
     not_false true e = refl
     not_false false e = absurd cc
 register_in Absent lock rex None instruction e stands is rm alone = absurd cc
-register_in (Plain plain) lock rex None instruction e stands is rm alone = absurd (plain_not plain.instruction instruction e is rm)
+register_in (NoModRm plain) lock rex None instruction e stands is rm alone =
+    absurd (plain_not plain.instruction instruction e is rm)
 register_in (ModRm operand) lock rex None instruction e stands is rm alone = absurd cc
 register_in (Extended group kinds immediate) lock rex None instruction e stands is rm alone = absurd cc
 
-names_register : (insn : Insn) (instruction : Instruction) → IsValid insn → instruction_of insn ≡ Some instruction → has_memory insn.modrm ≡ false → is_rm_imm instruction.form ≡ true → (byte : ℕ) × (insn.modrm ≡ Some byte) × (mod_field byte ≡ 3)
+names_register : (insn : Insn) (instruction : Instruction) → IsValid insn → instruction_of insn ≡ Some instruction
+    → has_memory insn.modrm ≡ false → is_rm_imm instruction.form ≡ true
+    → (byte : ℕ) × (insn.modrm ≡ Some byte) × (mod_field byte ≡ 3)
 unfolding instruction_of
-names_register insn instruction valid is alone rm = register_in (cell_of insn.op) insn.lock insn.rex insn.modrm instruction (op_none insn.op) valid.modrm is rm alone
+names_register insn instruction valid is alone rm =
+    register_in (cell_of insn.op) insn.lock insn.rex insn.modrm instruction (op_none insn.op) valid.modrm is rm alone
 
 -- ---- an immediate of eight bytes means REX.W
 
-wide_rule : (rule : ImmRule) (rex : Option ℕ) (value : ℤ) → kind_of_imm (imm.I64 value) ≡ imm_kind_of rule rex → is_wide rex ≡ true
+wide_rule : (rule : ImmRule) (rex : Option ℕ) (value : ℤ) → kind_of_imm (imm.I64 value) ≡ imm_kind_of rule rex
+    → is_wide rex ≡ true
 wide_rule rules.None rex value k = absurd cc
 wide_rule rules.I8 rex value k = absurd cc
 wide_rule rules.I32 rex value k = absurd cc
@@ -205,12 +218,13 @@ wide_rule rules.Wide rex value k = wide_kind (is_wide rex) k
     wide_kind true k = refl
     wide_kind false k = absurd cc
 
-wide_size : (rex : Option ℕ) → is_wide rex ≡ true → (if rex_w rex == 1 then Quad else Double) ≡ Quad
+wide_size : (rex : Option ℕ) → is_wide rex ≡ true → (if rex_w rex == 1 then Quadword else Doubleword) ≡ Quadword
 wide_size None e = absurd cc
-wide_size (Some rex) e = cond-true (rex / 8 % 2 == 1) Quad Double e
+wide_size (Some rex) e = cond-true (rex / 8 % 2 == 1) Quadword Doubleword e
 
-wide_action : (insn : Insn) (instruction : Instruction) (value : ℤ) → IsValid insn → instruction_of insn ≡ Some instruction → insn.imm ≡ imm.I64 value → instruction.mnemonic ≡ mnemonic.Mov → instruction.form ≡ form.OpcodeImm
-    → action_of insn ≡ Compute operation.Move form.OpcodeImm Quad
+wide_action : (insn : Insn) (instruction : Instruction) (value : ℤ) → IsValid insn → instruction_of insn ≡ Some instruction
+    → insn.imm ≡ imm.I64 value → instruction.mnemonic ≡ mnemonic.Mov → instruction.form ≡ form.OpcodeImm
+    → action_of insn ≡ Compute operation.Move form.OpcodeImm Quadword
 unfolding action_of action_by
 wide_action insn instruction value valid is has name kinds =
     let wide = wide_rule (rule_of (cell_of insn.op) insn.modrm) insn.rex value (sym (ap (λ i. kind_of_imm i) has) ∙ valid.imm) in
@@ -221,10 +235,13 @@ wide_action insn instruction value valid is has name kinds =
 
 -- ---- a distance holds no pattern
 
-no_distance : (insn : Insn) (instruction : Instruction) → HasForm insn → holds_pattern (spelling insn) ≡ true → instruction_of insn ≡ Some instruction → is_distance instruction.form ≡ true → ⊥
-no_distance insn instruction has held is far = both_ways (holds_pattern (spelling insn)) (none_held (spelling insn) (has (direct insn instruction is far))) held
+no_distance : (insn : Insn) (instruction : Instruction) → HasForm insn → holds_pattern (spelling insn) ≡ true
+    → instruction_of insn ≡ Some instruction → is_distance instruction.form ≡ true → ⊥
+no_distance insn instruction has held is far =
+    both_ways (holds_pattern (spelling insn)) (none_held (spelling insn) (has (direct insn instruction is far))) held
   where
-    direct : (insn : Insn) (instruction : Instruction) → instruction_of insn ≡ Some instruction → is_distance instruction.form ≡ true → is_direct insn ≡ true
+    direct : (insn : Insn) (instruction : Instruction) → instruction_of insn ≡ Some instruction
+        → is_distance instruction.form ≡ true → is_direct insn ≡ true
     direct insn instruction is far = rw is far
 
 -- ---- from a slot's law
@@ -233,25 +250,44 @@ no_distance insn instruction has held is far = both_ways (holds_pattern (spellin
 own_row : (insn : Insn) (regs : Regs) → is_vmfunc insn.op ≡ false → row_of insn regs ≡ original_row insn regs
 own_row insn regs other = sym (cond-false (is_vmfunc insn.op) (passing_row insn regs) (row_of insn regs) other)
 
-go : {M A N : Type 0} (bus : Interface M A) (Holds : Words → M → N → Type 0) (insn : Insn) (start : ℕ) (pre : List Insn) (main : Insn) (post : List Insn) (state : Slotted) → is_vmfunc insn.op ≡ false
+go : {M A N : Type 0} (bus : Interface M A) (Holds : Words → M → N
+    → Type 0) (insn : Insn) (start : ℕ) (pre : List Insn) (main : Insn) (post : List Insn) (state : Slotted)
+    → is_vmfunc insn.op ≡ false
     → SlotLaw bus Holds insn start pre main post state → Goes bus Holds insn start state (Moved pre main post)
 go bus Holds insn start pre main post state other law =
-    subst (λ (row : Row). SlotGoes bus Holds row start pre main post state) (own_row insn (record (state.regs) { rip = start }) other) (slot_goes bus Holds insn start pre main post state law)
+    subst (λ (row : Row). SlotGoes bus Holds row start pre main post state)
+    (own_row insn (record (state.regs) { rip = start }) other) (slot_goes bus Holds insn start pre main post state law)
 
-go_in_place : {M A N : Type 0} (bus : Interface M A) (Holds : Words → M → N → Type 0) (insn main : Insn) (start : ℕ) (state : Slotted) → is_vmfunc insn.op ≡ false
-    → InPlaceLaw (row_of insn (record (state.regs) { rip = start })) main (record (state.regs) { rip = start }) → Goes bus Holds insn start state (InPlace (main ∷ []))
+go_in_place : {M A N : Type 0} (bus : Interface M A) (Holds : Words → M → N
+    → Type 0) (insn main : Insn) (start : ℕ) (state : Slotted)
+    → is_vmfunc insn.op ≡ false
+    → InPlaceLaw (row_of insn (record (state.regs) { rip = start })) main (record (state.regs) { rip = start })
+    → Goes bus Holds insn start state (InPlace (main ∷ []))
 go_in_place bus Holds insn main start state other law =
-    subst (λ (row : Row). InPlaceLaw row main (record (state.regs) { rip = start })) (own_row insn (record (state.regs) { rip = start }) other) law
+    subst (λ (row : Row). InPlaceLaw row main (record (state.regs) { rip = start }))
+    (own_row insn (record (state.regs) { rip = start }) other) law
 
 -- ---- VMFUNC
 
 abbrev VmfuncFields : Bool → Option ℕ → Option ℕ → Option ℕ → Disp → Imm → Op → Type 0
 VmfuncFields lock rex modrm sib displacement immediate op =
-    is_modrm_field (cell_of op) lock rex modrm ≡ true → is_sib_field modrm sib ≡ true → kind_of_disp displacement ≡ disp_kind_of modrm sib
+    is_modrm_field (cell_of op) lock rex modrm ≡ true → is_sib_field modrm sib ≡ true
+    → kind_of_disp displacement ≡ disp_kind_of modrm sib
     → kind_of_imm immediate ≡ imm_kind_of (rule_of (cell_of op) modrm) rex
-    → length (spelling (let i : Insn = record { lock = lock; rex = rex; op = op; modrm = modrm; sib = sib; disp = displacement; imm = immediate } in i)) ≡ 3
+    → length
+    (spelling
+    (let i : Insn = record {
+      lock = lock;
+      rex = rex;
+      op = op;
+      modrm = modrm;
+      sib = sib;
+      disp = displacement;
+      imm = immediate;
+    } in i)) ≡ 3
 
-vmfunc_fields : (lock : Bool) (rex modrm sib : Option ℕ) (displacement : Disp) (immediate : Imm) → VmfuncFields lock rex modrm sib displacement immediate Vmfunc
+vmfunc_fields : (lock : Bool) (rex modrm sib : Option ℕ) (displacement : Disp) (immediate : Imm)
+    → VmfuncFields lock rex modrm sib displacement immediate Vmfunc
 vmfunc_fields true rex None sib displacement immediate e s d i = absurd cc
 vmfunc_fields false (Some rex) None sib displacement immediate e s d i = absurd cc
 vmfunc_fields lock rex (Some modrm) sib displacement immediate e s d i = absurd cc
@@ -267,7 +303,8 @@ vmfunc_op : (op : Op) → is_vmfunc op ≡ true → op ≡ Vmfunc
 vmfunc_op Vmfunc e = refl
 vmfunc_op _ e = absurd cc
 
-passes : {M A N : Type 0} (bus : Interface M A) (Holds : Words → M → N → Type 0) (insn : Insn) (start : ℕ) (state : Slotted) → IsValid insn → is_vmfunc insn.op ≡ true → Goes bus Holds insn start state (InPlace (nop ∷ nop ∷ nop ∷ []))
+passes : {M A N : Type 0} (bus : Interface M A) (Holds : Words → M → N → Type 0) (insn : Insn) (start : ℕ) (state : Slotted)
+    → IsValid insn → is_vmfunc insn.op ≡ true → Goes bus Holds insn start state (InPlace (nop ∷ nop ∷ nop ∷ []))
 passes bus Holds insn start state valid e =
     let old : Regs = record (state.regs) { rip = start } in
     let at : Slotted = record { regs = old; words = state.words } in
@@ -283,21 +320,30 @@ passes bus Holds insn start state valid e =
       after = one;
       does = nop_does bus Holds at;
       goes = refl;
-      behind = (two, nop_does bus Holds one, refl, (three, nop_does bus Holds two, tt, regs_same three.regs ((passing_row insn old).after 0).regs refl rip refl));
+      behind = (
+        two,
+        nop_does bus Holds one,
+        refl,
+        (three, nop_does bus Holds two, tt, regs_same three.regs ((passing_row insn old).after 0).regs refl rip refl),
+      );
     } in
-    let law : SlotGoes bus Holds (passing_row insn old) start [] nop (nop ∷ nop ∷ []) at = record { ahead = refl; work = work_is bus Holds (passing_row insn old) nop (nop ∷ nop ∷ []) at (inr from) } in
-    subst (λ (row : Row). SlotGoes bus Holds row start [] nop (nop ∷ nop ∷ []) at) (sym (cond-true (is_vmfunc insn.op) (passing_row insn old) (row_of insn old) e)) law
+    let law : SlotGoes bus Holds (passing_row insn old) start [] nop (nop ∷ nop ∷ []) at =
+    record { ahead = refl; work = work_is bus Holds (passing_row insn old) nop (nop ∷ nop ∷ []) at (inr from) } in
+    subst (λ (row : Row). SlotGoes bus Holds row start [] nop (nop ∷ nop ∷ []) at)
+    (sym (cond-true (is_vmfunc insn.op) (passing_row insn old) (row_of insn old) e)) law
 
 -- ---- instructions that hold the pattern
 
 -- what is known of the instruction and of the thread that enters its slot
-record IsAsked {M A N : Type 0} (bus : Interface M A) (Holds : Words → M → N → Type 0) (insn : Insn) (site : Site) (start : ℕ) (state : Slotted) : Type 0 where
+record IsAsked {M A N : Type 0} (bus : Interface M A) (Holds : Words → M → N
+    → Type 0) (insn : Insn) (site : Site) (start : ℕ) (state : Slotted) : Type 0 where
   words : HasWords bus Holds
   held : IsHeld insn
   form : HasForm insn
   entered : IsEntered insn site start state
 
-memory_named : (insn : Insn) (instruction : Instruction) → IsValid insn → has_memory insn.modrm ≡ true → instruction_of insn ≡ Some instruction → fits instruction.mnemonic instruction.form ≡ true
+memory_named : (insn : Insn) (instruction : Instruction) → IsValid insn → has_memory insn.modrm ≡ true
+    → instruction_of insn ≡ Some instruction → fits instruction.mnemonic instruction.form ≡ true
 memory_named insn instruction valid memory is =
     let found = memory_fits insn valid memory in
     let same : found.0 ≡ instruction = same_some found.0 (instruction_of insn) found.1 is in
@@ -318,15 +364,24 @@ no_and a b stands none = elim (and_cases a b none) [
   | inr second ↦ second
 ]
 
-address_goes : {M A N : Type 0} (bus : Interface M A) (Holds : Words → M → N → Type 0) (insn : Insn) (instruction : Instruction) (site : Site) (start : ℕ) (state : Slotted) → IsAsked bus Holds insn site start state → instruction_of insn ≡ Some instruction
-    → has_memory insn.modrm ≡ true → is_call instruction.mnemonic ≡ false → is_jump instruction.mnemonic ≡ false → Goes bus Holds insn start state (address_form instruction insn site)
+address_goes : {M A N : Type 0} (bus : Interface M A) (Holds : Words → M → N
+    → Type 0) (insn : Insn) (instruction : Instruction) (site : Site) (start : ℕ) (state : Slotted)
+    → IsAsked bus Holds insn site start state → instruction_of insn ≡ Some instruction
+    → has_memory insn.modrm ≡ true → is_call instruction.mnemonic ≡ false → is_jump instruction.mnemonic ≡ false
+    → Goes bus Holds insn start state (address_form instruction insn site)
 unfolding address_form
 address_goes bus Holds insn instruction site start state asked is memory call jump =
-    let work : IsMemoryWork insn instruction = record { valid = asked.held.valid; memory = memory; named = is; no_call = call; no_jump = jump } in
-    go bus Holds insn start _ _ _ state asked.held.other (address_law bus Holds insn instruction site start state asked.words work asked.entered (address_small instruction insn site asked.held.valid memory))
+    let work : IsMemoryWork insn instruction =
+    record { valid = asked.held.valid; memory = memory; named = is; no_call = call; no_jump = jump } in
+    go bus Holds insn start _ _ _ state asked.held.other
+    (address_law bus Holds insn instruction site start state asked.words work asked.entered
+    (address_small instruction insn site asked.held.valid memory))
 
-both_goes : {M A N : Type 0} (bus : Interface M A) (Holds : Words → M → N → Type 0) (insn : Insn) (instruction : Instruction) (value : ℤ) (site : Site) (start : ℕ) (state : Slotted) → IsAsked bus Holds insn site start state → instruction_of insn ≡ Some instruction
-    → insn.imm ≡ imm.I32 value → has_memory insn.modrm ≡ true → Goes bus Holds insn start state (address_and_constant_form instruction insn site value)
+both_goes : {M A N : Type 0} (bus : Interface M A) (Holds : Words → M → N
+    → Type 0) (insn : Insn) (instruction : Instruction) (value : ℤ) (site : Site) (start : ℕ) (state : Slotted)
+    → IsAsked bus Holds insn site start state → instruction_of insn ≡ Some instruction
+    → insn.imm ≡ imm.I32 value → has_memory insn.modrm ≡ true
+    → Goes bus Holds insn start state (address_and_constant_form instruction insn site value)
 unfolding address_and_constant_form
 both_goes bus Holds insn instruction value site start state asked is has memory =
     let valid = asked.held.valid in
@@ -334,43 +389,69 @@ both_goes bus Holds insn instruction value site start state asked is has memory 
     elim (table_case instruction.mnemonic instruction.form (with_four insn instruction value valid is has)) [
       | inl eight ↦
           let rm = imm_rm instruction.form eight.2 (eight_rm instruction.mnemonic instruction.form eight.0 eight.1 fit) in
-          let work : IsConstantWork insn instruction eight.0 value = record { valid = valid; named = is; imm = has; operation = eight.1; form = eight.2 } in
-          go bus Holds insn start _ _ _ state asked.held.other (both_law bus Holds insn instruction eight.0 value site start state asked.words work (fits_32 insn.imm value has valid.imm_fits) rm memory asked.entered (both_small instruction insn site value valid is))
+          let work : IsConstantWork insn instruction eight.0 value =
+          record { valid = valid; named = is; imm = has; operation = eight.1; form = eight.2 } in
+          go bus Holds insn start _ _ _ state asked.held.other
+          (both_law bus Holds insn instruction eight.0 value site start state asked.words work
+          (fits_32 insn.imm value has valid.imm_fits) rm memory asked.entered
+          (both_small instruction insn site value valid is))
       | inr other ↦ elim other [
         | inl product ↦
-            let work : IsProductWork insn instruction value = record { valid = valid; named = is; imm = has; product = product.0; form = product.1 } in
-            go bus Holds insn start _ _ _ state asked.held.other (product_both_law bus Holds insn instruction value site start state asked.words work (fits_32 insn.imm value has valid.imm_fits) memory asked.entered (both_small instruction insn site value valid is))
+            let work : IsProductWork insn instruction value =
+            record { valid = valid; named = is; imm = has; product = product.0; form = product.1 } in
+            go bus Holds insn start _ _ _ state asked.held.other
+            (product_both_law bus Holds insn instruction value site start state asked.words work
+            (fits_32 insn.imm value has valid.imm_fits) memory asked.entered
+            (both_small instruction insn site value valid is))
         | inr last ↦ elim last [
-          | inl push ↦ absurd (both_ways (fits instruction.mnemonic instruction.form) (ap (λ (n : Mnemonic). fits n instruction.form) push.0 ∙ ap (λ (k : OperandForm). is_rm_form k) push.1) fit)
+          | inl push ↦ absurd
+              (both_ways (fits instruction.mnemonic instruction.form) (ap (λ (n : Mnemonic). fits n instruction.form) push.0
+              ∙ ap (λ (k : OperandForm). is_rm_form k) push.1) fit)
           | inr far ↦ absurd (no_distance insn instruction asked.form asked.held.held is far)
         ]
       ]
     ]
 
-constant_goes : {M A N : Type 0} (bus : Interface M A) (Holds : Words → M → N → Type 0) (insn : Insn) (instruction : Instruction) (value : ℤ) (site : Site) (start : ℕ) (state : Slotted) → IsAsked bus Holds insn site start state → instruction_of insn ≡ Some instruction
-    → insn.imm ≡ imm.I32 value → has_memory insn.modrm ≡ false → Goes bus Holds insn start state (constant_form instruction insn site value)
+constant_goes : {M A N : Type 0} (bus : Interface M A) (Holds : Words → M → N
+    → Type 0) (insn : Insn) (instruction : Instruction) (value : ℤ) (site : Site) (start : ℕ) (state : Slotted)
+    → IsAsked bus Holds insn site start state → instruction_of insn ≡ Some instruction
+    → insn.imm ≡ imm.I32 value → has_memory insn.modrm ≡ false
+    → Goes bus Holds insn start state (constant_form instruction insn site value)
 unfolding constant_form
 constant_goes bus Holds insn instruction value site start state asked is has alone =
     let valid = asked.held.valid in
     let fit = fits_32 insn.imm value has valid.imm_fits in
     elim (table_case instruction.mnemonic instruction.form (with_four insn instruction value valid is has)) [
       | inl eight ↦
-          let work : IsConstantWork insn instruction eight.0 value = record { valid = valid; named = is; imm = has; operation = eight.1; form = eight.2 } in
-          go bus Holds insn start _ _ _ state asked.held.other (constant_law bus Holds insn instruction eight.0 value site start state asked.words work fit (λ rm. names_register insn instruction valid is alone (ap (λ k. is_rm_imm k) rm)) asked.entered (constant_small instruction insn site value))
+          let work : IsConstantWork insn instruction eight.0 value =
+          record { valid = valid; named = is; imm = has; operation = eight.1; form = eight.2 } in
+          go bus Holds insn start _ _ _ state asked.held.other
+          (constant_law bus Holds insn instruction eight.0 value site start state asked.words work fit
+          (λ rm. names_register insn instruction valid is alone (ap (λ k. is_rm_imm k) rm)) asked.entered
+          (constant_small instruction insn site value))
       | inr other ↦ elim other [
         | inl product ↦
-            let work : IsProductWork insn instruction value = record { valid = valid; named = is; imm = has; product = product.0; form = product.1 } in
-            go bus Holds insn start _ _ _ state asked.held.other (product_law bus Holds insn instruction value site start state asked.words work fit (names_register insn instruction valid is alone (ap (λ k. is_rm_imm k) product.1)) asked.entered (constant_small instruction insn site value))
+            let work : IsProductWork insn instruction value =
+            record { valid = valid; named = is; imm = has; product = product.0; form = product.1 } in
+            go bus Holds insn start _ _ _ state asked.held.other
+            (product_law bus Holds insn instruction value site start state asked.words work fit
+            (names_register insn instruction valid is alone (ap (λ k. is_rm_imm k) product.1)) asked.entered
+            (constant_small instruction insn site value))
         | inr last ↦ elim last [
           | inl push ↦
-              let work : IsPushWork insn instruction value = record { valid = valid; named = is; imm = has; push = push.0; form = push.1 } in
-              go bus Holds insn start _ _ _ state asked.held.other (push_law bus Holds insn instruction value site start state asked.words work fit asked.entered (constant_small instruction insn site value))
+              let work : IsPushWork insn instruction value =
+              record { valid = valid; named = is; imm = has; push = push.0; form = push.1 } in
+              go bus Holds insn start _ _ _ state asked.held.other
+              (push_law bus Holds insn instruction value site start state asked.words work fit asked.entered
+              (constant_small instruction insn site value))
           | inr far ↦ absurd (no_distance insn instruction asked.form asked.held.held is far)
         ]
       ]
     ]
 
-wide_goes : {M A N : Type 0} (bus : Interface M A) (Holds : Words → M → N → Type 0) (insn : Insn) (instruction : Instruction) (value : ℤ) (site : Site) (start : ℕ) (state : Slotted) → IsAsked bus Holds insn site start state → instruction_of insn ≡ Some instruction
+wide_goes : {M A N : Type 0} (bus : Interface M A) (Holds : Words → M → N
+    → Type 0) (insn : Insn) (instruction : Instruction) (value : ℤ) (site : Site) (start : ℕ) (state : Slotted)
+    → IsAsked bus Holds insn site start state → instruction_of insn ≡ Some instruction
     → insn.imm ≡ imm.I64 value → Goes bus Holds insn start state (wide_constant_form instruction insn site value)
 unfolding wide_constant_form
 wide_goes bus Holds insn instruction value site start state asked is has =
@@ -385,10 +466,15 @@ wide_goes bus Holds insn instruction value site start state asked is has =
       action = wide_action insn instruction value valid is has move.0 move.1;
       form = move.1;
     } in
-    go bus Holds insn start _ _ _ state asked.held.other (wide_law bus Holds insn instruction value site start state asked.words work asked.entered (wide_small instruction insn site value))
+    go bus Holds insn start _ _ _ state asked.held.other
+    (wide_law bus Holds insn instruction value site start state asked.words work asked.entered
+    (wide_small instruction insn site value))
 
-jump_goes : {M A N : Type 0} (bus : Interface M A) (Holds : Words → M → N → Type 0) (insn : Insn) (instruction : Instruction) (site : Site) (start : ℕ) (state : Slotted) → IsAsked bus Holds insn site start state → instruction_of insn ≡ Some instruction
-    → has_memory insn.modrm ≡ true → is_jump instruction.mnemonic ≡ true → Goes bus Holds insn start state (jump_form instruction insn site)
+jump_goes : {M A N : Type 0} (bus : Interface M A) (Holds : Words → M → N
+    → Type 0) (insn : Insn) (instruction : Instruction) (site : Site) (start : ℕ) (state : Slotted)
+    → IsAsked bus Holds insn site start state → instruction_of insn ≡ Some instruction
+    → has_memory insn.modrm ≡ true → is_jump instruction.mnemonic ≡ true
+    → Goes bus Holds insn start state (jump_form instruction insn site)
 unfolding jump_form
 jump_goes bus Holds insn instruction site start state asked is memory jump =
     let valid = asked.held.valid in
@@ -399,44 +485,67 @@ jump_goes bus Holds insn instruction site start state asked is memory jump =
       jump = is_jmp instruction.mnemonic jump;
       form = jmp_rm instruction.mnemonic instruction.form (memory_named insn instruction valid memory is) jump;
     } in
-    go bus Holds insn start _ _ _ state asked.held.other (jump_law bus Holds insn instruction site start state asked.words work asked.entered)
+    go bus Holds insn start _ _ _ state asked.held.other
+    (jump_law bus Holds insn instruction site start state asked.words work asked.entered)
 
-by_goes : {M A N : Type 0} (bus : Interface M A) (Holds : Words → M → N → Type 0) (insn : Insn) (instruction : Instruction) (site : Site) (start : ℕ) (state : Slotted) (immediate : Imm) → IsAsked bus Holds insn site start state → instruction_of insn ≡ Some instruction
-    → insn.imm ≡ immediate → (has_memory insn.modrm && is_call instruction.mnemonic) ≡ false → (has_memory insn.modrm && is_jump instruction.mnemonic) ≡ false → Goes bus Holds insn start state (form_by instruction insn site immediate)
-by_goes bus Holds insn instruction site start state (imm.I64 value) asked is has call jump = wide_goes bus Holds insn instruction value site start state asked is has
+by_goes : {M A N : Type 0} (bus : Interface M A) (Holds : Words → M → N
+    → Type 0) (insn : Insn) (instruction : Instruction) (site : Site) (start : ℕ) (state : Slotted) (immediate : Imm)
+    → IsAsked bus Holds insn site start state → instruction_of insn ≡ Some instruction
+    → insn.imm ≡ immediate → (has_memory insn.modrm && is_call instruction.mnemonic) ≡ false
+    → (has_memory insn.modrm && is_jump instruction.mnemonic) ≡ false
+    → Goes bus Holds insn start state (form_by instruction insn site immediate)
+by_goes bus Holds insn instruction site start state (imm.I64 value) asked is has call jump =
+    wide_goes bus Holds insn instruction value site start state asked is has
 by_goes bus Holds insn instruction site start state (imm.I32 value) asked is has call jump =
-    cond_both (has_memory insn.modrm) (if holds_pattern (number w32 value) then address_and_constant_form instruction insn site value else address_form instruction insn site) (constant_form instruction insn site value) (λ form. Goes bus Holds insn start state form)
-    (λ stands. cond_both (holds_pattern (number w32 value)) (address_and_constant_form instruction insn site value) (address_form instruction insn site) (λ form. Goes bus Holds insn start state form)
+    cond_both (has_memory insn.modrm)
+    (if holds_pattern (number w32 value) then address_and_constant_form instruction insn site value else address_form
+    instruction insn site) (constant_form instruction insn site value) (λ form. Goes bus Holds insn start state form)
+    (λ stands. cond_both (holds_pattern (number w32 value)) (address_and_constant_form instruction insn site value)
+    (address_form instruction insn site) (λ form. Goes bus Holds insn start state form)
     (λ _. both_goes bus Holds insn instruction value site start state asked is has stands)
-    (λ _. address_goes bus Holds insn instruction site start state asked is stands (no_and (has_memory insn.modrm) (is_call instruction.mnemonic) stands call) (no_and (has_memory insn.modrm) (is_jump instruction.mnemonic) stands jump)))
+    (λ _. address_goes bus Holds insn instruction site start state asked is stands
+    (no_and (has_memory insn.modrm) (is_call instruction.mnemonic) stands call)
+    (no_and (has_memory insn.modrm) (is_jump instruction.mnemonic) stands jump)))
     (λ alone. constant_goes bus Holds insn instruction value site start state asked is has alone)
 by_goes bus Holds insn instruction site start state imm.None asked is has call jump =
     let stands = held_memory insn asked.held (ap (λ i. not_i32 i) has) in
-    address_goes bus Holds insn instruction site start state asked is stands (no_and (has_memory insn.modrm) (is_call instruction.mnemonic) stands call) (no_and (has_memory insn.modrm) (is_jump instruction.mnemonic) stands jump)
+    address_goes bus Holds insn instruction site start state asked is stands
+    (no_and (has_memory insn.modrm) (is_call instruction.mnemonic) stands call)
+    (no_and (has_memory insn.modrm) (is_jump instruction.mnemonic) stands jump)
 by_goes bus Holds insn instruction site start state (imm.I8 value) asked is has call jump =
     let stands = held_memory insn asked.held (ap (λ i. not_i32 i) has) in
-    address_goes bus Holds insn instruction site start state asked is stands (no_and (has_memory insn.modrm) (is_call instruction.mnemonic) stands call) (no_and (has_memory insn.modrm) (is_jump instruction.mnemonic) stands jump)
+    address_goes bus Holds insn instruction site start state asked is stands
+    (no_and (has_memory insn.modrm) (is_call instruction.mnemonic) stands call)
+    (no_and (has_memory insn.modrm) (is_jump instruction.mnemonic) stands jump)
 
 -- where something can stand in its place, it goes
 abbrev MovesOn : {M A N : Type 0} → Interface M A → (Words → M → N → Type 0) → Insn → ℕ → Slotted → Replacement → Type 0
 MovesOn bus Holds insn start state form = IsMovable form → Goes bus Holds insn start state form
 
-of_goes : {M A N : Type 0} (bus : Interface M A) (Holds : Words → M → N → Type 0) (found : Option Instruction) (insn : Insn) (site : Site) (start : ℕ) (state : Slotted) → IsAsked bus Holds insn site start state → instruction_of insn ≡ found
+of_goes : {M A N : Type 0} (bus : Interface M A) (Holds : Words → M → N
+    → Type 0) (found : Option Instruction) (insn : Insn) (site : Site) (start : ℕ) (state : Slotted)
+    → IsAsked bus Holds insn site start state → instruction_of insn ≡ found
     → MovesOn bus Holds insn start state (slot_form_of found insn site)
 unfolding slot_form
 of_goes bus Holds None insn site start state asked is = λ none. none
 of_goes bus Holds (Some instruction) insn site start state asked is =
     let behind = form_by instruction insn site insn.imm in
     let through = jump_form instruction insn site in
-    cond_both (has_memory insn.modrm && is_call instruction.mnemonic) Unmovable (if has_memory insn.modrm && is_jump instruction.mnemonic then through else behind) (λ form. MovesOn bus Holds insn start state form)
+    cond_both (has_memory insn.modrm && is_call instruction.mnemonic) Unmovable
+    (if has_memory insn.modrm && is_jump instruction.mnemonic then through else behind)
+    (λ form. MovesOn bus Holds insn start state form)
     (λ _ none. none)
-    (λ call. cond_both (has_memory insn.modrm && is_jump instruction.mnemonic) through behind (λ form. MovesOn bus Holds insn start state form)
-    (λ jump _. let parts = and_parts (has_memory insn.modrm) (is_jump instruction.mnemonic) jump in jump_goes bus Holds insn instruction site start state asked is parts.0 parts.1)
+    (λ call. cond_both (has_memory insn.modrm && is_jump instruction.mnemonic) through behind
+    (λ form. MovesOn bus Holds insn start state form)
+    (λ jump _. let parts = and_parts (has_memory insn.modrm) (is_jump instruction.mnemonic) jump in
+    jump_goes bus Holds insn instruction site start state asked is parts.0 parts.1)
     (λ jump _. by_goes bus Holds insn instruction site start state insn.imm asked is refl call jump))
 
 -- ModRM 0F with an immediate of four bytes behind it
-displaced_goes : {M A N : Type 0} (bus : Interface M A) (Holds : Words → M → N → Type 0) (insn : Insn) (site : Site) (start : ℕ) (state : Slotted) → IsAsked bus Holds insn site start state → begins_at_modrm insn ≡ true
-    → Goes bus Holds insn start state (moved site [] (with_displacement insn) [])
+displaced_goes : {M A N : Type 0} (bus : Interface M A) (Holds : Words → M → N
+    → Type 0) (insn : Insn) (site : Site) (start : ℕ) (state : Slotted)
+    → IsAsked bus Holds insn site start state → begins_at_modrm insn ≡ true
+    → Goes bus Holds insn start state (move_outcome site [] (with_displacement insn) [])
 displaced_goes bus Holds insn site start state asked e =
     let valid = asked.held.valid in
     let parts = and_parts (is_modrm 0x0F insn.modrm) (begins_with_01_d4 insn.imm) e in
@@ -444,8 +553,10 @@ displaced_goes bus Holds insn site start state asked e =
     let found = memory_fits insn valid memory in
     let value = four_is insn.imm parts.1 in
     let none = no_through (found.0).mnemonic (found.0).form (with_four insn found.0 value.0 valid found.1 value.1) found.2 in
-    let work : IsMemoryWork insn found.0 = record { valid = valid; memory = memory; named = found.1; no_call = none.0; no_jump = none.1 } in
-    go bus Holds insn start _ _ _ state asked.held.other (displaced_law bus Holds insn found.0 site start state work parts.0 asked.entered (displaced_small insn site valid e))
+    let work : IsMemoryWork insn found.0 =
+    record { valid = valid; memory = memory; named = found.1; no_call = none.0; no_jump = none.1 } in
+    go bus Holds insn start _ _ _ state asked.held.other
+    (displaced_law bus Holds insn found.0 site start state work parts.0 asked.entered (displaced_small insn site valid e))
   where
     four_is : (immediate : Imm) → begins_with_01_d4 immediate ≡ true → (value : ℤ) × (immediate ≡ imm.I32 value)
     four_is (imm.I32 value) e = (value, refl)
@@ -453,37 +564,67 @@ displaced_goes bus Holds insn site start state asked e =
     four_is (imm.I8 value) e = absurd cc
     four_is (imm.I64 value) e = absurd cc
 
-exchanged_goes : {M A N : Type 0} (bus : Interface M A) (Holds : Words → M → N → Type 0) (insn : Insn) (start : ℕ) (state : Slotted) → IsValid insn → is_vmfunc insn.op ≡ false → is_sib_0f insn.sib ≡ true → IsRegs state.regs
-    → Goes bus Holds insn start state (InPlace (exchanged insn ∷ []))
+exchanged_goes : {M A N : Type 0} (bus : Interface M A) (Holds : Words → M → N
+    → Type 0) (insn : Insn) (start : ℕ) (state : Slotted)
+    → IsValid insn → is_vmfunc insn.op ≡ false → is_sib_0f insn.sib ≡ true → IsRegs state.regs
+    → Goes bus Holds insn start state (InPlace (sib_exchanged insn ∷ []))
 exchanged_goes bus Holds insn start state valid other sib regs =
     let old : Regs = record (state.regs) { rip = start } in
     let known = sib_is insn.modrm insn.sib sib valid.sib in
     let found = memory_fits insn valid known.2 in
-    go_in_place bus Holds insn (exchanged insn) start state other
-    (subst (λ (claim : Bool). is_call (found.0).mnemonic ≡ claim → InPlaceLaw (row_of insn old) (exchanged insn) old) refl
+    go_in_place bus Holds insn (sib_exchanged insn) start state other
+    (subst (λ (claim : Bool). is_call (found.0).mnemonic ≡ claim → InPlaceLaw (row_of insn old) (sib_exchanged insn) old) refl
     (λ same. by_call (is_call (found.0).mnemonic) (is_jump (found.0).mnemonic) known.2 found refl refl) refl)
   where
-    by_call : (call jump : Bool) → has_memory insn.modrm ≡ true → (found : Fits (instruction_of insn)) → is_call (found.0).mnemonic ≡ call → is_jump (found.0).mnemonic ≡ jump → InPlaceLaw (row_of insn (record (state.regs) { rip = start })) (exchanged insn) (record (state.regs) { rip = start })
-    by_call true jump memory found c j = call_exchanged insn found.0 (record (state.regs) { rip = start }) (record { valid = valid; memory = memory; named = found.1; call = is_called (found.0).mnemonic c; form = call_rm (found.0).mnemonic (found.0).form found.2 c }) sib regs.count
-    by_call false true memory found c j = jump_exchanged insn found.0 (record (state.regs) { rip = start }) (record { valid = valid; memory = memory; named = found.1; jump = is_jmp (found.0).mnemonic j; form = jmp_rm (found.0).mnemonic (found.0).form found.2 j }) sib regs.count
-    by_call false false memory found c j = exchanged_law_of found.0 (record { valid = valid; memory = memory; named = found.1; no_call = c; no_jump = j })
+    by_call : (call jump : Bool) → has_memory insn.modrm ≡ true → (found : Fits (instruction_of insn))
+        → is_call (found.0).mnemonic ≡ call → is_jump (found.0).mnemonic ≡ jump
+        → InPlaceLaw (row_of insn (record (state.regs) { rip = start })) (sib_exchanged insn)
+        (record (state.regs) { rip = start })
+    by_call true jump memory found c j =
+        call_exchanged insn found.0 (record (state.regs) { rip = start })
+        (record {
+          valid = valid;
+          memory = memory;
+          named = found.1;
+          call = is_called (found.0).mnemonic c;
+          form = call_rm (found.0).mnemonic (found.0).form found.2 c;
+        }) sib regs.count
+    by_call false true memory found c j =
+        jump_exchanged insn found.0 (record (state.regs) { rip = start })
+        (record {
+          valid = valid;
+          memory = memory;
+          named = found.1;
+          jump = is_jmp (found.0).mnemonic j;
+          form = jmp_rm (found.0).mnemonic (found.0).form found.2 j;
+        }) sib regs.count
+    by_call false false memory found c j =
+        exchanged_law_of found.0 (record { valid = valid; memory = memory; named = found.1; no_call = c; no_jump = j })
       where
-        exchanged_law_of : (instruction : Instruction) → IsMemoryWork insn instruction → InPlaceLaw (row_of insn (record (state.regs) { rip = start })) (exchanged insn) (record (state.regs) { rip = start })
+        exchanged_law_of : (instruction : Instruction) → IsMemoryWork insn instruction
+            → InPlaceLaw (row_of insn (record (state.regs) { rip = start })) (sib_exchanged insn)
+            (record (state.regs) { rip = start })
         exchanged_law_of instruction work = exchanged_law bus Holds insn instruction start state work sib regs
 
-held_goes : {M A N : Type 0} (bus : Interface M A) (Holds : Words → M → N → Type 0) (insn : Insn) (site : Site) (start : ℕ) (state : Slotted) → IsAsked bus Holds insn site start state → MovesOn bus Holds insn start state (held_form insn site)
+held_goes : {M A N : Type 0} (bus : Interface M A) (Holds : Words → M → N
+    → Type 0) (insn : Insn) (site : Site) (start : ℕ) (state : Slotted)
+    → IsAsked bus Holds insn site start state → MovesOn bus Holds insn start state (held_form insn site)
 unfolding held_form
 held_goes bus Holds insn site start state asked =
-    let displaced = moved site [] (with_displacement insn) [] in
+    let displaced = move_outcome site [] (with_displacement insn) [] in
     let behind = slot_form_of (instruction_of insn) insn site in
-    cond_both (is_exchangeable insn) (InPlace (exchanged insn ∷ [])) (if begins_at_modrm insn then displaced else behind) (λ form. MovesOn bus Holds insn start state form)
-    (λ e _. exchanged_goes bus Holds insn start state asked.held.valid asked.held.other (and_parts (is_sib_0f insn.sib) (not (holds_pattern (spelling (exchanged insn)))) e).0 asked.entered.regs)
+    cond_both (is_exchangeable insn) (InPlace (sib_exchanged insn ∷ [])) (if begins_at_modrm insn then displaced else behind)
+    (λ form. MovesOn bus Holds insn start state form)
+    (λ e _. exchanged_goes bus Holds insn start state asked.held.valid asked.held.other
+    (and_parts (is_sib_0f insn.sib) (not (holds_pattern (spelling (sib_exchanged insn)))) e).0 asked.entered.regs)
     (λ _. cond_both (begins_at_modrm insn) displaced behind (λ form. MovesOn bus Holds insn start state form)
     (λ e _. displaced_goes bus Holds insn site start state asked e)
     (λ _. of_goes bus Holds (instruction_of insn) insn site start state asked refl))
 
-pub all_go : {M A N : Type 0} (bus : Interface M A) (Holds : Words → M → N → Type 0) → HasWords bus Holds → (insn : Insn) (site : Site) (after_0f : Bool) (start : ℕ) (state : Slotted) → IsValid insn → HasForm insn
-    → IsEntered insn site start state → IsMovable (replacement insn site after_0f) → Goes bus Holds insn start state (replacement insn site after_0f)
+pub all_go : {M A N : Type 0} (bus : Interface M A) (Holds : Words → M → N → Type 0) → HasWords bus Holds
+    → (insn : Insn) (site : Site) (after_0f : Bool) (start : ℕ) (state : Slotted) → IsValid insn → HasForm insn
+    → IsEntered insn site start state → IsMovable (replacement insn site after_0f)
+    → Goes bus Holds insn start state (replacement insn site after_0f)
 unfolding replacement
 all_go bus Holds has insn site after_0f start state valid forms entered =
     let held = held_form insn site in
@@ -491,9 +632,16 @@ all_go bus Holds has insn site after_0f start state valid forms entered =
     let added = if completes_pattern insn after_0f then InPlace (add_from_rm ∷ []) else kept in
     cond_both (is_vmfunc insn.op) (InPlace (nop ∷ nop ∷ nop ∷ [])) added (λ form. MovesOn bus Holds insn start state form)
     (λ e _. passes bus Holds insn start state valid e)
-    (λ other. cond_both (completes_pattern insn after_0f) (InPlace (add_from_rm ∷ [])) kept (λ form. MovesOn bus Holds insn start state form)
-    (λ e _. go_in_place bus Holds insn add_from_rm start state other (add_law insn (record (state.regs) { rip = start }) valid (and_parts (is_add_esp_edx insn) after_0f e).0))
+    (λ other. cond_both (completes_pattern insn after_0f) (InPlace (add_from_rm ∷ [])) kept
+    (λ form. MovesOn bus Holds insn start state form)
+    (λ e _. go_in_place bus Holds insn add_from_rm start state other
+    (add_law insn (record (state.regs) { rip = start }) valid (and_parts (is_add_esp_edx insn) after_0f e).0))
     (λ _. cond_both (not (holds_pattern (spelling insn))) Keep held (λ form. MovesOn bus Holds insn start state form)
     (λ _ _. other)
     (λ some. held_goes bus Holds insn site start state
-    (record { words = has; held = record { valid = valid; other = other; held = not-false (holds_pattern (spelling insn)) some }; form = forms; entered = entered }))))
+    (record {
+      words = has;
+      held = record { valid = valid; other = other; held = not-false (holds_pattern (spelling insn)) some };
+      form = forms;
+      entered = entered;
+    }))))

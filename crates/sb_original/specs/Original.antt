@@ -45,7 +45,9 @@ save_at _ number = []
 
 -- what an instruction saves: it is MOV of a register to one of the first two words
 abbrev pub saved_by : Insn → List Save
-saved_by insn = if is_one_byte 0x89 insn.op && (is_modrm 0x48 insn.rex && is_modrm 0x25 insn.sib) then save_at insn.disp (modrm_of insn / 8) else []
+saved_by insn =
+    if is_one_byte 0x89 insn.op && (is_modrm 0x48 insn.rex && is_modrm 0x25 insn.sib) then save_at insn.disp
+    (modrm_of insn / 8) else []
 
 -- what is saved once these instructions are done
 abbrev pub saves_done : List Insn → List Save
@@ -65,10 +67,12 @@ AreDone saves [] = Unit {0}
 AreDone saves (stage ∷ stages) = (stage.saves ≡ saves ++ saved_by stage.insn) × AreDone stage.saves stages
 
 -- they go on one to the next, and leave the original state
-abbrev pub Before : {M A N : Type 0} → Interface M A → (Words → M → N → Type 0) → ℕ → Regs → List Stage → Slotted → Slotted → Type 0
+abbrev pub Before : {M A N : Type 0} → Interface M A → (Words → M → N → Type 0) → ℕ → Regs → List Stage → Slotted → Slotted
+    → Type 0
 Before bus Holds start regs [] old new = new ≡ old
 Before bus Holds start regs (stage ∷ stages) old new =
-    (mid : Slotted) × Does bus Holds stage.insn old mid × (mid.regs.rip ≡ next_rip stage.insn old.regs) × (original stage.saves start mid ≡ regs)
+    (mid : Slotted) × Does bus Holds stage.insn old mid × (mid.regs.rip ≡ next_rip stage.insn old.regs)
+    × (original stage.saves start mid ≡ regs)
     × Before bus Holds start regs stages mid new
 
 -- ---- behind main
@@ -99,13 +103,16 @@ pub record IsRegs (regs : Regs) : Type 0 where
   pub fit : (number : ℕ) → general regs number < 2 ^ 64
 
 -- Main makes the original's accesses with the original's numbers, and the rest of the slot gives the original's registers.
-pub record ByAccesses {M A N : Type 0} (bus : Interface M A) (Holds : Words → M → N → Type 0) (row other : Row) (next : ℕ) (post : List Insn) (words : Words) : Type 0 where
+pub record ByAccesses {M A N : Type 0} (bus : Interface M A) (Holds : Words → M → N
+    → Type 0) (row other : Row) (next : ℕ) (post : List Insn) (words : Words) : Type 0 where
   pub accesses : SameAccesses row other
   pub goes : (loaded : ℕ) → (other.after loaded).regs.rip ≡ next
-  pub behind : (loaded : ℕ) → Behind bus Holds (row.after loaded).regs post (record { regs = (other.after loaded).regs; words = words })
+  pub behind : (loaded : ℕ)
+      → Behind bus Holds (row.after loaded).regs post (record { regs = (other.after loaded).regs; words = words })
 
 -- The original accesses nothing; main accesses the scratch page alone, and the rest of the slot gives the original's registers.
-pub record FromScratch {M A N : Type 0} (bus : Interface M A) (Holds : Words → M → N → Type 0) (row : Row) (main : Insn) (post : List Insn) (ready : Slotted) : Type 0 where
+pub record FromScratch {M A N : Type 0} (bus : Interface M A) (Holds : Words → M → N
+    → Type 0) (row : Row) (main : Insn) (post : List Insn) (ready : Slotted) : Type 0 where
   pub load : row.load ≡ load.Nothing
   pub store : row.store ≡ store.Nothing
   pub effect : row.effect ≡ Next
@@ -116,14 +123,16 @@ pub record FromScratch {M A N : Type 0} (bus : Interface M A) (Holds : Words →
 
 -- The law of a slot, from a state at its start: the instructions before main leave the original state, and main makes the
 -- original's step.
-pub record SlotLaw {M A N : Type 0} (bus : Interface M A) (Holds : Words → M → N → Type 0) (insn : Insn) (start : ℕ) (pre : List Insn) (main : Insn)
+pub record SlotLaw {M A N : Type 0} (bus : Interface M A) (Holds : Words → M → N
+    → Type 0) (insn : Insn) (start : ℕ) (pre : List Insn) (main : Insn)
     (post : List Insn) (state : Slotted) : Type 0 where
   pub stages : List Stage
   pub staged : insns_of stages ≡ pre
   pub done : AreDone [] stages
   pub ready : Slotted
   pub before : Before bus Holds start (record (state.regs) { rip = start }) stages state ready
-  pub work : ByAccesses bus Holds (row_of insn (record (state.regs) { rip = start })) (row_of main ready.regs) (next_rip main ready.regs) post ready.words
+  pub work : ByAccesses bus Holds (row_of insn (record (state.regs) { rip = start })) (row_of main ready.regs)
+      (next_rip main ready.regs) post ready.words
       ⊎ FromScratch bus Holds (row_of insn (record (state.regs) { rip = start })) main post ready
 
 -- with the same saves behind each instruction
@@ -133,10 +142,12 @@ staged saves (insn ∷ insns) = record { insn = insn; saves = saves } ∷ staged
 
 -- where the registers agree but for the helpers, and the words are these, the original state is this one
 abbrev pub IsKept : List Save → ℕ → Regs → List ℕ → Regs → Words → Type 0
-IsKept saves start regs numbers old words = (state : Slotted) → AgreeBut (hides numbers) old state.regs → state.words ≡ words → original saves start state ≡ regs
+IsKept saves start regs numbers old words = (state : Slotted) → AgreeBut (hides numbers) old state.regs → state.words ≡ words
+    → original saves start state ≡ regs
 
 -- the instructions before main go on to a state in which the registers agree but for the helpers, and one helper has a value
-pub record Loads {M A N : Type 0} (bus : Interface M A) (Holds : Words → M → N → Type 0) (saves : List Save) (start : ℕ) (regs : Regs) (numbers : List ℕ) (old : Regs)
+pub record Loads {M A N : Type 0} (bus : Interface M A) (Holds : Words → M → N
+    → Type 0) (saves : List Save) (start : ℕ) (regs : Regs) (numbers : List ℕ) (old : Regs)
     (helper : Helper) (value : ℕ) (insns : List Insn) (state : Slotted) : Type 0 where
   pub new : Slotted
   pub before : Before bus Holds start regs (staged saves insns) state new
@@ -155,5 +166,6 @@ pub record InPlaceLaw (row : Row) (main : Insn) (regs : Regs) : Type 0 where
 -- The law of a form whose slot is entered with these registers and words, in place of the instruction at `start`.
 abbrev pub FormLaw : {M A N : Type 0} → Interface M A → (Words → M → N → Type 0) → Insn → ℕ → Slotted → Replacement → Type 0
 FormLaw bus Holds insn start state (Moved pre main post) = SlotLaw bus Holds insn start pre main post state
-FormLaw bus Holds insn start state (InPlace (main ∷ [])) = InPlaceLaw (row_of insn (record (state.regs) { rip = start })) main (record (state.regs) { rip = start })
+FormLaw bus Holds insn start state (InPlace (main ∷ [])) =
+    InPlaceLaw (row_of insn (record (state.regs) { rip = start })) main (record (state.regs) { rip = start })
 FormLaw bus Holds insn start state _ = Unit {0}

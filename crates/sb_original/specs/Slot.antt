@@ -5,7 +5,7 @@ use Rattle.std.specs.List.{AllByRecursion}
 use Rattle.sb_insn.specs.declared.insn.Insn.{Insn}
 use Rattle.sb_insn.specs.declared.registers.Regs.{Regs}
 use Rattle.sb_alu.specs.declared.size.Size.{Size}
-use Rattle.sb_alu.specs.declared.size.Size.TheVariants.{Double}
+use Rattle.sb_alu.specs.declared.size.Size.TheVariants.{Doubleword}
 use Rattle.sb_exec.specs.declared.action.Effect.TheVariants.{Next}
 use Rattle.sb_exec.specs.declared.action.Load.{Load}
 use Rattle.sb_exec.specs.declared.action.Load.TheVariants as load
@@ -13,7 +13,7 @@ use Rattle.sb_exec.specs.declared.action.Store.{Store}
 use Rattle.sb_exec.specs.declared.action.Store.TheVariants as store
 use Rattle.sb_exec.specs.Interface.{Interface}
 use Rattle.sb_exec.specs.Operand.{general}
-use Rattle.sb_exec.specs.WriteBack.{stepped}
+use Rattle.sb_exec.specs.WriteBack.{regs_at_next}
 use Rattle.sb_exec.specs.Row.{Row, MemoryAccess, Loads, LoadsToWrite, Stores, accesses}
 use Rattle.sb_exec.specs.Rows.{row_of}
 use Rattle.sb_exec.specs.Execution.{execution_of}
@@ -33,7 +33,8 @@ with_general number value regs = record regs { general = slice_set regs.general 
 
 -- the same at the next instruction
 abbrev pub set_and_step : Insn → ℕ → ℕ → Slotted → Slotted
-set_and_step insn number value state = record { regs = with_general number value (stepped insn state.regs); words = state.words }
+set_and_step insn number value state =
+    record { regs = with_general number value (regs_at_next insn state.regs); words = state.words }
 
 -- ---- an instruction over the registers and the words alone, which change as its row says
 
@@ -47,7 +48,7 @@ loaded_word (load.ReadToWrite address size) words = word_at address.0 words
 
 -- the third word is stored whole or by halves
 abbrev pub third_stored : Size → ℕ → Words → Words
-third_stored Double value words = with_lower value words
+third_stored Doubleword value words = with_lower value words
 third_stored _ value words = with_word Third value words
 
 abbrev pub word_stored : ℕ → Size → ℕ → Words → Words
@@ -85,10 +86,14 @@ IsScratch (LoadsToWrite address size) = (0x70004000 ≤ address) × (address + s
 IsScratch (Stores address size value) = (0x70004000 ≤ address) × (address + size ≤ 0x70005000)
 
 -- The law of a piece: it goes on, changes registers and scratch words so, and accesses nothing but the scratch page.
-pub record Does {M A N : Type 0} (bus : Interface M A) (Holds : Words → M → N → Type 0) (insn : Insn) (old new : Slotted) : Type 0 where
-  pub answer : (meaning : M) (other : N) (account : A) → Holds old.words meaning other → (execution_of bus (row_of insn old.regs) old.regs meaning account).answer ≡ Ok Next
-  pub registers : (meaning : M) (other : N) (account : A) → Holds old.words meaning other → (execution_of bus (row_of insn old.regs) old.regs meaning account).registers ≡ new.regs
-  pub words : (meaning : M) (other : N) (account : A) → Holds old.words meaning other → Holds new.words (execution_of bus (row_of insn old.regs) old.regs meaning account).meaning other
+pub record Does {M A N : Type 0} (bus : Interface M A) (Holds : Words → M → N
+    → Type 0) (insn : Insn) (old new : Slotted) : Type 0 where
+  pub answer : (meaning : M) (other : N) (account : A) → Holds old.words meaning other
+      → (execution_of bus (row_of insn old.regs) old.regs meaning account).answer ≡ Ok Next
+  pub registers : (meaning : M) (other : N) (account : A) → Holds old.words meaning other
+      → (execution_of bus (row_of insn old.regs) old.regs meaning account).registers ≡ new.regs
+  pub words : (meaning : M) (other : N) (account : A) → Holds old.words meaning other
+      → Holds new.words (execution_of bus (row_of insn old.regs) old.regs meaning account).meaning other
   pub inside : AllByRecursion IsScratch (accesses (row_of insn old.regs))
   pub flags : new.regs.flags ≡ old.regs.flags
   pub made : worked insn old ≡ new
@@ -103,29 +108,32 @@ address_of Third = scratch_word
 
 abbrev pub saved : Helper → ScratchWord → Slotted → Slotted
 saved helper which state = record {
-  regs = stepped (save helper (address_of which)) state.regs;
+  regs = regs_at_next (save helper (address_of which)) state.regs;
   words = with_word which (general state.regs (number_of helper) % 2 ^ 64) state.words;
 }
 
 abbrev pub restored : Helper → ScratchWord → Slotted → Slotted
-restored helper which state = set_and_step (restore helper (address_of which)) (number_of helper) (word_of which state.words % 2 ^ 64) state
+restored helper which state =
+    set_and_step (restore helper (address_of which)) (number_of helper) (word_of which state.words % 2 ^ 64) state
 
 abbrev pub number_loaded : Helper → ℤ → Slotted → Slotted
-number_loaded helper value state = set_and_step (load_number helper value) (number_of helper) (cast_unsigned w64 value % 2 ^ 64) state
+number_loaded helper value state =
+    set_and_step (load_number helper value) (number_of helper) (cast_unsigned w64 value % 2 ^ 64) state
 
 abbrev pub number_added : Helper → ℤ → Slotted → Slotted
 number_added helper amount state =
-    set_and_step (add_number helper amount) (number_of helper) ((general state.regs (number_of helper) + cast_unsigned w64 amount) % 2 ^ 64) state
+    set_and_step (add_number helper amount) (number_of helper)
+    ((general state.regs (number_of helper) + cast_unsigned w64 amount) % 2 ^ 64) state
 
 abbrev pub low_saved : Helper → Slotted → Slotted
 low_saved helper state = record {
-  regs = stepped (save_half helper scratch_word) state.regs;
+  regs = regs_at_next (save_half helper scratch_word) state.regs;
   words = with_lower (general state.regs (number_of helper) % 2 ^ 32) state.words;
 }
 
 abbrev pub high_saved : Helper → Slotted → Slotted
 high_saved helper state = record {
-  regs = stepped (save_half helper upper_half) state.regs;
+  regs = regs_at_next (save_half helper upper_half) state.regs;
   words = with_upper (general state.regs (number_of helper) % 2 ^ 32) state.words;
 }
 

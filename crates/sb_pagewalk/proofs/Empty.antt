@@ -6,7 +6,7 @@ use Rattle.sb_memory.specs.declared.address.Access.{Access}
 use Rattle.sb_memory.specs.declared.address.GuestPhys.{GuestPhys}
 use Rattle.sb_walks.specs.declared.stop.WalkStop.{WalkStop}
 use Rattle.sb_walks.specs.declared.stop.WalkStop.TheVariants.{NonCanonical, NotPresent}
-use Rattle.sb_walks.specs.Guest.{is_canonical, entry_judged}
+use Rattle.sb_walks.specs.Guest.{is_canonical, guest_entry_answer}
 use Rattle.sb_pagewalk.specs.declared.table_set.TableSet.{TableSet}
 use Rattle.sb_pagewalk.specs.Windows.{IsInWindow, region_of, page_table_of}
 use Rattle.sb_pagewalk.specs.TableSet.{page_entry, page_walked, set_walked, walked_in, no_pages, Maps}
@@ -22,7 +22,7 @@ err_by true stop rest refused = refl
 err_by false stop rest refused = refused
 
 nothing_walked : (linear : ℕ) (access : Access) → IsErr (set_walked no_pages linear access)
-unfolding set_walked entry_judged
+unfolding set_walked guest_entry_answer
 nothing_walked linear access =
     err_by (not (is_canonical linear)) NonCanonical _
     (err_by (not (nat_lt linear (2 ^ 39))) (NotPresent 4) _

@@ -10,7 +10,7 @@ use Rattle.sb_memory.specs.declared.address.GuestPhys.{GuestPhys}
 use Rattle.sb_walks.specs.declared.stop.WalkStop.{WalkStop}
 use Rattle.sb_walks.specs.declared.stop.WalkStop.TheVariants.{NonCanonical, NotPresent}
 use Rattle.sb_walks.specs.Entry.{entry_in}
-use Rattle.sb_walks.specs.Guest.{is_canonical, entry_judged, address_in, walked}
+use Rattle.sb_walks.specs.Guest.{is_canonical, guest_entry_answer, address_in, guest_walk}
 use Rattle.sb_pagewalk.specs.declared.table_set.TableSet.{TableSet}
 use Rattle.sb_pagewalk.specs.Direct.{direct_entry}
 use Rattle.sb_pagewalk.specs.Windows.{region_of, page_table_of}
@@ -41,7 +41,7 @@ cr3_of set = PAGE_SIZE * set.root.0
 
 -- what the lowest entry for an address answers
 abbrev pub page_walked : ℕ → ℕ → Access → Result GuestPhys WalkStop
-page_walked entry linear access = and_then (entry_judged access 1 entry) (λ frame. Ok (address_in linear frame))
+page_walked entry linear access = and_then (guest_entry_answer access 1 entry) (λ frame. Ok (address_in linear frame))
 
 -- what a walk answers through a set whose lowest entries are these, by the number of the page
 unfoldable pub set_walked : (ℕ → ℕ) → ℕ → Access → Result GuestPhys WalkStop
@@ -54,7 +54,7 @@ set_walked entries linear access =
 
 -- what a walk from the root of the set answers in a memory
 abbrev pub walked_in : Physical → TableSet → ℕ → Access → Result GuestPhys WalkStop
-walked_in memory set linear access = walked (direct_entry memory) (cr3_of set) linear access
+walked_in memory set linear access = guest_walk (direct_entry memory) (cr3_of set) linear access
 
 -- the lowest entries of a set that translates nothing
 abbrev pub no_pages : ℕ → ℕ

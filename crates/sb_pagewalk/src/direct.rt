@@ -3,8 +3,7 @@
 ghost use Rattle.std.specs.Prelude.{◌≡◌};
 
 use crate::tables::Tables;
-use sb_memory::PAGE_SIZE;
-use sb_memory::{EptStop, GuestPhys, Memory, Phys, PhysAddr};
+use sb_memory::{EptStop, GuestPhys, Memory, PAGE_SIZE, Phys, PhysAddr};
 use sb_walks::TableStop;
 
 /// The tables of a memory, with each guest-physical address taken for the physical one.

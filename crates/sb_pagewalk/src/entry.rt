@@ -1,7 +1,7 @@
 //! What an entry of a page table says (SDM volume 3, section 4.5).
 
 ghost use Rattle.std.specs.Prelude.{◌≡◌, ◌<◌, ◌^◌, IfOk};
-ghost use Rattle.sb_walks.specs.Guest.{entry_judged, permits as permits_access};
+ghost use Rattle.sb_walks.specs.Guest.{guest_entry_answer, permits};
 
 use sb_memory::Access;
 use sb_walks::{PS, WalkStop, frame_number, has_bit};
@@ -17,7 +17,7 @@ const EXECUTE_DISABLE: u32 = 63;
 
 /// Whether an entry permits an access in user mode.
 fn permits(access: Access, entry: u64) -> bool
-    ensures { result ≡ permits_access access entry }
+    ensures { result ≡ permits access entry }
 {
     match access {
         Access::Read => has_bit(entry, USER),
@@ -27,9 +27,9 @@ fn permits(access: Access, entry: u64) -> bool
 }
 
 /// The number of the next frame, or the first reason to refuse the entry.
-#[tactic(auto, unfolding(sb_walks::specs::Guest::entry_judged))]
+#[tactic(auto, unfolding(sb_walks::specs::Guest::guest_entry_answer))]
 pub fn judge(access: Access, level: u8, entry: u64) -> Result<u64, WalkStop>
-    ensures answer { result ≡ entry_judged access level entry }
+    ensures answer { result ≡ guest_entry_answer access level entry }
     ensures range { IfOk result (λ next. next < 2 ^ 40) }
 {
     if !has_bit(entry, PRESENT) {

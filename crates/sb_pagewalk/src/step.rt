@@ -3,12 +3,11 @@
 ghost use Rattle.std.specs.Prelude.{◌≡◌, ◌<◌, ◌≤◌, ◌^◌, IfOk};
 ghost use Rattle.sb_walks.specs.Entry.{entry_place};
 ghost use Rattle.sb_walks.specs.Reads.{after_entries};
-ghost use Rattle.sb_walks.specs.Guest.{walk_reads, walk_step, walked};
+ghost use Rattle.sb_walks.specs.Guest.{walk_reads, walk_step, guest_walk};
 
 use crate::entry::judge;
 use crate::tables::Tables;
-use sb_memory::PAGE_SIZE;
-use sb_memory::{Access, GuestPhys, Linear};
+use sb_memory::{Access, GuestPhys, Linear, PAGE_SIZE};
 use sb_walks::{WalkStop, entry_place, frame_number};
 
 /// One level: from the frame of a table to the frame to which the entry for the address leads.
@@ -38,14 +37,14 @@ fn step<T: Tables>(
 ///
 /// `NonCanonical` comes exactly where bits 63 to 47 are not all the same. Then, at each level from 4 to 1, the first that
 /// applies of: `Table`, the entry cannot be read; `NotPresent`; `Large`, at level 3 or 2; `Denied`.
-#[tactic(auto, unfolding(sb_walks::specs::Guest::walked, sb_walks::specs::Guest::walk_reads))]
+#[tactic(auto, unfolding(sb_walks::specs::Guest::guest_walk, sb_walks::specs::Guest::walk_reads))]
 pub fn walk<T: Tables>(
     tables: &mut T,
     cr3: u64,
     linear: Linear,
     access: Access,
 ) -> Result<GuestPhys, WalkStop>
-    ensures answer { result ≡ walked (T.entries (T.meaning tables.old)) cr3 linear.0 access }
+    ensures answer { result ≡ guest_walk (T.entries (T.meaning tables.old)) cr3 linear.0 access }
     ensures same { T.meaning tables.new ≡ T.meaning tables.old }
     ensures account { T.account tables.new ≡ after_entries (T.rule (T.meaning tables.old)) (walk_reads (T.entries (T.meaning tables.old)) cr3 linear.0 access) (T.account tables.old) }
     ensures kept { T.kept tables.new ≡ T.kept tables.old }

@@ -10,7 +10,7 @@ ghost use Rattle.sb_memory.specs.declared.address.Access.{Access};
 ghost use Rattle.sb_pagewalk.specs.Windows.{IsInWindow};
 ghost use Rattle.sb_pagewalk.specs.Building.{IsCleared, IsLinked};
 ghost use Rattle.sb_pagewalk.specs.Standing.{AreFrames, HasTables};
-ghost use Rattle.sb_pagewalk.specs.TableSet.{Maps, entry_to as link_entry, no_pages, page_place as lowest_place, page_walked, place_in, set_frames, table_frame, walked_in};
+ghost use Rattle.sb_pagewalk.specs.TableSet.{Maps, entry_to, no_pages, page_place, page_walked, place_in, set_frames, table_frame, walked_in};
 
 use crate::windows::{entered_at, page_table_of};
 use sb_memory::{Frame, Linear, Memory, Phys, PhysAddr};
@@ -81,7 +81,7 @@ impl TableSet {
     fn entry_to(&self, table: usize) -> u64
         requires not_root { table ≢ 0 }
         requires number { table < 12 }
-        ensures { result ≡ link_entry self.now table }
+        ensures { result ≡ entry_to self.now table }
     {
         self.frame(table).base().0 + ALL_RIGHTS
     }
@@ -110,7 +110,7 @@ impl TableSet {
     /// The place of the lowest entry for an address.
     fn page_place(&self, at: Linear) -> PhysAddr
         requires { IsInWindow at.0 }
-        ensures { result.0 ≡ lowest_place self.now at.0 }
+        ensures { result.0 ≡ page_place self.now at.0 }
     {
         self.place(page_table_of(at.page() / 512), index(1, at.0))
     }
@@ -119,7 +119,7 @@ impl TableSet {
     pub fn set_page(&self, memory: &mut Memory, at: Linear, entry: u64)
         requires window { IsInWindow at.0 }
         requires tables { HasTables self.now memory.old }
-        ensures entry { memory.new ≡ with_bytes memory.old (put_word memory.old.bytes (lowest_place self.now at.0) entry) }
+        ensures entry { memory.new ≡ with_bytes memory.old (put_word memory.old.bytes (page_place self.now at.0) entry) }
         ensures tables { HasTables self.now memory.new }
         ensures page { (linear : ℕ) (access : Access) → linear / PAGE_SIZE ≡ at.0 / PAGE_SIZE → walked_in memory.new self.now linear access ≡ page_walked entry linear access }
         ensures others { (linear : ℕ) (access : Access) → linear / PAGE_SIZE ≢ at.0 / PAGE_SIZE → walked_in memory.new self.now linear access ≡ walked_in memory.old self.now linear access }

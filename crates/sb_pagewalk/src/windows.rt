@@ -1,7 +1,7 @@
 //! The windows of a process: the 2 MiB regions of its address space that have a page table.
 
 ghost use Rattle.std.specs.Prelude.{◌≡◌, ◌≢◌, ◌<◌};
-ghost use Rattle.sb_pagewalk.specs.Windows.{page_table_of as page_table_number};
+ghost use Rattle.sb_pagewalk.specs.Windows.{page_table_of};
 ghost use Rattle.sb_pagewalk.specs.Building.{parent_of, slot_of};
 
 use sb_abi::{
@@ -24,8 +24,8 @@ const SERVER_STACKS: u64 = SERVER_STACKS_PAGE / WINDOW_PAGES;
 /// The number of the page table of a 2 MiB region, which is a window.
 #[tactic(auto, using(crate::proofs::Regions::page_table_small), unfolding(crate::specs::Windows::page_table_of))]
 pub fn page_table_of(region: u64) -> usize
-    requires { page_table_number region ≢ 0 }
-    ensures number { result ≡ page_table_number region }
+    requires { page_table_of region ≢ 0 }
+    ensures number { result ≡ page_table_of region }
     ensures below { result < 12 }
 {
     match region {

@@ -14,11 +14,12 @@ use Rattle.sb_bus.specs.declared.stop.BusStop.{BusStop}
 use Rattle.sb_state.specs.declared.page.Seen.{Seen}
 use Rattle.sb_trace.specs.PageName.{permits}
 use Rattle.sb_trace.specs.State.{State}
-use Rattle.sb_trace.specs.Windows.{page_seen}
+use Rattle.sb_trace.specs.Windows.{page_for}
 use Rattle.sb_trace.specs.PlainMemory.{plain, plain_byte, byte_seen, is_canonical, fault_at}
 use Rattle.sb_plain.specs.Faults.{IsFault}
 
-by_test : (test : Bool) (byte address : ℕ) (kind : FaultKind) → IfErr (if test then Ok byte else Err (fault_at kind address)) IsFault
+by_test : (test : Bool) (byte address : ℕ) (kind : FaultKind)
+    → IfErr (if test then Ok byte else Err (fault_at kind address)) IsFault
 by_test true byte address kind = tt
 by_test false byte address kind = tt
 
@@ -33,11 +34,13 @@ canonical_by false state seen address how kind = tt
 
 byte_faults : (thread view : ℕ) → ByteStops State (Unit {0}) (plain thread view) IsFault
 unfolding plain_byte
-byte_faults thread view state address how = canonical_by (is_canonical address) state (page_seen state thread view (address / 4096)) address how _
+byte_faults thread view state address how =
+    canonical_by (is_canonical address) state (page_for state thread view (address / 4096)) address how _
 
 pub execution_faults : (thread view : ℕ) (row : Row) (regs : Regs) (state : State)
     → IfErr (execution_of (plain thread view) row regs state tt).answer IsFault
-execution_faults thread view row regs state = execution_stops State (Unit {0}) (plain thread view) IsFault (byte_faults thread view) row regs state tt
+execution_faults thread view row regs state =
+    execution_stops State (Unit {0}) (plain thread view) IsFault (byte_faults thread view) row regs state tt
 
 pub fetch_faults : (thread view : ℕ) (state : State) (address : ℕ) (result : Result Insn BusStop)
     → FetchesOn (plain thread view) state address tt tt result → IfErr result IsFault

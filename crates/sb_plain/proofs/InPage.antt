@@ -8,14 +8,14 @@ use Rattle.sb_insn.specs.declared.insn.Insn.{Insn}
 use Rattle.sb_insn.specs.Spelling.{spelling}
 use Rattle.sb_insn.specs.Grammar.{BeginsWith}
 use Rattle.sb_bus.specs.declared.stop.BusStop.{BusStop}
-use Rattle.sb_exec.specs.Fetching.{further, Stands, FetchesOn, fetch_of}
+use Rattle.sb_exec.specs.Fetching.{bytes_from_fetch, Stands, FetchesOn, fetch_of}
 use Rattle.sb_exec.proofs.AtOnce.{fetched_at_once}
 use Rattle.sb_state.specs.declared.page.PageName.{PageName}
 use Rattle.sb_state.specs.declared.page.Page.{Page}
 use Rattle.sb_state.specs.declared.page.Seen.{Seen}
 use Rattle.sb_trace.specs.PageName.{permits}
 use Rattle.sb_trace.specs.State.{State, find_page}
-use Rattle.sb_trace.specs.Windows.{page_seen}
+use Rattle.sb_trace.specs.Windows.{page_for}
 use Rattle.sb_trace.specs.PlainMemory.{plain, plain_byte, is_canonical}
 use Rattle.sb_plain.specs.Reach.{reached, reached_as}
 use Rattle.sb_plain.proofs.Reached.{byte_reached, byte_refused}
@@ -45,48 +45,56 @@ same_canonical address other page =
 
 -- an access reaches the same page wherever in the page its address is
 pub reached_again : (thread view : ℕ) (state : State) (address other : ℕ) (how : Access) (name : PageName)
-    → other / 4096 ≡ address / 4096 → reached thread view state address how ≡ Ok name → reached thread view state other how ≡ Ok name
+    → other / 4096 ≡ address / 4096 → reached thread view state address how ≡ Ok name
+    → reached thread view state other how ≡ Ok name
 unfolding reached
 reached_again thread view state address other how name page is =
     rw (same_canonical address other page, page)
-    (canonical_by (is_canonical address) (page_seen state thread view (address / 4096)) address other how name _ _ is)
+    (canonical_by (is_canonical address) (page_for state thread view (address / 4096)) address other how name _ _ is)
 
 -- a byte further on in the page
-pub byte_in_page : (thread view : ℕ) (state : State) (address count : ℕ) (how : Access) (name : PageName) (page : Page) → address < 2 ^ 64
+pub byte_in_page : (thread view : ℕ) (state : State) (address count : ℕ) (how : Access) (name : PageName) (page : Page)
+    → address < 2 ^ 64
     → address % 4096 + count < 4096 → reached thread view state address how ≡ Ok name → find_page state.pages name ≡ Some page
-    → plain_byte thread view state (further address count) how ≡ Ok (slice_index page.bytes (address % 4096 + count))
+    → plain_byte thread view state (bytes_from_fetch address count) how ≡ Ok (slice_index page.bytes (address % 4096 + count))
 byte_in_page thread view state address count how name page fits inside is found =
-    let here : further address count ≡ address + count = omega (arith, fits, inside) in
-    let same : further address count / 4096 ≡ address / 4096 = omega (arith, here, inside) in
-    let place : further address count % 4096 ≡ address % 4096 + count = omega (arith, here, inside) in
-    byte_reached thread view state (further address count) how name page (reached_again thread view state address _ how name same is) found
+    let here : bytes_from_fetch address count ≡ address + count = omega (arith, fits, inside) in
+    let same : bytes_from_fetch address count / 4096 ≡ address / 4096 = omega (arith, here, inside) in
+    let place : bytes_from_fetch address count % 4096 ≡ address % 4096 + count = omega (arith, here, inside) in
+    byte_reached thread view state (bytes_from_fetch address count) how name page
+    (reached_again thread view state address _ how name same is) found
     ∙ ap (λ (n : ℕ). Ok (slice_index page.bytes n)) place
 
 -- ---- a word
 
-loaded_on : (size thread view : ℕ) (state : State) (address index : ℕ) (how : Access) (name : PageName) (page : Page) → address < 2 ^ 64
-    → address % 4096 + index + size ≤ 4096 → reached thread view state address how ≡ Ok name → find_page state.pages name ≡ Some page
-    → loaded_from (byte_for (plain_byte thread view state) how) (further address index) size
+loaded_on : (size thread view : ℕ) (state : State) (address index : ℕ) (how : Access) (name : PageName) (page : Page)
+    → address < 2 ^ 64
+    → address % 4096 + index + size ≤ 4096 → reached thread view state address how ≡ Ok name
+    → find_page state.pages name ≡ Some page
+    → loaded_from (byte_for (plain_byte thread view state) how) (bytes_from_fetch address index) size
     ≡ Ok (little_from (address % 4096 + index) size page.bytes)
 loaded_on zero thread view state address index how name page fits inside is found = loaded_none _ _ 0 refl
 loaded_on (suc size) thread view state address index how name page fits inside is found =
     let below : address % 4096 + index < 4096 = omega (arith, inside) in
-    let next : (further address index + 1) % 2 ^ 64 ≡ further address (suc index) = omega (arith, fits) in
+    let next : (bytes_from_fetch address index + 1) % 2 ^ 64 ≡ bytes_from_fetch address (suc index) = omega (arith, fits) in
     let place : address % 4096 + suc index ≡ suc (address % 4096 + index) = omega arith in
     let later : address % 4096 + suc index + size ≤ 4096 = omega (arith, inside) in
-    let lowest : byte_for (plain_byte thread view state) how (further address index) ≡ Ok (slice_index page.bytes (address % 4096 + index)) =
+    let lowest : byte_for (plain_byte thread view state) how (bytes_from_fetch address index)
+    ≡ Ok (slice_index page.bytes (address % 4096 + index)) =
     byte_in_page thread view state address index how name page fits below is found in
     let others = loaded_on size thread view state address (suc index) how name page fits later is found in
-    let more : loaded_from (byte_for (plain_byte thread view state) how) ((further address index + 1) % 2 ^ 64) size
+    let more : loaded_from (byte_for (plain_byte thread view state) how) ((bytes_from_fetch address index + 1) % 2 ^ 64) size
     ≡ Ok (little_from (suc (address % 4096 + index)) size page.bytes) = rw (next, ← place) others in
-    loaded_more (byte_for (plain_byte thread view state) how) (further address index) (suc size) size _ _ (omega arith) lowest more
+    loaded_more (byte_for (plain_byte thread view state) how) (bytes_from_fetch address index) (suc size) size _ _
+    (omega arith) lowest more
 
 -- the word at an address, if it ends in the page
-pub word_in_page : (thread view : ℕ) (state : State) (address : ℕ) (how : Access) (name : PageName) (page : Page) → address < 2 ^ 64
+pub word_in_page : (thread view : ℕ) (state : State) (address : ℕ) (how : Access) (name : PageName) (page : Page)
+    → address < 2 ^ 64
     → address % 4096 + 8 ≤ 4096 → reached thread view state address how ≡ Ok name → find_page state.pages name ≡ Some page
     → loaded_from (byte_for (plain_byte thread view state) how) address 8 ≡ Ok (little_from (address % 4096) 8 page.bytes)
 word_in_page thread view state address how name page fits inside is found =
-    let here : further address 0 ≡ address = omega (arith, fits) in
+    let here : bytes_from_fetch address 0 ≡ address = omega (arith, fits) in
     let place : address % 4096 + 0 ≡ address % 4096 = omega arith in
     let all = loaded_on 8 thread view state address 0 how name page fits (omega (arith, inside)) is found in
     sym (ap (λ (n : ℕ). loaded_from (byte_for (plain_byte thread view state) how) n 8) here) ∙ all
@@ -96,12 +104,14 @@ pub word_refused : (thread view : ℕ) (state : State) (address : ℕ) (how : Ac
     → reached thread view state address how ≡ Err stop
     → loaded_from (byte_for (plain_byte thread view state) how) address 8 ≡ Err stop
 word_refused thread view state address how stop is =
-    loaded_stop (byte_for (plain_byte thread view state) how) address 8 stop (omega arith) (byte_refused thread view state address how stop is)
+    loaded_stop (byte_for (plain_byte thread view state) how) address 8 stop (omega arith)
+    (byte_refused thread view state address how stop is)
 
 -- ---- an instruction
 
 -- the rest of the page stands there
-page_stands : (thread view : ℕ) (state : State) (address : ℕ) (name : PageName) (page : Page) → address < 2 ^ 64 → length page.bytes ≡ 4096
+page_stands : (thread view : ℕ) (state : State) (address : ℕ) (name : PageName) (page : Page) → address < 2 ^ 64
+    → length page.bytes ≡ 4096
     → reached thread view state address Fetch ≡ Ok name → find_page state.pages name ≡ Some page
     → Stands (fetch_of (plain thread view) state) address (drop (address % 4096) page.bytes)
 page_stands thread view state address name page fits whole is found index below =
@@ -114,7 +124,8 @@ no_account : (account : Unit {0}) → tt ≡ account
 no_account account = refl
 
 -- the instruction that begins the rest of the page
-pub fetched_in_page : (thread view : ℕ) (state : State) (address : ℕ) (name : PageName) (page : Page) (insn : Insn) → address < 2 ^ 64
+pub fetched_in_page : (thread view : ℕ) (state : State) (address : ℕ) (name : PageName) (page : Page) (insn : Insn)
+    → address < 2 ^ 64
     → length page.bytes ≡ 4096 → reached thread view state address Fetch ≡ Ok name → find_page state.pages name ≡ Some page
     → BeginsWith (drop (address % 4096) page.bytes) insn → FetchesOn (plain thread view) state address tt tt (Ok insn)
 fetched_in_page thread view state address name page insn fits whole is found begins = record {
@@ -124,7 +135,8 @@ fetched_in_page thread view state address name page insn fits whole is found beg
   account = no_account _;
 }
 
-pub found_in_page : (thread view : ℕ) (state : State) (address : ℕ) (name : PageName) (page : Page) (found : Option Insn) → address < 2 ^ 64
+pub found_in_page : (thread view : ℕ) (state : State) (address : ℕ) (name : PageName) (page : Page) (found : Option Insn)
+    → address < 2 ^ 64
     → length page.bytes ≡ 4096 → reached thread view state address Fetch ≡ Ok name → find_page state.pages name ≡ Some page
     → IfSome found (λ insn. BeginsWith (drop (address % 4096) page.bytes) insn)
     → IfSome found (λ insn. FetchesOn (plain thread view) state address tt tt (Ok insn))

@@ -21,7 +21,8 @@ pub known_place : (pages : List Page) (names : List (Option Known)) (name : Page
 known_place pages names name place known there = All-contains (IsKnown pages) names (Some (known_at name place)) known there
 
 -- a name kept in place of another
-pub remembered : (names : List (Option Known)) (at place : ℕ) (name : PageName) → Remembers names (set names at (Some (known_at name place))) name (Some place)
+pub remembered : (names : List (Option Known)) (at place : ℕ) (name : PageName)
+    → Remembers names (set names at (Some (known_at name place))) name (Some place)
 remembered names at place name = λ pages is known. All-set (IsKnown pages) names at (Some (known_at name place)) (sym is) known
 
 pub not_remembered : (names : List (Option Known)) (name : PageName) (place : Option ℕ) → Remembers names names name place
@@ -41,5 +42,6 @@ one_pushed pages page None known = tt
 one_pushed pages page (Some one) known = place_pushed pages page one.name ∙ kept_by (place_of pages one.name) _ one.place known
 
 -- a page more
-pub known_pushed : (pages : List Page) (page : Page) (names : List (Option Known)) → AreKnown pages names → AreKnown (pages ++ page ∷ []) names
+pub known_pushed : (pages : List Page) (page : Page) (names : List (Option Known)) → AreKnown pages names
+    → AreKnown (pages ++ page ∷ []) names
 known_pushed pages page names known = λ k d below. one_pushed pages page (slice_index_or names k d) (known k d below)

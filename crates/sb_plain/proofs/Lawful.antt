@@ -8,6 +8,7 @@ use Rattle.sb_trace.specs.Sound.{IsSound}
 use Rattle.sb_trace.proofs.SoundRuns.{steps_keep_sound}
 use Rattle.sb_trace.proofs.Fetchable.{one_pattern}
 
-pub one_switch : (old : State) (core : ℕ) (event : Event) (new : State) → IsSound old → Steps old core event new → HasOneSwitch new
+pub one_switch : (old : State) (core : ℕ) (event : Event) (new : State) → IsSound old → Steps old core event new
+    → HasOneSwitch new
 one_switch old core event new sound steps thread view address stands =
     one_pattern new thread view address (steps_keep_sound old core event new sound steps).pages stands

@@ -7,7 +7,8 @@ use Rattle.std.proofs.lemmas.List.Elements.{Contains-append_right}
 use Rattle.sb_trace.specs.SyscallRegister.{is_listed}
 
 contained_behind : (start address : ℕ) (starts : List ℕ) (first : Bool) → (start == address) ≡ first
-    → (is_listed starts address ≡ true → Contains starts address) → (first || is_listed starts address) ≡ true → Contains (start ∷ starts) address
+    → (is_listed starts address ≡ true → Contains starts address) → (first || is_listed starts address) ≡ true
+    → Contains (start ∷ starts) address
 contained_behind start address starts true is behind listed = (zero, omega arith, eqb-true start address is)
 contained_behind start address starts false is behind listed = Contains-append_right (start ∷ []) starts address (behind listed)
 
@@ -32,6 +33,8 @@ by_test false true there back = back refl
 by_test false false there back = refl
 
 -- a test that answers whether the starts have an address
-pub same_as_listed : (test : Bool) (starts : List ℕ) (address : ℕ) → (IsTrue test ↔ Contains starts address) → test ≡ is_listed starts address
+pub same_as_listed : (test : Bool) (starts : List ℕ) (address : ℕ) → (IsTrue test ↔ Contains starts address)
+    → test ≡ is_listed starts address
 same_as_listed test starts address tells =
-    by_test test (is_listed starts address) (λ is. contained_listed starts address (tells.0 is)) (λ is. tells.1 (listed_contained starts address is))
+    by_test test (is_listed starts address) (λ is. contained_listed starts address (tells.0 is))
+    (λ is. tells.1 (listed_contained starts address is))

@@ -9,7 +9,7 @@ use Rattle.std.proofs.lemmas.Grind.{common_steps}
 use Rattle.sb_state.specs.declared.page.PageName.{PageName}
 use Rattle.sb_state.specs.declared.page.Page.{Page}
 use Rattle.sb_trace.specs.PageName.{same_name}
-use Rattle.sb_trace.specs.State.{find_page, replaced, bytes_of}
+use Rattle.sb_trace.specs.State.{find_page, with_page_bytes, bytes_of}
 use Rattle.sb_trace.specs.PageWords.{zeros}
 use Rattle.sb_trace.specs.SyscallProtect.{with_mode}
 use Rattle.sb_plain.specs.declared.pages.Known.{Known}
@@ -40,7 +40,8 @@ place_below [] name place is = cc
 place_below (page ∷ pages) name place is =
     below_by (same_name page.name name) (place_of pages name) (length pages) place (λ next. place_below pages name next) is
 
-within_by : (pages : List Page) (name : PageName) (found : Option ℕ) → place_of pages name ≡ found → IfSome found (λ place. place < length pages)
+within_by : (pages : List Page) (name : PageName) (found : Option ℕ) → place_of pages name ≡ found
+    → IfSome found (λ place. place < length pages)
 within_by pages name None is = tt
 within_by pages name (Some place) is = place_below pages name place is
 
@@ -76,7 +77,8 @@ found_none (page ∷ pages) name is =
 
 -- ---- a page is added
 
-suc_if : (same : Bool) (count : ℕ) → option_map suc (if same then Some count else None) ≡ (if same then Some (suc count) else None)
+suc_if : (same : Bool) (count : ℕ)
+    → option_map suc (if same then Some count else None) ≡ (if same then Some (suc count) else None)
 suc_if true count = refl
 suc_if false count = refl
 
@@ -89,10 +91,12 @@ pushed_by false same count (Some place) behind more = rw more refl
 
 -- the new page is behind the others
 pub place_pushed : (pages : List Page) (new : Page) (name : PageName)
-    → place_of (pages ++ new ∷ []) name ≡ either (place_of pages name) (if same_name new.name name then Some (length pages) else None)
+    → place_of (pages ++ new ∷ []) name
+    ≡ either (place_of pages name) (if same_name new.name name then Some (length pages) else None)
 place_pushed [] new name = refl
 place_pushed (page ∷ pages) new name =
-    pushed_by (same_name page.name name) (same_name new.name name) (length pages) (place_of pages name) (place_of (pages ++ new ∷ []) name)
+    pushed_by (same_name page.name name) (same_name new.name name) (length pages) (place_of pages name)
+    (place_of (pages ++ new ∷ []) name)
     (place_pushed pages new name)
 
 -- the index after the place of the new page is noted
@@ -122,14 +126,16 @@ there_by index name other place true is there =
 there_by index name other place false is there = either_none (index other)
 
 -- a name that has a place keeps it
-pub noted_there : (index : PageName → Option ℕ) (name : PageName) (place : ℕ) → is_some (index name) ≡ true → IsNoted index index name place
+pub noted_there : (index : PageName → Option ℕ) (name : PageName) (place : ℕ) → is_some (index name) ≡ true
+    → IsNoted index index name place
 noted_there index name place there = λ other. there_by index name other place (same_name name other) refl there
 
 none_there : (found : Option ℕ) → is_some found ≡ false → found ≡ None
 none_there None missing = refl
 none_there (Some place) missing = cc
 
-put_by : (index : PageName → Option ℕ) (name other : PageName) (place : ℕ) (same : Bool) → same_name name other ≡ same → index name ≡ None
+put_by : (index : PageName → Option ℕ) (name other : PageName) (place : ℕ) (same : Bool) → same_name name other ≡ same
+    → index name ≡ None
     → (if same then Some place else index other) ≡ either (index other) (if same then Some place else None)
 put_by index name other place true is none =
     let missing : index other ≡ None = ap index (sym (name_same name other is)) ∙ none in rw missing refl
@@ -139,7 +145,8 @@ put_by index name other place false is none = either_none (index other)
 pub noted_put : (index now : PageName → Option ℕ) (name : PageName) (place : ℕ) → is_some (index name) ≡ false
     → ((other : PageName) → now other ≡ cond (equal_names name other) (Some place) (index other)) → IsNoted index now name place
 noted_put index now name place none put = λ other.
-    put other ∙ rw (equal_same name other) (put_by index name other place (same_name name other) refl (none_there (index name) none))
+    put other
+    ∙ rw (equal_same name other) (put_by index name other place (same_name name other) refl (none_there (index name) none))
 
 -- ---- a page is changed
 
@@ -149,28 +156,36 @@ unchanged_by : (test : Bool) (pages rest : List Page) (page new : Page) (behind 
 unchanged_by true pages rest page new behind more none = cc
 unchanged_by false pages rest page new behind more none = ap (λ (others : List Page). page ∷ others) (more none)
 
-changed_none : (change : Page → Page) (pages : List Page) (name : PageName) → find_page pages name ≡ None → changed change pages name ≡ pages
+changed_none : (change : Page → Page) (pages : List Page) (name : PageName) → find_page pages name ≡ None
+    → changed change pages name ≡ pages
 changed_none change [] name none = refl
 changed_none change (page ∷ pages) name none =
-    unchanged_by (same_name page.name name) pages (changed change pages name) page (change page) (find_page pages name) (changed_none change pages name) none
+    unchanged_by (same_name page.name name) pages (changed change pages name) page (change page) (find_page pages name)
+    (changed_none change pages name) none
 
-pub replaced_none : (pages : List Page) (name : PageName) (bytes : List ℕ) → find_page pages name ≡ None → replaced pages name bytes ≡ pages
+pub replaced_none : (pages : List Page) (name : PageName) (bytes : List ℕ) → find_page pages name ≡ None
+    → with_page_bytes pages name bytes ≡ pages
 replaced_none pages name bytes none = replaced_changes pages name bytes ∙ changed_none (with_bytes bytes) pages name none
 
-pub with_mode_none : (pages : List Page) (name : PageName) (executable : Bool) → find_page pages name ≡ None → with_mode pages name executable ≡ pages
-with_mode_none pages name executable none = mode_changes pages name executable ∙ changed_none (with_executable executable) pages name none
+pub with_mode_none : (pages : List Page) (name : PageName) (executable : Bool) → find_page pages name ≡ None
+    → with_mode pages name executable ≡ pages
+with_mode_none pages name executable none =
+    mode_changes pages name executable ∙ changed_none (with_executable executable) pages name none
 
 -- the page at the place of its name is changed
 set_by : (test : Bool) (change : Page → Page) (pages rest : List Page) (first default : Page) (found : Option ℕ) (place : ℕ)
     → ((next : ℕ) → found ≡ Some next → slice_set pages next (change (slice_index_or pages next default)) ≡ rest)
     → (if test then Some 0 else option_map suc found) ≡ Some place
-    → slice_set (first ∷ pages) place (change (slice_index_or (first ∷ pages) place default)) ≡ (if test then change first ∷ pages else first ∷ rest)
+    → slice_set (first ∷ pages) place (change (slice_index_or (first ∷ pages) place default))
+    ≡ (if test then change first ∷ pages else first ∷ rest)
 set_by true change pages rest first default found zero more is = refl
 set_by true change pages rest first default found (suc place) more is = cc
 set_by false change pages rest first default found zero more is = absurd (never_first found is)
-set_by false change pages rest first default found (suc place) more is = ap (λ (others : List Page). first ∷ others) (more place (later found place is))
+set_by false change pages rest first default found (suc place) more is =
+    ap (λ (others : List Page). first ∷ others) (more place (later found place is))
 
-changed_at : (change : Page → Page) (pages : List Page) (name : PageName) (place : ℕ) (default : Page) → place_of pages name ≡ Some place
+changed_at : (change : Page → Page) (pages : List Page) (name : PageName) (place : ℕ) (default : Page)
+    → place_of pages name ≡ Some place
     → slice_set pages place (change (slice_index_or pages place default)) ≡ changed change pages name
 changed_at change [] name place default is = cc
 changed_at change (first ∷ pages) name place default is =
@@ -180,19 +195,20 @@ changed_at change (first ∷ pages) name place default is =
 -- the bytes of a page are changed
 pub bytes_changed : (change : List ℕ → List ℕ) (pages : List Page) (name : PageName) (place : ℕ) (page : Page)
     → place_of pages name ≡ Some place → page ≡ slice_index_or pages place page
-    → slice_set pages place (record page { bytes = change page.bytes }) ≡ replaced pages name (change (bytes_of (find_page pages name)))
+    → slice_set pages place (record page { bytes = change page.bytes })
+    ≡ with_page_bytes pages name (change (bytes_of (find_page pages name)))
 bytes_changed change pages name place page is at =
     let found : find_page pages name ≡ Some page = found_at pages name place page is ∙ ap (λ (one : Page). Some one) (sym at) in
     let bytes : bytes_of (find_page pages name) ≡ page.bytes = ap bytes_of found in
     ap (λ (one : Page). slice_set pages place (with_bytes (change page.bytes) one)) at
     ∙ changed_at (with_bytes (change page.bytes)) pages name place page is
     ∙ sym (replaced_changes pages name (change page.bytes))
-    ∙ ap (λ (list : List ℕ). replaced pages name (change list)) (sym bytes)
+    ∙ ap (λ (list : List ℕ). with_page_bytes pages name (change list)) (sym bytes)
 
 -- past the end of the page no byte is put
 pub put_past : (pages : List Page) (name : PageName) (place offset value : ℕ) (page : Page)
     → place_of pages name ≡ Some place → page ≡ slice_index_or pages place page → length page.bytes ≤ offset
-    → slice_set pages place page ≡ replaced pages name (slice_set (bytes_of (find_page pages name)) offset value)
+    → slice_set pages place page ≡ with_page_bytes pages name (slice_set (bytes_of (find_page pages name)) offset value)
 put_past pages name place offset value page is at past =
     ap (λ (list : List ℕ). slice_set pages place (with_bytes list page)) (sym (set_past page.bytes offset value past))
     ∙ bytes_changed (λ bytes. slice_set bytes offset value) pages name place page is at
@@ -207,24 +223,30 @@ mode_changed pages name place executable page is at =
     ∙ sym (mode_changes pages name executable)
 
 -- a page of the same name in the place of another: each name keeps its place
-pub place_set : (pages : List Page) (place : ℕ) (page new : Page) (name : PageName) → page ≡ slice_index_or pages place page → new.name ≡ page.name
+pub place_set : (pages : List Page) (place : ℕ) (page new : Page) (name : PageName) → page ≡ slice_index_or pages place page
+    → new.name ≡ page.name
     → place_of (slice_set pages place new) name ≡ place_of pages name
 place_set [] place page new name at same = refl
 place_set (first ∷ pages) zero page new name at same =
-    ap (λ (one : PageName). if same_name one name then Some 0 else option_map suc (place_of pages name)) (same ∙ ap (λ (one : Page). one.name) at)
+    ap (λ (one : PageName). if same_name one name then Some 0 else option_map suc (place_of pages name)) (same
+    ∙ ap (λ (one : Page). one.name) at)
 place_set (first ∷ pages) (suc place) page new name at same =
-    ap (λ (found : Option ℕ). if same_name first.name name then Some 0 else option_map suc found) (place_set pages place page new name at same)
+    ap (λ (found : Option ℕ). if same_name first.name name then Some 0 else option_map suc found)
+    (place_set pages place page new name at same)
 
 -- ---- what pages keep beside their list
 
-pub whole_at : (pages : List Page) (place : ℕ) (page : Page) → AreWhole pages → place < length pages → page ≡ slice_index_or pages place page
+pub whole_at : (pages : List Page) (place : ℕ) (page : Page) → AreWhole pages → place < length pages
+    → page ≡ slice_index_or pages place page
     → length page.bytes ≡ 4096
 whole_at pages place page whole within at = ap (λ (one : Page). length one.bytes) at ∙ whole place page within
 
 -- an index that has the same places is an index too
-pub index_same : (index now : PageName → Option ℕ) (pages same : List Page) → IsIndex index pages → ((name : PageName) → now name ≡ index name)
+pub index_same : (index now : PageName → Option ℕ) (pages same : List Page) → IsIndex index pages
+    → ((name : PageName) → now name ≡ index name)
     → same ≡ pages → IsIndex now same
-index_same index now pages same old places is = λ name. places name ∙ old name ∙ ap (λ (list : List Page). place_of list name) (sym is)
+index_same index now pages same old places is =
+    λ name. places name ∙ old name ∙ ap (λ (list : List Page). place_of list name) (sym is)
 
 -- a name that is known stays so where each name keeps its place
 pub known_same : (pages now : List Page) (one : Option Known) → ((name : PageName) → place_of now name ≡ place_of pages name)
@@ -233,8 +255,11 @@ known_same pages now None same known = tt
 known_same pages now (Some one) same known = same one.name ∙ known
 
 -- a page of the same name in the place of another
-pub sound_set : (index : PageName → Option ℕ) (pages : List Page) (blanks : List (List ℕ)) (capacity spare place : ℕ) (names : List (Option Known)) (page new : Page)
-    → IsSound index pages blanks capacity spare names → place < length pages → page ≡ slice_index_or pages place page → new.name ≡ page.name
+pub sound_set : (index : PageName
+    → Option ℕ) (pages : List Page) (blanks : List (List ℕ)) (capacity spare place : ℕ) (names : List (Option Known))
+    (page new : Page)
+    → IsSound index pages blanks capacity spare names → place < length pages → page ≡ slice_index_or pages place page
+    → new.name ≡ page.name
     → length new.bytes ≡ length page.bytes → IsSound index (slice_set pages place new) blanks capacity spare names
 sound_set index pages blanks capacity spare place names page new sound within at name size = record {
   places = λ other. sound.places other ∙ sym (place_set pages place page new other at name);
@@ -242,7 +267,8 @@ sound_set index pages blanks capacity spare place names page new sound within at
   blank = sound.blank;
   room = rw length-set sound.room;
   room_in_index = sound.room_in_index;
-  known = λ k d below. known_same pages (slice_set pages place new) (slice_index_or names k d) (λ other. place_set pages place page new other at name) (sound.known k d below);
+  known = λ k d below. known_same pages (slice_set pages place new) (slice_index_or names k d)
+      (λ other. place_set pages place page new other at name) (sound.known k d below);
 }
 
 -- the bytes of a blank page that was taken
@@ -254,10 +280,14 @@ unfolding zeros
 length_zeros = length-replicate {A = ℕ} 4096 0
 
 -- a page more, for which a blank one was taken
-pub sound_added : (index now : PageName → Option ℕ) (pages grown : List Page) (blanks fewer : List (List ℕ)) (bytes : List ℕ) (capacity spare left : ℕ) (names others : List (Option Known)) (page : Page)
-    → IsSound index pages blanks capacity spare names → blanks ≡ fewer ++ bytes ∷ [] → grown ≡ pages ++ page ∷ [] → length page.bytes ≡ 4096
+pub sound_added : (index now : PageName
+    → Option ℕ) (pages grown : List Page) (blanks fewer : List (List ℕ)) (bytes : List ℕ) (capacity spare left : ℕ)
+    (names others : List (Option Known)) (page : Page)
+    → IsSound index pages blanks capacity spare names → blanks ≡ fewer ++ bytes ∷ [] → grown ≡ pages ++ page ∷ []
+    → length page.bytes ≡ 4096
     → IsIndex now grown → AreKnown grown others → spare ≤ left + 1 → IsSound now grown fewer capacity left others
-sound_added index now pages grown blanks fewer bytes capacity spare left names others page sound taken more size places known kept =
+sound_added index now pages grown blanks fewer bytes capacity spare left names others page sound taken more size places known
+    kept =
     let fewer_by_one : length blanks ≡ length fewer + 1 = ap length taken ∙ length-append fewer (bytes ∷ []) in
     let one_more : length grown ≡ length pages + 1 = ap length more ∙ length-append pages (page ∷ []) in
     let room = sound.room in

@@ -9,7 +9,7 @@ use Rattle.sb_state.specs.declared.page.Page.{Page}
 use Rattle.sb_state.specs.declared.page.Seen.{Seen}
 use Rattle.sb_trace.specs.PageName.{permits}
 use Rattle.sb_trace.specs.State.{State, find_page, contents}
-use Rattle.sb_trace.specs.Windows.{page_seen}
+use Rattle.sb_trace.specs.Windows.{page_for}
 use Rattle.sb_trace.specs.PlainMemory.{plain_byte, byte_seen, byte_in, is_canonical}
 use Rattle.sb_plain.specs.Reach.{reached, reached_as}
 
@@ -17,7 +17,8 @@ abbrev pub byte_of : State → ℕ → PageName → Result ℕ BusStop
 byte_of state address name = Ok (byte_in state name (address % 4096))
 
 permitted_by : (test : Bool) (state : State) (name : PageName) (stop : BusStop) (address : ℕ)
-    → (if test then Ok (byte_in state name (address % 4096)) else Err stop) ≡ and_then (if test then Ok name else Err stop) (byte_of state address)
+    → (if test then Ok (byte_in state name (address % 4096)) else Err stop)
+    ≡ and_then (if test then Ok name else Err stop) (byte_of state address)
 permitted_by true state name stop address = refl
 permitted_by false state name stop address = refl
 
@@ -37,7 +38,7 @@ pub byte_by_reach : (thread view : ℕ) (state : State) (address : ℕ) (how : A
     → plain_byte thread view state address how ≡ and_then (reached thread view state address how) (byte_of state address)
 unfolding plain_byte reached
 byte_by_reach thread view state address how =
-    canonical_by (is_canonical address) state (page_seen state thread view (address / 4096)) _ address how
+    canonical_by (is_canonical address) state (page_for state thread view (address / 4096)) _ address how
 
 pub byte_reached : (thread view : ℕ) (state : State) (address : ℕ) (how : Access) (name : PageName) (page : Page)
     → reached thread view state address how ≡ Ok name → find_page state.pages name ≡ Some page

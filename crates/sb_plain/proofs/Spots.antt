@@ -9,8 +9,8 @@ use Rattle.sb_state.specs.declared.page.PageName.{PageName}
 use Rattle.sb_state.specs.declared.page.Seen.{Seen}
 use Rattle.sb_trace.specs.PageName.{permits}
 use Rattle.sb_trace.specs.State.{State}
-use Rattle.sb_trace.specs.Windows.{page_seen}
-use Rattle.sb_trace.specs.PlainMemory.{Placed, plain_byte, byte_in, placed, placed_at, put_all, plain_stored, is_canonical}
+use Rattle.sb_trace.specs.Windows.{page_for}
+use Rattle.sb_trace.specs.PlainMemory.{Placed, plain_byte, byte_in, bytes_to_put, placed_at, put_all, plain_stored, is_canonical}
 use Rattle.sb_plain.specs.declared.store.Spot.{Spot}
 use Rattle.sb_plain.specs.Reach.{reached, reached_as}
 use Rattle.sb_plain.specs.Spots.{spot, spot_at, placed_in}
@@ -31,29 +31,37 @@ spots_stop place address zero stop some is = absurd (omega arith)
 spots_stop place address (suc count) stop some is = rw is refl
 
 -- a later one stops
-pub spots_stop_later : (place : ℕ → Result Spot BusStop) (address size count : ℕ) (lowest : Spot) (stop : BusStop) → size ≡ count + 1
-    → place address ≡ Ok lowest → bytes_from place ((address + 1) % 2 ^ 64) count ≡ Err stop → bytes_from place address size ≡ Err stop
+pub spots_stop_later : (place : ℕ → Result Spot BusStop) (address size count : ℕ) (lowest : Spot) (stop : BusStop)
+    → size ≡ count + 1
+    → place address ≡ Ok lowest → bytes_from place ((address + 1) % 2 ^ 64) count ≡ Err stop
+    → bytes_from place address size ≡ Err stop
 unfolding bytes_from
 spots_stop_later place address zero count lowest stop long is later = absurd (omega arith)
-spots_stop_later place address (suc rest) count lowest stop long is later = let same : rest ≡ count = omega arith in rw (is, same, later) refl
+spots_stop_later place address (suc rest) count lowest stop long is later = let same : rest ≡ count = omega arith in
+    rw (is, same, later) refl
 
 -- all are there
-pub spots_more : (place : ℕ → Result Spot BusStop) (address size count : ℕ) (lowest : Spot) (others : List Spot) → size ≡ count + 1
-    → place address ≡ Ok lowest → bytes_from place ((address + 1) % 2 ^ 64) count ≡ Ok others → bytes_from place address size ≡ Ok (lowest ∷ others)
+pub spots_more : (place : ℕ → Result Spot BusStop) (address size count : ℕ) (lowest : Spot) (others : List Spot)
+    → size ≡ count + 1
+    → place address ≡ Ok lowest → bytes_from place ((address + 1) % 2 ^ 64) count ≡ Ok others
+    → bytes_from place address size ≡ Ok (lowest ∷ others)
 unfolding bytes_from
 spots_more place address zero count lowest others long is later = absurd (omega arith)
-spots_more place address (suc rest) count lowest others long is later = let same : rest ≡ count = omega arith in rw (is, same, later) refl
+spots_more place address (suc rest) count lowest others long is later = let same : rest ≡ count = omega arith in
+    rw (is, same, later) refl
 
 -- ---- the answer of a store
 
-done_later : (lowest : ℕ) (place : Spot) (bytes : Result (List ℕ) BusStop) (spots : Result (List Spot) BusStop) → done bytes ≡ done spots
+done_later : (lowest : ℕ) (place : Spot) (bytes : Result (List ℕ) BusStop) (spots : Result (List Spot) BusStop)
+    → done bytes ≡ done spots
     → done (and_then bytes (λ list. Ok (lowest ∷ list))) ≡ done (and_then spots (λ list. Ok (place ∷ list)))
 done_later lowest place (Ok bytes) (Ok spots) same = refl
 done_later lowest place (Ok bytes) (Err stop) same = same
 done_later lowest place (Err stop) (Ok spots) same = same
 done_later lowest place (Err stop) (Err other) same = same
 
-done_by : (state : State) (address : ℕ) (name : Result PageName BusStop) (bytes : Result (List ℕ) BusStop) (spots : Result (List Spot) BusStop)
+done_by : (state : State) (address : ℕ) (name : Result PageName BusStop) (bytes : Result (List ℕ) BusStop)
+    (spots : Result (List Spot) BusStop)
     → done bytes ≡ done spots
     → done (and_then (and_then name (byte_of state address)) (λ lowest. and_then bytes (λ list. Ok (lowest ∷ list))))
     ≡ done (and_then (and_then name (spot address)) (λ lowest. and_then spots (λ list. Ok (lowest ∷ list))))
@@ -63,11 +71,14 @@ done_by state address (Err stop) bytes spots same = refl
 
 -- each byte may be written where it has a place
 pub store_answered : (thread view : ℕ) (state : State) (address size : ℕ)
-    → store_answer (byte_for (plain_byte thread view state) Write) address size ≡ done (bytes_from (spot_at thread view state) address size)
+    → store_answer (byte_for (plain_byte thread view state) Write) address size
+    ≡ done (bytes_from (spot_at thread view state) address size)
 unfolding store_answer bytes_from spot_at
 store_answered thread view state address zero = refl
 store_answered thread view state address (suc count) =
-    rw byte_by_reach (done_by state address (reached thread view state address Write) _ _ (store_answered thread view state ((address + 1) % 2 ^ 64) count))
+    rw byte_by_reach
+    (done_by state address (reached thread view state address Write) _ _
+    (store_answered thread view state ((address + 1) % 2 ^ 64) count))
 
 -- ---- the bytes that are placed
 
@@ -96,10 +107,10 @@ canonical_by false seen address value stop place others is = cc
 
 pub placed_first : (thread view : ℕ) (state : State) (address value : ℕ) (place : Spot) (others : List Placed)
     → spot_at thread view state address ≡ Ok place
-    → placed_at (page_seen state thread view (address / 4096)) address value others ≡ placed_spot place value ∷ others
+    → placed_at (page_for state thread view (address / 4096)) address value others ≡ placed_spot place value ∷ others
 unfolding spot_at reached
 placed_first thread view state address value place others is =
-    canonical_by (is_canonical address) (page_seen state thread view (address / 4096)) address value _ place others is
+    canonical_by (is_canonical address) (page_for state thread view (address / 4096)) address value _ place others is
 
 -- a list of places begins with that of the lowest byte
 pub record Split (first : Result Spot BusStop) (rest : Result (List Spot) BusStop) (spots : List Spot) : Type 0 where
@@ -117,12 +128,15 @@ split (Err stop) rest spots is = cc
 
 -- the bytes at these places are those that a store places
 pub spots_placed : (thread view : ℕ) (state : State) (size address value : ℕ) (spots : List Spot)
-    → bytes_from (spot_at thread view state) address size ≡ Ok spots → placed_in spots value ≡ placed state thread view address size value
-unfolding bytes_from placed
+    → bytes_from (spot_at thread view state) address size ≡ Ok spots
+    → placed_in spots value ≡ bytes_to_put state thread view address size value
+unfolding bytes_from bytes_to_put
 spots_placed thread view state zero address value spots is =
     let none : [] ≡ spots = cc in ap (λ (list : List Spot). placed_in list value) (sym none)
 spots_placed thread view state (suc count) address value spots is =
-    let parts = split (spot_at thread view state address) (bytes_from (spot_at thread view state) ((address + 1) % 2 ^ 64) count) spots is in
+    let parts =
+    split (spot_at thread view state address)
+    (bytes_from (spot_at thread view state) ((address + 1) % 2 ^ 64) count) spots is in
     let later = spots_placed thread view state count ((address + 1) % 2 ^ 64) (value / 256) parts.others parts.rest_is in
     ap (λ (list : List Spot). placed_in list value) (sym parts.both)
     ∙ ap (λ (others : List Placed). placed_spot parts.lowest (value % 256) ∷ others) later

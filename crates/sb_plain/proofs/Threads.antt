@@ -6,7 +6,7 @@ use Rattle.sb_exec.specs.Execution.{execution_of}
 use Rattle.sb_exec.proofs.Keeps.{execution_keeps}
 use Rattle.sb_state.specs.declared.page.PageName.{PageName}
 use Rattle.sb_trace.specs.State.{State, with_contents}
-use Rattle.sb_trace.specs.PlainMemory.{Placed, placed, put_byte, put_all, plain_stored, plain}
+use Rattle.sb_trace.specs.PlainMemory.{Placed, bytes_to_put, put_byte, put_all, plain_stored, plain}
 
 put_threads : (state : State) (name : PageName) (offset value : ℕ) → (put_byte state name offset value).threads ≡ state.threads
 unfolding put_byte with_contents
@@ -17,9 +17,10 @@ all_threads state [] = refl
 all_threads state (byte ∷ others) =
     all_threads (put_byte state byte.name byte.offset byte.value) others ∙ put_threads state byte.name byte.offset byte.value
 
-stored_threads : (thread view : ℕ) (state : State) (address size value : ℕ) → (plain_stored thread view state address size value).threads ≡ state.threads
+stored_threads : (thread view : ℕ) (state : State) (address size value : ℕ)
+    → (plain_stored thread view state address size value).threads ≡ state.threads
 unfolding plain_stored
-stored_threads thread view state address size value = all_threads state (placed state thread view address size value)
+stored_threads thread view state address size value = all_threads state (bytes_to_put state thread view address size value)
 
 pub execution_threads : (thread view : ℕ) (row : Row) (regs : Regs) (state : State)
     → (execution_of (plain thread view) row regs state tt).meaning.threads ≡ state.threads

@@ -7,7 +7,8 @@ use Rattle.sb_trace.specs.PageWords.{words_put}
 
 -- one more byte
 pub sets_more : (bytes word : List ℕ) (place index : ℕ) → index < length word
-    → sets (set bytes (place + index) (get_or word index 0)) (place + (index + 1)) (drop (index + 1) word) ≡ sets bytes (place + index) (drop index word)
+    → sets (set bytes (place + index) (get_or word index 0)) (place + (index + 1)) (drop (index + 1) word)
+    ≡ sets bytes (place + index) (drop index word)
 sets_more bytes word place index within =
     let next : place + (index + 1) ≡ suc (place + index) = omega arith in
     rw (next, drop_more word index 0 within) refl

@@ -10,7 +10,7 @@ use Rattle.sb_state.specs.declared.page.Seen.{Seen}
 use Rattle.sb_state.specs.declared.page.Mode.{Mode}
 use Rattle.sb_state.specs.declared.page.Mode.TheVariants as mode
 use Rattle.sb_trace.specs.State.{State}
-use Rattle.sb_trace.specs.Windows.{page_seen}
+use Rattle.sb_trace.specs.Windows.{page_for}
 use Rattle.sb_trace.specs.PlainMemory.{plain_byte, byte_seen, is_canonical}
 
 -- the page with this name in this mode
@@ -30,7 +30,8 @@ seen_by state None address = refl
 seen_by state (Some page) address = mode_by state page.name page.mode address
 
 canonical_by : (test : Bool) (state : State) (seen : Option Seen) (stop : BusStop) (address : ℕ)
-    → and_then (if test then byte_seen state seen address Write else Err stop) (λ _. if test then byte_seen state seen address Read else Err stop)
+    → and_then (if test then byte_seen state seen address Write else Err stop)
+    (λ _. if test then byte_seen state seen address Read else Err stop)
     ≡ (if test then byte_seen state seen address Write else Err stop)
 canonical_by true state seen stop address = seen_by state seen address
 canonical_by false state seen stop address = refl
@@ -38,11 +39,14 @@ canonical_by false state seen stop address = refl
 same_byte : (thread view : ℕ) (state : State) (address : ℕ)
     → byte_for_write (plain_byte thread view state) address ≡ byte_for (plain_byte thread view state) Write address
 unfolding plain_byte
-same_byte thread view state address = canonical_by (is_canonical address) state (page_seen state thread view (address / 4096)) _ address
+same_byte thread view state address =
+    canonical_by (is_canonical address) state (page_for state thread view (address / 4096)) _ address
 
 -- a number that is to be written is the one that is read
 pub loaded_for_write : (thread view : ℕ) (state : State) (address size : ℕ)
-    → loaded_from (byte_for_write (plain_byte thread view state)) address size ≡ loaded_from (byte_for (plain_byte thread view state) Write) address size
+    → loaded_from (byte_for_write (plain_byte thread view state)) address size
+    ≡ loaded_from (byte_for (plain_byte thread view state) Write) address size
 loaded_for_write thread view state address size =
-    let same : byte_for_write (plain_byte thread view state) ≡ byte_for (plain_byte thread view state) Write = λ i at. same_byte thread view state at i in
+    let same : byte_for_write (plain_byte thread view state) ≡ byte_for (plain_byte thread view state) Write =
+    λ i at. same_byte thread view state at i in
     ap (λ (byte : ℕ → Result ℕ BusStop). loaded_from byte address size) same

@@ -12,7 +12,8 @@ IsDeclined _ = ⊥
 
 -- the registers are as before, but for RIP, RAX, RCX, RDX and R11
 pub record KeepsOthers (before after : Regs) : Type 0 where
-  pub general : (register : ℕ) → register ≢ 0 → register ≢ 1 → register ≢ 2 → register ≢ 11 → slice_index after.general register ≡ slice_index before.general register
+  pub general : (register : ℕ) → register ≢ 0 → register ≢ 1 → register ≢ 2 → register ≢ 11
+      → slice_index after.general register ≡ slice_index before.general register
   pub flags : after.flags ≡ before.flags
 
 -- nothing has changed but registers of this thread, which had these

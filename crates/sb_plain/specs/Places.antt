@@ -70,7 +70,8 @@ Remembers old new name place = (pages : List Page) → place ≡ place_of pages 
 
 -- What pages keep beside their list: the place of each name, and room for a page for each blank one, in the list and in the
 -- index.
-pub record IsSound (index : PageName → Option ℕ) (pages : List Page) (blanks : List (List ℕ)) (capacity spare : ℕ) (names : List (Option Known))
+pub record IsSound (index : PageName
+    → Option ℕ) (pages : List Page) (blanks : List (List ℕ)) (capacity spare : ℕ) (names : List (Option Known))
     : Type 0 where
   pub places : IsIndex index pages
   pub whole : AreWhole pages

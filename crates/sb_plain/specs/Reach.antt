@@ -9,7 +9,7 @@ use Rattle.sb_state.specs.declared.page.Page.{Page}
 use Rattle.sb_state.specs.declared.page.Seen.{Seen}
 use Rattle.sb_trace.specs.PageName.{permits}
 use Rattle.sb_trace.specs.State.{State}
-use Rattle.sb_trace.specs.Windows.{page_seen}
+use Rattle.sb_trace.specs.Windows.{page_for}
 use Rattle.sb_trace.specs.PlainMemory.{is_canonical, fault_at}
 
 abbrev pub reached_as : Option Seen → ℕ → Access → Result PageName BusStop
@@ -19,7 +19,7 @@ reached_as (Some page) address how = if permits page.mode how then Ok page.name 
 -- the page that an access in a view of a thread reaches, or why it reaches none
 unfoldable pub reached : ℕ → ℕ → State → ℕ → Access → Result PageName BusStop
 reached thread view state address how =
-    if is_canonical address then reached_as (page_seen state thread view (address / 4096)) address how
+    if is_canonical address then reached_as (page_for state thread view (address / 4096)) address how
     else Err (fault_at Canon address)
 
 -- the name of a page that is reached

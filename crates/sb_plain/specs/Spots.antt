@@ -20,4 +20,5 @@ spot_at thread view state address = and_then (reached thread view state address 
 -- the bytes of a number at these places, the lowest first
 abbrev pub placed_in : List Spot → ℕ → List Placed
 placed_in [] value = []
-placed_in (spot ∷ spots) value = record { name = spot.name; offset = spot.offset; value = value % 256 } ∷ placed_in spots (value / 256)
+placed_in (spot ∷ spots) value =
+    record { name = spot.name; offset = spot.offset; value = value % 256 } ∷ placed_in spots (value / 256)

@@ -14,7 +14,8 @@ use Rattle.sb_plain.specs.declared.start.pages.Part.TheVariants as part
 
 -- the image of a process: what its text becomes stands in place of the text
 abbrev pub image_of : Image → Output → ProcessImage
-image_of image made = record { text = made.text; area = made.area; starts = made.starts; initial = image.initial; heap_pages = image.heap_pages }
+image_of image made =
+    record { text = made.text; area = made.area; starts = made.starts; initial = image.initial; heap_pages = image.heap_pages }
 
 abbrev pub images_of : List Image → List Output → List ProcessImage
 images_of [] rewritten = []
@@ -44,4 +45,5 @@ entry_of core = record { home = core.process; address = core.entry }
 -- the state that a loaded bundle starts: the frames that loading does not need are free
 abbrev pub first_state : Load → State
 first_state load =
-    start_state (images_loaded load) (map entry_of load.bundle.cores) (have_of load.bundle - need_of load.bundle load.rewritten) load.bundle.keys
+    start_state (images_loaded load) (map entry_of load.bundle.cores)
+    (have_of load.bundle - need_of load.bundle load.rewritten) load.bundle.keys

@@ -6,7 +6,7 @@ ghost use Rattle.std.specs.Prelude.{◌≡◌, ◌<◌, ◌≤◌, ◌^◌, leng
 ghost use Rattle.sb_trace.specs.declared.event.Event.TheVariants.{Entered};
 ghost use Rattle.sb_abi.specs.Numbers.{status_number};
 ghost use Rattle.sb_trace.specs.State.{thread_at};
-ghost use Rattle.sb_trace.specs.KernelCall.{binding_in as binding_by_index, pool_word as pool_word_of, refused_regs as regs_refused, refused, not_switched, returned_home, entered_regs as regs_entered, lowest_bit as lowest_bit_of, entered, taken, called_through, kernel_call as kernel_call_of};
+ghost use Rattle.sb_trace.specs.KernelCall.{binding_in, pool_word, refusal_regs, refusal_outcome, refusal_or_fault, return_outcome, entry_regs, lowest_bit, state_at_handler, entry_outcome, call_outcome, kernel_call};
 
 use crate::home::fault;
 use crate::pool::{handler_of, pool_word, set_pool_word};
@@ -20,7 +20,7 @@ use sb_trace::{Binding, Event};
 
 /// The binding with this index.
 pub fn binding_in(bindings: &[Binding], index: u32) -> Option<Binding>
-    ensures { result ≡ binding_by_index bindings.now index }
+    ensures { result ≡ binding_in bindings.now index }
 {
     let (first, others) = bindings.split_first()?;
     if u32::from(first.index) == index {
@@ -32,9 +32,9 @@ pub fn binding_in(bindings: &[Binding], index: u32) -> Option<Binding>
 
 // ---- refusals and ways home
 
-#[tactic(auto, unfolding(sb_trace::specs::KernelCall::refused_regs))]
+#[tactic(auto, unfolding(sb_trace::specs::KernelCall::refusal_regs))]
 fn refused_regs(regs: &Regs, status: CallStatus) -> Regs
-    ensures { result ≡ regs_refused regs.now (status_number status) }
+    ensures { result ≡ refusal_regs regs.now (status_number status) }
 {
     let mut general = regs.general;
     general[R9] = status.number();
@@ -51,7 +51,7 @@ fn refused_regs(regs: &Regs, status: CallStatus) -> Regs
 // A refused call, with its line: the thread is in its home view.
 fn refuse(state: &mut Plain, core: u8, line: Event, status: CallStatus) -> Event
     requires { core < length state.old.threads }
-    ensures refused { (result, state.new) ≡ refused state.old core (thread_at state.old core) line (status_number status) }
+    ensures refused { (result, state.new) ≡ refusal_outcome state.old core (thread_at state.old core) line (status_number status) }
     ensures count { length state.new.threads ≡ length state.old.threads }
 {
     let regs = refused_regs(&state.thread(core).regs, status);
@@ -62,7 +62,7 @@ fn refuse(state: &mut Plain, core: u8, line: Event, status: CallStatus) -> Event
 // No view is switched: in a server's view that is a fault at the VMFUNC.
 fn stay(state: &mut Plain, core: u8, line: Event, status: CallStatus) -> Event
     requires { core < length state.old.threads }
-    ensures stayed { (result, state.new) ≡ not_switched state.old core (thread_at state.old core) line (status_number status) }
+    ensures stayed { (result, state.new) ≡ refusal_or_fault state.old core (thread_at state.old core) line (status_number status) }
     ensures count { length state.new.threads ≡ length state.old.threads }
 {
     let thread = state.thread(core);
@@ -77,7 +77,7 @@ fn stay(state: &mut Plain, core: u8, line: Event, status: CallStatus) -> Event
 // Index 0 leads home.
 fn return_home(state: &mut Plain, core: u8) -> Event
     requires { core < length state.old.threads }
-    ensures returned { (result, state.new) ≡ returned_home state.old core (thread_at state.old core) }
+    ensures returned { (result, state.new) ≡ return_outcome state.old core (thread_at state.old core) }
     ensures count { length state.new.threads ≡ length state.old.threads }
 {
     let thread = state.thread(core);
@@ -96,10 +96,10 @@ fn return_home(state: &mut Plain, core: u8) -> Event
 
 // ---- entry
 
-#[tactic(auto, unfolding(sb_trace::specs::KernelCall::entered_regs))]
+#[tactic(auto, unfolding(sb_trace::specs::KernelCall::entry_regs))]
 fn entered_regs(regs: &Regs, stack: u32, handler: u64) -> Regs
     requires { stack < 64 }
-    ensures { result ≡ regs_entered regs.now stack handler }
+    ensures { result ≡ entry_regs regs.now stack handler }
 {
     let mut general = regs.general;
     general[RSP] = FIRST_STACK_TOP + u64::from(stack) * STACK_DISTANCE;
@@ -117,7 +117,7 @@ fn entered_regs(regs: &Regs, stack: u32, handler: u64) -> Regs
 #[tactic(auto, using(crate::proofs::Bits::lowest_value))]
 fn lowest_bit(word: u64) -> u32
     requires { 0 < word }
-    ensures bit { result ≡ lowest_bit_of word }
+    ensures bit { result ≡ lowest_bit word }
     ensures range { result < 64 }
     ensures value { 2 ^ result ≤ word }
 {
@@ -128,8 +128,8 @@ fn lowest_bit(word: u64) -> u32
 fn enter(state: &mut Plain, core: u8, binding: Binding, word: u64) -> Event
     requires inside { core < length state.old.threads }
     requires some { 0 < word }
-    ensures line { result ≡ Entered binding.index (lowest_bit_of word) }
-    ensures entered { state.new ≡ entered state.old core (thread_at state.old core) binding word }
+    ensures line { result ≡ Entered binding.index (lowest_bit word) }
+    ensures entered { state.new ≡ state_at_handler state.old core (thread_at state.old core) binding word }
     ensures count { length state.new.threads ≡ length state.old.threads }
 {
     let stack = lowest_bit(word);
@@ -146,7 +146,7 @@ fn enter(state: &mut Plain, core: u8, binding: Binding, word: u64) -> Event
 // A call with the key: it enters where a server stack is free.
 fn take_stack(state: &mut Plain, core: u8, binding: Binding) -> Event
     requires { core < length state.old.threads }
-    ensures taken { (result, state.new) ≡ taken state.old core (thread_at state.old core) binding (pool_word_of state.old binding.server) }
+    ensures taken { (result, state.new) ≡ entry_outcome state.old core (thread_at state.old core) binding (pool_word state.old binding.server) }
     ensures count { length state.new.threads ≡ length state.old.threads }
 {
     let index = u32::from(binding.index);
@@ -166,7 +166,7 @@ fn take_stack(state: &mut Plain, core: u8, binding: Binding) -> Event
 // A call through the binding of an index, if there is one.
 fn call_through(state: &mut Plain, core: u8, index: u32) -> Event
     requires { core < length state.old.threads }
-    ensures called { (result, state.new) ≡ called_through state.old core (thread_at state.old core) index (binding_by_index (thread_at state.old core).bindings index) }
+    ensures called { (result, state.new) ≡ call_outcome state.old core (thread_at state.old core) index (binding_in (thread_at state.old core).bindings index) }
     ensures count { length state.new.threads ≡ length state.old.threads }
 {
     let thread = state.thread(core);
@@ -185,7 +185,7 @@ fn call_through(state: &mut Plain, core: u8, index: u32) -> Event
 #[tactic(auto, unfolding(sb_trace::specs::KernelCall::kernel_call))]
 pub fn kernel_call(state: &mut Plain, core: u8) -> Event
     requires { core < length state.old.threads }
-    ensures called { (result, state.new) ≡ kernel_call_of state.old core }
+    ensures called { (result, state.new) ≡ kernel_call state.old core }
     ensures count { length state.new.threads ≡ length state.old.threads }
 {
     let regs = state.thread(core).regs;

@@ -2,10 +2,10 @@
 
 ghost use Rattle.std.specs.Prelude.{◌≡◌, IfOk};
 ghost use Rattle.sb_trace.specs.State.{flight_at};
-ghost use Rattle.sb_trace.specs.End.{thread_end as end_of_thread, thread_ends as ends_of_threads, end_of};
+ghost use Rattle.sb_trace.specs.End.{thread_end, thread_ends, end_of};
 
 use crate::state::Plain;
-use crate::windows::present_of;
+use crate::windows::process_now;
 use sb_trace::{EndState, Flight, Thread, ThreadEnd, ThreadEnds};
 use std::alloc::{AllocError, Global};
 
@@ -18,12 +18,12 @@ fn flight_of(state: &Plain, number: usize) -> Option<Flight>
 }
 
 fn thread_end(thread: &Thread, flight: Option<Flight>) -> ThreadEnd
-    ensures { result ≡ end_of_thread thread.now flight }
+    ensures { result ≡ thread_end thread.now flight }
 {
     ThreadEnd {
         home: thread.home,
         view: thread.view,
-        present: present_of(thread),
+        present: process_now(thread),
         state: thread.state,
         regs: thread.regs,
         flight: flight.map(|flight| flight.phase),
@@ -31,7 +31,7 @@ fn thread_end(thread: &Thread, flight: Option<Flight>) -> ThreadEnd
 }
 
 fn thread_ends(alloc: Global, state: &Plain) -> Result<ThreadEnds, AllocError>
-    ensures { IfOk result (λ ends. ends ≡ ends_of_threads state.now 0 state.now.threads) }
+    ensures { IfOk result (λ ends. ends ≡ thread_ends state.now 0 state.now.threads) }
 {
     let mut ends = Vec::new(alloc);
     for (number, thread) in state.threads.iter().enumerate() {

@@ -5,7 +5,7 @@
 
 ghost use Rattle.std.specs.Prelude.{◌≡◌, ◌<◌, length};
 ghost use Rattle.sb_trace.specs.State.{thread_at};
-ghost use Rattle.sb_trace.specs.Flight.{is_key as is_key_of, bound_pool as bound_pool_of, loaded as loaded_by, decided_at as decided_by, phase_after as phase_behind, advanced as advanced_by, landed, flown, called_binding as called_by, switched};
+ghost use Rattle.sb_trace.specs.Flight.{is_key, bound_pool, with_mask, decided_at, phase_after, next_flight, phase_outcome, landing_step, called_binding, vmfunc_outcome};
 
 use crate::call::{binding_in, kernel_call};
 use crate::pool::pool_word;
@@ -20,7 +20,7 @@ mod tests;
 // ---- what a phase looks at
 
 fn is_key(binding: Option<Binding>, word: u64) -> bool
-    ensures { result ≡ is_key_of binding word }
+    ensures { result ≡ is_key binding word }
 {
     match binding {
         Some(binding) => word == binding.key,
@@ -30,7 +30,7 @@ fn is_key(binding: Option<Binding>, word: u64) -> bool
 
 // The pool word of the binding's server.
 fn bound_pool(state: &Plain, binding: Option<Binding>) -> u64
-    ensures { result ≡ bound_pool_of state.now binding }
+    ensures { result ≡ bound_pool state.now binding }
 {
     match binding {
         Some(binding) => pool_word(state, binding.server),
@@ -41,8 +41,8 @@ fn bound_pool(state: &Plain, binding: Option<Binding>) -> u64
 // ---- a phase
 
 // Phase 2 loads the mask.
-fn loaded(pool: u64, flight: Flight) -> Flight
-    ensures { result ≡ loaded_by pool flight }
+fn with_mask(pool: u64, flight: Flight) -> Flight
+    ensures { result ≡ with_mask pool flight }
 {
     let mask = if flight.phase == 2 { pool } else { flight.mask };
     Flight { mask, ..flight }
@@ -52,7 +52,7 @@ fn loaded(pool: u64, flight: Flight) -> Flight
 // phase 8 takes a stack where the pool word is still the mask.
 #[tactic(auto, unfolding(sb_trace::specs::Flight::decided_at))]
 fn decided_at(phase: u8, key_fits: bool, pool: u64, mask: u64) -> Option<Decision>
-    ensures { result ≡ decided_by phase key_fits pool mask }
+    ensures { result ≡ decided_at phase key_fits pool mask }
 {
     match phase {
         0 if !key_fits => Some(Decision::WrongKey),
@@ -65,7 +65,7 @@ fn decided_at(phase: u8, key_fits: bool, pool: u64, mask: u64) -> Option<Decisio
 // The phase behind this one; `None` where the landing ends.
 #[tactic(auto, unfolding(sb_trace::specs::Flight::phase_after))]
 fn phase_after(phase: u8, decided: Option<Decision>, mask: u64) -> Option<u8>
-    ensures { result ≡ phase_behind phase decided mask }
+    ensures { result ≡ phase_after phase decided mask }
 {
     match phase {
         1 if decided == Some(Decision::WrongKey) => Some(17),
@@ -78,35 +78,35 @@ fn phase_after(phase: u8, decided: Option<Decision>, mask: u64) -> Option<u8>
 }
 
 // The flight behind its phase.
-fn advanced(flight: Flight) -> Option<Flight>
-    ensures { result ≡ advanced_by flight }
+fn next_flight(flight: Flight) -> Option<Flight>
+    ensures { result ≡ next_flight flight }
 {
     let phase = phase_after(flight.phase, flight.decided, flight.mask)?;
     Some(Flight { phase, ..flight })
 }
 
 // A phase that decides the call does the kernel's call; each other one lands.
-fn land(state: &mut Plain, core: u8, flight: Flight, decided: Option<Decision>) -> Event
+fn phase_step(state: &mut Plain, core: u8, flight: Flight, decided: Option<Decision>) -> Event
     requires { core < length state.old.threads }
-    ensures landed { (result, state.new) ≡ landed state.old core flight decided }
+    ensures landed { (result, state.new) ≡ phase_outcome state.old core flight decided }
     ensures count { length state.new.threads ≡ length state.old.threads }
 {
     if decided.is_none() {
-        state.set_flight(core, advanced(flight));
+        state.set_flight(core, next_flight(flight));
         return Event::Landing {
             phase: flight.phase,
         };
     }
     let line = kernel_call(state, core);
-    state.set_flight(core, advanced(Flight { decided, ..flight }));
+    state.set_flight(core, next_flight(Flight { decided, ..flight }));
     line
 }
 
 /// A step of the thread of a core in its flight, and its line.
-#[tactic(auto, unfolding(sb_trace::specs::Flight::flown))]
-pub fn fly(state: &mut Plain, core: u8, flight: Flight) -> Event
+#[tactic(auto, unfolding(sb_trace::specs::Flight::landing_step))]
+pub fn landing_step(state: &mut Plain, core: u8, flight: Flight) -> Event
     requires { core < length state.old.threads }
-    ensures flown { (result, state.new) ≡ flown state.old core flight }
+    ensures flown { (result, state.new) ≡ landing_step state.old core flight }
     ensures count { length state.new.threads ≡ length state.old.threads }
 {
     let thread = state.thread(core);
@@ -114,14 +114,14 @@ pub fn fly(state: &mut Plain, core: u8, flight: Flight) -> Event
     let binding = binding_in(thread.bindings.items(), u32::from(flight.index));
     let pool = bound_pool(state, binding);
     let decided = decided_at(flight.phase, is_key(binding, key), pool, flight.mask);
-    land(state, core, loaded(pool, flight), decided)
+    phase_step(state, core, with_mask(pool, flight), decided)
 }
 
 // ---- the VMFUNC
 
 // The binding into which VMFUNC leads: leaf 0, and its index.
 fn called_binding(thread: &Thread) -> Option<Binding>
-    ensures { result ≡ called_by thread.now }
+    ensures { result ≡ called_binding thread.now }
 {
     let index = ecx(&thread.regs);
     if eax(&thread.regs) == 0 && index != 0 {
@@ -132,10 +132,10 @@ fn called_binding(thread: &Thread) -> Option<Binding>
 }
 
 /// VMFUNC of the thread of a core, and its line: a flight begins where it leads into a server.
-#[tactic(auto, unfolding(sb_trace::specs::Flight::switched))]
-pub fn switch(state: &mut Plain, core: u8) -> Event
+#[tactic(auto, unfolding(sb_trace::specs::Flight::vmfunc_outcome))]
+pub fn vmfunc(state: &mut Plain, core: u8) -> Event
     requires { core < length state.old.threads }
-    ensures switched { (result, state.new) ≡ switched state.old core }
+    ensures switched { (result, state.new) ≡ vmfunc_outcome state.old core }
     ensures count { length state.new.threads ≡ length state.old.threads }
 {
     let Some(binding) = called_binding(state.thread(core)) else {

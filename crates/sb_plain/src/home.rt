@@ -2,10 +2,10 @@
 
 ghost use Rattle.std.specs.Prelude.{◌≡◌, ◌<◌, length};
 ghost use Rattle.sb_trace.specs.State.{thread_at};
-ghost use Rattle.sb_trace.specs.Home.{sent_home, faulted};
+ghost use Rattle.sb_trace.specs.Home.{sent_home, fault_outcome};
 
 use crate::state::Plain;
-use sb_calls::faulted_home;
+use sb_calls::server_fault_regs;
 use sb_exec::FaultKind;
 use sb_trace::{EndKind, Event};
 
@@ -15,13 +15,13 @@ pub fn send_home(state: &mut Plain, core: u8)
     ensures sent { state.new ≡ sent_home state.old core }
     ensures count { length state.new.threads ≡ length state.old.threads }
 {
-    state.set_view(core, 0, faulted_home());
+    state.set_view(core, 0, server_fault_regs());
 }
 
 /// A fault of the thread of a core, and its line. At home it ends the thread; in a server's view it sends it home.
 pub fn fault(state: &mut Plain, core: u8, kind: FaultKind, at: u64) -> Event
     requires { core < length state.old.threads }
-    ensures faulted { (result, state.new) ≡ faulted state.old core kind at }
+    ensures faulted { (result, state.new) ≡ fault_outcome state.old core kind at }
     ensures count { length state.new.threads ≡ length state.old.threads }
 {
     if state.thread(core).view == 0 {

@@ -1,7 +1,7 @@
 //! Words of 8 bytes in the bytes of a page, the lowest byte first.
 
 ghost use Rattle.std.specs.Prelude.{◌≡◌, ◌+◌, ◌*◌, ◌≤◌, length};
-ghost use Rattle.sb_memory.specs.Words.{put_word as word_put};
+ghost use Rattle.sb_memory.specs.Words.{put_word};
 ghost use Rattle.sb_trace.specs.PageWords.{words_put};
 
 use sb_trace::PageBytes;
@@ -14,7 +14,7 @@ const WORD_SIZE: usize = 8;
 pub fn put_word(bytes: &mut PageBytes, place: usize, word: u64)
     requires size { length bytes.old ≡ 4096 }
     requires within { place + 8 ≤ 4096 }
-    ensures put { bytes.new ≡ word_put bytes.old place word }
+    ensures put { bytes.new ≡ put_word bytes.old place word }
     ensures size { length bytes.new ≡ 4096 }
 {
     let lowest_first = word.to_le_bytes();

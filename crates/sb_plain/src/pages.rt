@@ -3,10 +3,10 @@
 ghost use Rattle.std.specs.Prelude.{◌≡◌, ◌+◌, ◌*◌, ◌≤◌, ◌<◌, ◌++◌, ◌∷◌, [], Contains, Some, IfSome, IfOk, OnOk, OnErr, length, slice_index, slice_set, vec_len, vec_capacity};
 ghost use Rattle.std.specs.Option.{option_copied};
 ghost use Rattle.std.specs.HashMap.{get, spare};
-ghost use Rattle.sb_memory.specs.Words.{word_at, put_word as word_put};
-ghost use Rattle.sb_trace.specs.State.{find_page, replaced, bytes_of};
+ghost use Rattle.sb_memory.specs.Words.{word_at, put_word};
+ghost use Rattle.sb_trace.specs.State.{find_page, with_page_bytes, bytes_of};
 ghost use Rattle.sb_trace.specs.PageWords.{zeros, words_put};
-ghost use Rattle.sb_trace.specs.Start.{named};
+ghost use Rattle.sb_trace.specs.Start.{page_with};
 ghost use Rattle.sb_trace.specs.SyscallProtect.{with_mode};
 ghost use Rattle.sb_plain.specs.Places.{place_of, equal_names, IsIndex, IsNoted, AreWhole, AreBlank, AreKnown, known_at, KeepsKnown, Remembers};
 ghost use Rattle.sb_plain.specs.Store.{with_pages, with_room, added};
@@ -226,7 +226,7 @@ impl Pages {
     pub fn add(&mut self, name: PageName, place: usize, words: &[u64])
         requires room { 0 < self.old.room }
         requires within { place + 8 * length words.now ≤ 4096 }
-        ensures { self.new ≡ added self.old (named name (words_put zeros place words.now)) }
+        ensures { self.new ≡ added self.old (page_with name (words_put zeros place words.now)) }
     {
         let mut bytes = self.blank.take_last();
         put_words(&mut bytes, place, words);
@@ -273,7 +273,7 @@ impl Pages {
 
     /// Puts a byte into a page. Where the page or the byte is not there, nothing changes.
     pub fn put(&mut self, name: PageName, offset: usize, value: u8)
-        ensures { self.new ≡ with_pages self.old (replaced self.old.pages name (slice_set (bytes_of (find_page self.old.pages name)) offset value)) }
+        ensures { self.new ≡ with_pages self.old (with_page_bytes self.old.pages name (slice_set (bytes_of (find_page self.old.pages name)) offset value)) }
     {
         if let Some(place) = self.place(name) {
             let bytes = &mut self.pages[place].bytes;
@@ -298,7 +298,7 @@ impl Pages {
     /// Puts a word of 8 bytes into a page. Where the page is not there, nothing changes.
     pub fn put_word(&mut self, name: PageName, place: usize, word: u64)
         requires { place + 8 ≤ 4096 }
-        ensures { self.new ≡ with_pages self.old (replaced self.old.pages name (word_put (bytes_of (find_page self.old.pages name)) place word)) }
+        ensures { self.new ≡ with_pages self.old (with_page_bytes self.old.pages name (put_word (bytes_of (find_page self.old.pages name)) place word)) }
     {
         if let Some(index) = self.place(name) {
             put_word(&mut self.pages[index].bytes, place, word);

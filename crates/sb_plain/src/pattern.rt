@@ -3,7 +3,7 @@
 ghost use Rattle.std.specs.Prelude.{◌≡◌, ◌<◌, ◌≤◌, ◌+◌, ◌*◌, ◌^◌, ◌++◌, IfSome, length, drop};
 ghost use Rattle.sb_state.specs.declared.page.PageName.TheVariants.{Heap};
 ghost use Rattle.sb_trace.specs.State.{find_page};
-ghost use Rattle.sb_trace.specs.Pattern.{executable_bytes as bytes_executed, bytes_before as bytes_in_front, bytes_behind as bytes_after, heap_pattern as pattern_by};
+ghost use Rattle.sb_trace.specs.Pattern.{executable_bytes, bytes_before, bytes_behind, heap_pattern};
 
 use crate::pages::PAGE_SIZE;
 use crate::state::Plain;
@@ -14,7 +14,7 @@ use sb_trace::PageName;
 // The bytes of a heap page that is executable; none of another.
 fn executable_bytes(state: &Plain, process: u32, page: u32) -> &[u8]
     ensures size { length result.now ≤ 4096 }
-    ensures bytes { result.now ≡ bytes_executed (find_page state.now.pages (Heap process page)) }
+    ensures bytes { result.now ≡ executable_bytes (find_page state.now.pages (Heap process page)) }
 {
     match state.pages.find(PageName::Heap(process, page)) {
         Some(page) if page.executable => page.bytes.items(),
@@ -34,7 +34,7 @@ fn last_two(bytes: &[u8]) -> &[u8]
 
 // The last two bytes of the page before, if there is one and it is executable.
 fn bytes_before(state: &Plain, process: u32, page: u32) -> &[u8]
-    ensures bytes { result.now ≡ bytes_in_front state.now process page }
+    ensures bytes { result.now ≡ bytes_before state.now process page }
     ensures size { length result.now ≤ 2 }
 {
     if page == 0 {
@@ -44,9 +44,9 @@ fn bytes_before(state: &Plain, process: u32, page: u32) -> &[u8]
 }
 
 // The first two bytes of the page behind, if there is one and it is executable.
-fn bytes_behind(state: &Plain, process: u32, page: u32) -> &[u8]
+fn bytes_after(state: &Plain, process: u32, page: u32) -> &[u8]
     requires { page + 1 < 2 ^ 32 }
-    ensures bytes { result.now ≡ bytes_after state.now process page }
+    ensures bytes { result.now ≡ bytes_behind state.now process page }
     ensures size { length result.now ≤ 2 }
 {
     let bytes = executable_bytes(state, process, page + 1);
@@ -57,11 +57,11 @@ fn bytes_behind(state: &Plain, process: u32, page: u32) -> &[u8]
 #[tactic(auto, using(sb_state::proofs::Pattern::first_place), unfolding(sb_state::specs::Pattern::heap_pattern))]
 pub fn heap_pattern(state: &Plain, process: u32, page: u32) -> Option<u64>
     requires { page + 1 < 2 ^ 32 }
-    ensures { result ≡ pattern_by state.now process page }
+    ensures { result ≡ heap_pattern state.now process page }
 {
     let found = state.pages.find(PageName::Heap(process, page))?;
     let before = bytes_before(state, process, page);
-    let behind = bytes_behind(state, process, page);
+    let behind = bytes_after(state, process, page);
     let place = first_place(before, found.bytes.items(), behind)?;
     let page_address = HEAP_ADDRESS + (PAGE_SIZE as u64) * u64::from(page);
     Some(page_address + (place as u64) - (before.len() as u64))

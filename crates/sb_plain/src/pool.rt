@@ -5,7 +5,7 @@ ghost use Rattle.std.specs.Prelude.{◌≡◌, ◌<◌, ◌^◌, IsSome};
 ghost use Rattle.sb_state.specs.declared.page.PageName.TheVariants.{Pool};
 ghost use Rattle.sb_trace.specs.State.{registration_at};
 ghost use Rattle.sb_trace.specs.PageWords.{with_word};
-ghost use Rattle.sb_trace.specs.KernelCall.{pool_word as pool_word_of, handler_in};
+ghost use Rattle.sb_trace.specs.KernelCall.{pool_word, handler_in};
 
 use crate::state::Plain;
 use sb_trace::{PageName, Registration};
@@ -13,7 +13,7 @@ use sb_trace::{PageName, Registration};
 /// The pool word of a process.
 #[tactic(auto, unfolding(sb_state::specs::State::contents))]
 pub fn pool_word(state: &Plain, process: u32) -> u64
-    ensures { result ≡ pool_word_of state.now process }
+    ensures { result ≡ pool_word state.now process }
 {
     state.pages.word(PageName::Pool(process), 0)
 }

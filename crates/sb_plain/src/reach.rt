@@ -2,8 +2,8 @@
 
 ghost use Rattle.std.specs.Prelude.{◌≡◌, Some, IfOk, length};
 ghost use Rattle.sb_trace.specs.State.{find_page};
-ghost use Rattle.sb_trace.specs.Windows.{seen};
-ghost use Rattle.sb_trace.specs.PlainMemory.{is_canonical as is_canonical_address};
+ghost use Rattle.sb_trace.specs.Windows.{page_by_name};
+ghost use Rattle.sb_trace.specs.PlainMemory.{is_canonical};
 ghost use Rattle.sb_plain.specs.Reach.{reached, reached_as, name_only};
 
 use crate::pages::Pages;
@@ -15,7 +15,7 @@ use sb_trace::{Page, PageName};
 
 /// Whether bits 63 to 47 of an address are equal (SDM volume 1, section 3.3.7.1).
 fn is_canonical(at: Linear) -> bool
-    ensures { result ≡ is_canonical_address at.0 }
+    ensures { result ≡ is_canonical at.0 }
 {
     at.0 < 1 << 47 || at.0 >= !0 << 47
 }
@@ -27,7 +27,7 @@ fn reach_named(
     at: Linear,
     access: Access,
 ) -> Result<(PageName, &Page), BusStop>
-    ensures name { name_only result ≡ reached_as (seen pages.now.pages name) at.0 access }
+    ensures name { name_only result ≡ reached_as (page_by_name pages.now.pages name) at.0 access }
     ensures page { IfOk result (λ found. find_page pages.now.pages found.0 ≡ Some found.1.now) }
     ensures size { IfOk result (λ found. length found.1.now.bytes ≡ 4096) }
 {
@@ -38,7 +38,7 @@ fn reach_named(
 }
 
 /// The page that an access in a view of a thread reaches, with its name.
-#[tactic(auto, unfolding(sb_state::specs::Windows::page_seen, crate::specs::Reach::reached))]
+#[tactic(auto, unfolding(sb_state::specs::Windows::page_for, crate::specs::Reach::reached))]
 pub fn reach(
     state: &Plain,
     thread: u32,

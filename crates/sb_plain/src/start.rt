@@ -2,7 +2,7 @@
 
 ghost use Rattle.std.specs.Prelude.{◌≡◌, IfOk, length, map};
 ghost use Rattle.std.specs.List.Sorted.{IsStrictlyIncreasing};
-ghost use Rattle.sb_trace.specs.Start.{start_process as process_at_start};
+ghost use Rattle.sb_trace.specs.Start.{start_process};
 ghost use Rattle.sb_plain.specs.Start.{image_of, images_loaded, first_state};
 
 use crate::process::Process;
@@ -25,14 +25,14 @@ use threads::{start_flights, start_threads};
 /// A process that is no server yet.
 fn start_process(alloc: Global, image: &Image, made: &Rewritten) -> Result<Process, AllocError>
     requires { IsStrictlyIncreasing made.now.starts }
-    ensures { IfOk result (λ process. process ≡ process_at_start (image_of image.now made.now)) }
+    ensures { IfOk result (λ process. process ≡ start_process (image_of image.now made.now)) }
 {
     Ok(Process::new(made.starts().copied(alloc)?, image.heap_pages))
 }
 
 /// The processes at the start, by their numbers.
 fn start_processes(alloc: Global, loaded: &Loaded) -> Result<Vec<Process>, AllocError>
-    ensures processes { IfOk result (λ processes. processes.items ≡ map process_at_start (images_loaded loaded.now)) }
+    ensures processes { IfOk result (λ processes. processes.items ≡ map start_process (images_loaded loaded.now)) }
     ensures count { IfOk result (λ processes. length processes.items ≡ length loaded.now.bundle.images) }
 {
     let mut processes = Vec::new(alloc);

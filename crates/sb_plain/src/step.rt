@@ -3,7 +3,7 @@
 ghost use Rattle.std.specs.Prelude.{◌≡◌, ◌<◌, length};
 ghost use Rattle.sb_insn.specs.Grammar.{IsValid};
 ghost use Rattle.sb_trace.specs.State.{thread_at, flight_at};
-ghost use Rattle.sb_trace.specs.Flight.{switched};
+ghost use Rattle.sb_trace.specs.Flight.{vmfunc_outcome};
 ghost use Rattle.sb_trace.specs.Step.{Steps, GoesOn, RunsOn, Performs, StopsWith};
 ghost use Rattle.sb_trace.specs.OneStep.{StepsAlike};
 ghost use Rattle.sb_trace.specs.Changes.{StepChanges};
@@ -11,7 +11,7 @@ ghost use Rattle.sb_trace.specs.Laws.{HasOneSwitch};
 ghost use Rattle.sb_trace.specs.Sound.{IsSound};
 ghost use Rattle.sb_plain.specs.Faults.{IsFault};
 
-use crate::flight::{fly, switch};
+use crate::flight::{landing_step, vmfunc};
 use crate::home::fault;
 use crate::instruction::{fetch_next, perform};
 use crate::state::Plain;
@@ -37,7 +37,7 @@ fn stop_thread(state: &mut Plain, core: u8, stop: BusStop) -> Event
 fn execute_next(state: &mut Plain, core: u8, view: u16, insn: &Insn, regs: &Regs) -> Event
     requires inside { core < length state.old.threads }
     requires valid { IsValid insn.now }
-    ensures performed { Performs switched state.old core view insn.now regs.now (result, state.new) }
+    ensures performed { Performs vmfunc_outcome state.old core view insn.now regs.now (result, state.new) }
     ensures count { length state.new.threads ≡ length state.old.threads }
 {
     let rip = regs.rip;
@@ -48,7 +48,7 @@ fn execute_next(state: &mut Plain, core: u8, view: u16, insn: &Insn, regs: &Regs
             Event::Step { rip }
         }
         Ok(Effect::Syscall) => system_call(state, core, insn, regs),
-        Ok(Effect::Switch) => switch(state, core),
+        Ok(Effect::Switch) => vmfunc(state, core),
         Ok(Effect::Undefined) => fault(state, core, FaultKind::Undefined, rip),
         Err(stop) => stop_thread(state, core, stop),
     }
@@ -57,7 +57,7 @@ fn execute_next(state: &mut Plain, core: u8, view: u16, insn: &Insn, regs: &Regs
 // The instruction at RIP of a thread with these registers in this view.
 fn run_from(state: &mut Plain, core: u8, view: u16, regs: &Regs) -> Event
     requires { core < length state.old.threads }
-    ensures ran { RunsOn switched state.old core view regs.now (result, state.new) }
+    ensures ran { RunsOn vmfunc_outcome state.old core view regs.now (result, state.new) }
     ensures count { length state.new.threads ≡ length state.old.threads }
 {
     match fetch_next(state, u32::from(core), view, regs.rip) {
@@ -73,7 +73,7 @@ fn go_on(state: &mut Plain, core: u8) -> Event
     ensures count { length state.new.threads ≡ length state.old.threads }
 {
     if let Some(flight) = state.flight(core) {
-        return fly(state, core, flight);
+        return landing_step(state, core, flight);
     }
     let thread = state.thread(core);
     let (view, regs) = (thread.view, thread.regs);

@@ -14,10 +14,10 @@ mod tests;
 
 ghost use Rattle.std.specs.Prelude.{◌≡◌, ◌<◌, length};
 ghost use Rattle.sb_exec.specs.Operand.{next_rip};
-ghost use Rattle.sb_calls.specs.SyscallRegisters.{after_syscall as after_syscall_by};
+ghost use Rattle.sb_calls.specs.SyscallRegisters.{after_syscall};
 ghost use Rattle.sb_trace.specs.State.{thread_at};
-ghost use Rattle.sb_trace.specs.SyscallAnswer.{returned, declined, accepted};
-ghost use Rattle.sb_trace.specs.Syscall.{exited, called_by, called};
+ghost use Rattle.sb_trace.specs.SyscallAnswer.{state_after_call, syscall_refusal, syscall_acceptance};
+ghost use Rattle.sb_trace.specs.Syscall.{exit_outcome, outcome_by_number, syscall_outcome};
 ghost use Rattle.sb_plain.specs.Declined.{IsDeclined, LeavesAll};
 
 use crate::home::send_home;
@@ -26,7 +26,7 @@ use bind::bind;
 use protect::protect;
 use register::register;
 use sb_abi::CallRefusal;
-use sb_calls::{after_syscall, answered};
+use sb_calls::{after_syscall, regs_with_answer};
 use sb_insn::registers::{RAX, RDI};
 use sb_insn::{Insn, Regs};
 use sb_trace::{EndKind, Event};
@@ -36,16 +36,16 @@ use sb_trace::{EndKind, Event};
 // The thread goes on after SYSCALL, with an answer and a second value.
 fn go_on(state: &mut Plain, core: u8, next: &Regs, answer: u64, second: u64)
     requires { core < length state.old.threads }
-    ensures returned { state.new ≡ returned state.old core next.now answer second }
+    ensures returned { state.new ≡ state_after_call state.old core next.now answer second }
     ensures count { length state.new.threads ≡ length state.old.threads }
 {
-    state.set_regs(core, answered(next, answer, second));
+    state.set_regs(core, regs_with_answer(next, answer, second));
 }
 
 // The call is refused, with a second value.
 fn decline(state: &mut Plain, core: u8, next: &Regs, refusal: CallRefusal, second: u64) -> Event
     requires { core < length state.old.threads }
-    ensures declined { (result, state.new) ≡ declined state.old core next.now refusal second }
+    ensures declined { (result, state.new) ≡ syscall_refusal state.old core next.now refusal second }
     ensures count { length state.new.threads ≡ length state.old.threads }
 {
     let answer = refusal.number();
@@ -59,7 +59,7 @@ fn decline(state: &mut Plain, core: u8, next: &Regs, refusal: CallRefusal, secon
 // The call did what it does, and has no second value.
 fn accept(state: &mut Plain, core: u8, next: &Regs) -> Event
     requires { core < length state.old.threads }
-    ensures accepted { (result, state.new) ≡ accepted state.old core next.now }
+    ensures accepted { (result, state.new) ≡ syscall_acceptance state.old core next.now }
     ensures count { length state.new.threads ≡ length state.old.threads }
 {
     go_on(state, core, next, 0, 0);
@@ -74,7 +74,7 @@ fn accept(state: &mut Plain, core: u8, next: &Regs) -> Event
 // At home the thread ends with a status; in a server's view it is sent home.
 fn exit(state: &mut Plain, core: u8, next: &Regs) -> Event
     requires { core < length state.old.threads }
-    ensures exited { (result, state.new) ≡ exited state.old core next.now }
+    ensures exited { (result, state.new) ≡ exit_outcome state.old core next.now }
     ensures count { length state.new.threads ≡ length state.old.threads }
 {
     let status = next.general[RDI];
@@ -91,7 +91,7 @@ fn exit(state: &mut Plain, core: u8, next: &Regs) -> Event
 
 fn call_by_number(state: &mut Plain, core: u8, next: &Regs, number: u64) -> Event
     requires { core < length state.old.threads }
-    ensures called { (result, state.new) ≡ called_by state.old core (thread_at state.old core) next.now number }
+    ensures called { (result, state.new) ≡ outcome_by_number state.old core (thread_at state.old core) next.now number }
     ensures count { length state.new.threads ≡ length state.old.threads }
 {
     match number {
@@ -110,10 +110,10 @@ fn call_by_number(state: &mut Plain, core: u8, next: &Regs, number: u64) -> Even
 }
 
 /// SYSCALL of the thread of a core, which began with these registers, and its line.
-#[tactic(auto, using(crate::proofs::Declined::called_leaves), unfolding(sb_trace::specs::Syscall::called))]
+#[tactic(auto, using(crate::proofs::Declined::called_leaves), unfolding(sb_trace::specs::Syscall::syscall_outcome))]
 pub fn system_call(state: &mut Plain, core: u8, insn: &Insn, regs: &Regs) -> Event
     requires { core < length state.old.threads }
-    ensures called { (result, state.new) ≡ called state.old core (after_syscall_by (next_rip insn.now regs.now) regs.now) }
+    ensures called { (result, state.new) ≡ syscall_outcome state.old core (after_syscall (next_rip insn.now regs.now) regs.now) }
     ensures declined { IsDeclined result → LeavesAll state.old state.new core regs.now }
     ensures count { length state.new.threads ≡ length state.old.threads }
 {

@@ -2,15 +2,15 @@
 
 ghost use Rattle.std.specs.Prelude.{◌≡◌, ◌<◌, ◌^◌};
 ghost use Rattle.std.specs.Option.{option_and_then};
-ghost use Rattle.sb_trace.specs.PageName.{permits as is_permitted, mode_of as mode_by_name};
-ghost use Rattle.sb_trace.specs.Windows.{server_of as server_by_index, shown_by as shown_from, present_of as process_present, shown as shown_process, is_process as is_shown, stack_name as stack_by_page, buffer_name as buffer_by_page, special_name as special_by_page, name_at as name_by_page};
+ghost use Rattle.sb_trace.specs.PageName.{permits, mode_of};
+ghost use Rattle.sb_trace.specs.Windows.{server_of, process_of_view, process_now, process_shown, is_process, stack_name, buffer_name, special_name, name_at};
 
 use sb_memory::Access;
 use sb_trace::{Binding, Mode, PageName, Thread};
 
 /// The server of the binding with this index.
 fn server_of(bindings: &[Binding], index: u32) -> Option<u32>
-    ensures { result ≡ server_by_index bindings.now index }
+    ensures { result ≡ server_of bindings.now index }
 {
     let (first, others) = bindings.split_first()?;
     if u32::from(first.index) == index {
@@ -21,8 +21,8 @@ fn server_of(bindings: &[Binding], index: u32) -> Option<u32>
 }
 
 /// The process that a thread's view shows.
-pub fn shown_by(view: u32, thread: &Thread) -> Option<u32>
-    ensures { result ≡ shown_from view thread.now }
+pub fn process_of_view(view: u32, thread: &Thread) -> Option<u32>
+    ensures { result ≡ process_of_view view thread.now }
 {
     if view == 0 {
         Some(thread.home)
@@ -32,25 +32,25 @@ pub fn shown_by(view: u32, thread: &Thread) -> Option<u32>
 }
 
 /// The process that a thread's present view shows.
-pub fn present_of(thread: &Thread) -> u32
-    ensures { result ≡ process_present thread.now }
+pub fn process_now(thread: &Thread) -> u32
+    ensures { result ≡ process_now thread.now }
 {
-    shown_by(u32::from(thread.view), thread).unwrap_or(thread.home)
+    process_of_view(u32::from(thread.view), thread).unwrap_or(thread.home)
 }
 
 /// The process that a view of the thread with this number shows.
-#[tactic(auto, unfolding(sb_state::specs::Windows::shown))]
-pub fn shown(threads: &[Thread], thread: u32, view: u32) -> Option<u32>
-    ensures { result ≡ shown_process threads.now thread view }
+#[tactic(auto, unfolding(sb_state::specs::Windows::process_shown))]
+pub fn process_shown(threads: &[Thread], thread: u32, view: u32) -> Option<u32>
+    ensures { result ≡ process_shown threads.now thread view }
 {
-    shown_by(view, threads.get(thread as usize)?)
+    process_of_view(view, threads.get(thread as usize)?)
 }
 
 /// Whether a view shows this process.
 fn shows(threads: &[Thread], thread: u32, view: u32, process: u32) -> bool
-    ensures { result ≡ is_shown (shown_process threads.now thread view) process }
+    ensures { result ≡ is_process (process_shown threads.now thread view) process }
 {
-    match shown(threads, thread, view) {
+    match process_shown(threads, thread, view) {
         Some(one) => one == process,
         None => false,
     }
@@ -59,7 +59,7 @@ fn shows(threads: &[Thread], thread: u32, view: u32, process: u32) -> bool
 /// The name in the window of stacks: eight pages a thread, of which the first is its save page and the last four are its
 /// stack. A process has those of the threads at home in it.
 fn stack_name(threads: &[Thread], process: u32, page: u32) -> Option<PageName>
-    ensures { result ≡ stack_by_page threads.now process page }
+    ensures { result ≡ stack_name threads.now process page }
 {
     let (thread, number) = (page / 8, page % 8);
     if !shows(threads, thread, 0, process) {
@@ -75,7 +75,7 @@ fn stack_name(threads: &[Thread], process: u32, page: u32) -> Option<PageName>
 /// The name in the window of buffers: four pages a binding, sixteen bindings a thread. A process has those of the threads
 /// at home in it, and those of bindings whose server it is.
 fn buffer_name(threads: &[Thread], process: u32, page: u32) -> Option<PageName>
-    ensures { result ≡ buffer_by_page threads.now process page }
+    ensures { result ≡ buffer_name threads.now process page }
 {
     let (thread, index) = (page / 64, page / 4 % 16);
     if shows(threads, thread, 0, process) || shows(threads, thread, index, process) {
@@ -87,7 +87,7 @@ fn buffer_name(threads: &[Thread], process: u32, page: u32) -> Option<PageName>
 
 /// The name of a special page: trampoline, record and scratch page of the view, and pool page of the process.
 fn special_name(thread: u32, view: u32, process: u32, page: u64) -> Option<PageName>
-    ensures { result ≡ special_by_page thread view process page }
+    ensures { result ≡ special_name thread view process page }
 {
     match page {
         0x70000 if view == 0 => Some(PageName::HomeTrampoline),
@@ -103,7 +103,7 @@ fn special_name(thread: u32, view: u32, process: u32, page: u64) -> Option<PageN
 #[tactic(auto, unfolding(sb_state::specs::Windows::name_at))]
 fn name_in(threads: &[Thread], thread: u32, view: u32, page: u64, process: u32) -> Option<PageName>
     requires { page < 2 ^ 52 }
-    ensures { result ≡ name_by_page threads.now thread view page process }
+    ensures { result ≡ name_at threads.now thread view page process }
 {
     match page {
         0x1..=0x10 => Some(PageName::Area(process, (page - 0x1) as u32)),
@@ -120,15 +120,21 @@ fn name_in(threads: &[Thread], thread: u32, view: u32, page: u64, process: u32) 
 /// The name at a page number in a view of a thread.
 pub fn name_at(threads: &[Thread], thread: u32, view: u32, page: u64) -> Option<PageName>
     requires { page < 2 ^ 52 }
-    ensures { result ≡ option_and_then (name_by_page threads.now thread view page) (shown_process threads.now thread view) }
+    ensures { result ≡ option_and_then (name_at threads.now thread view page) (process_shown threads.now thread view) }
 {
-    name_in(threads, thread, view, page, shown(threads, thread, view)?)
+    name_in(
+        threads,
+        thread,
+        view,
+        page,
+        process_shown(threads, thread, view)?,
+    )
 }
 
 /// How the page of a name may be accessed.
 #[tactic(auto, unfolding(sb_state::specs::PageName::mode_of))]
 pub fn mode_of(name: PageName, executable: bool) -> Mode
-    ensures { result ≡ mode_by_name name executable }
+    ensures { result ≡ mode_of name executable }
 {
     match name {
         PageName::Heap(_, _) if executable => Mode::Fetch,
@@ -143,7 +149,7 @@ pub fn mode_of(name: PageName, executable: bool) -> Mode
 
 /// Whether a mode permits an access.
 pub fn permits(mode: Mode, access: Access) -> bool
-    ensures { result ≡ is_permitted mode access }
+    ensures { result ≡ permits mode access }
 {
     match (mode, access) {
         (Mode::Fetch, Access::Fetch)

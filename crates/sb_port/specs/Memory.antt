@@ -13,7 +13,8 @@ pub record SourceInMemory : Type 0 where
 abbrev pub given_count : SourceInMemory → ℕ → ℕ
 given_count source wanted = min (min wanted source.per_call) (length source.left)
 
--- the bytes held and the most that there is room for, the most that a call takes, the numbers of the calls that fail, and the calls and faults so far
+-- the bytes held and the most that there is room for, the most that a call takes, the numbers of the calls that fail, and the
+-- calls and faults so far
 pub record SinkInMemory : Type 0 where
   pub held : List ℕ
   pub capacity : ℕ

@@ -16,13 +16,15 @@ none_behind (suc count) bytes none (suc place) stands =
     none_behind count bytes none place (before 0xCC (replicate count 0xCC ++ bytes) place stands)
 
 filler_alone : (count : ℕ) → HasNoPattern (replicate count 0xCC)
-filler_alone count = subst (λ (bytes : List ℕ). HasNoPattern bytes) (append-nil (replicate count 0xCC)) (none_behind count [] none_alone)
+filler_alone count =
+    subst (λ (bytes : List ℕ). HasNoPattern bytes) (append-nil (replicate count 0xCC)) (none_behind count [] none_alone)
 
 -- behind them
 none_before : (count : ℕ) (bytes : List ℕ) → HasNoPattern bytes → HasNoPattern (bytes ++ replicate count 0xCC)
 none_before count [] none place stands = filler_alone count place stands
 none_before count (first ∷ rest) none (suc place) stands =
-    none_before count rest (λ place stands. none (suc place) (behind first rest place stands)) place (before first (rest ++ replicate count 0xCC) place stands)
+    none_before count rest (λ place stands. none (suc place) (behind first rest place stands)) place
+    (before first (rest ++ replicate count 0xCC) place stands)
 none_before zero (first ∷ []) none zero stands = omega (arith, stands.1)
 none_before (suc count) (first ∷ []) none zero stands = omega (arith, stands.1)
 none_before zero (first ∷ second ∷ []) none zero stands = omega (arith, stands.2)
@@ -30,4 +32,5 @@ none_before (suc count) (first ∷ second ∷ []) none zero stands = omega (arit
 none_before count (first ∷ second ∷ third ∷ rest) none zero stands = none zero stands
 
 pub clean_around : (bytes : List ℕ) → HasNoPattern bytes → IsClean bytes
-clean_around bytes none before_it behind_it = none_behind before_it (bytes ++ replicate behind_it 0xCC) (none_before behind_it bytes none)
+clean_around bytes none before_it behind_it =
+    none_behind before_it (bytes ++ replicate behind_it 0xCC) (none_before behind_it bytes none)

@@ -24,29 +24,43 @@ use Rattle.sb_rewrite.proofs.Unmovable.{unmovable_anywhere}
 -- ---- one turn
 
 -- the instruction stands among the text's, behind those that were read
-pub among : (text rest : List ℕ) (done more : List Insn) (front : Front) → Turn text rest done more front → (behind : List Place) × (places text (done ++ more) ≡ places text done ++ here text done front.insn ∷ behind)
+pub among : (text rest : List ℕ) (done more : List Insn) (front : Front) → Turn text rest done more front
+    → (behind : List Place) × (places text (done ++ more) ≡ places text done ++ here text done front.insn ∷ behind)
 among text rest done more front turned =
     let found = here_among text done front.insn turned.others in
     (found.0, ap (λ (list : List Insn). places text (done ++ list)) turned.more_is ∙ found.1)
 
 -- what holds of it, and of none before it, holds of it first
-pub first_here : (Holds : Place → Type 0) (text rest : List ℕ) (done more : List Insn) (front : Front) → Turn text rest done more front → NoneOf Holds (places text done)
+pub first_here : (Holds : Place → Type 0) (text rest : List ℕ) (done more : List Insn) (front : Front)
+    → Turn text rest done more front → NoneOf Holds (places text done)
     → Holds (here text done front.insn) → IsFirstAt Holds (places text (done ++ more)) front.at
 first_here Holds text rest done more front turned none holds =
     let found = among text rest done more front turned in
-    record { before = places text done; first = here text done front.insn; behind = found.0; parts = found.1; none = none; holds = holds; here = turned.here }
+    record {
+      before = places text done;
+      first = here text done front.insn;
+      behind = found.0;
+      parts = found.1;
+      none = none;
+      holds = holds;
+      here = turned.here;
+    }
 
 -- what holds of none does not hold of it
-pub not_here : (Holds : Place → Type 0) (text rest : List ℕ) (done more : List Insn) (front : Front) → Turn text rest done more front → NoneOf Holds (places text (done ++ more))
+pub not_here : (Holds : Place → Type 0) (text rest : List ℕ) (done more : List Insn) (front : Front)
+    → Turn text rest done more front → NoneOf Holds (places text (done ++ more))
     → ¬ Holds (here text done front.insn)
 not_here Holds text rest done more front turned none =
     let found = among text rest done more front turned in
-    none_among Holds (places text done) (here text done front.insn) found.0 (subst (λ (list : List Place). NoneOf Holds list) found.1 none)
+    none_among Holds (places text done) (here text done front.insn) found.0
+    (subst (λ (list : List Place). NoneOf Holds list) found.1 none)
 
 -- and one more is read of which it does not hold
-pub none_read : (Holds : Place → Type 0) (text : List ℕ) (done : List Insn) (insn : Insn) → NoneOf Holds (places text done) → ¬ Holds (here text done insn) → NoneOf Holds (places text (done ++ insn ∷ []))
+pub none_read : (Holds : Place → Type 0) (text : List ℕ) (done : List Insn) (insn : Insn) → NoneOf Holds (places text done)
+    → ¬ Holds (here text done insn) → NoneOf Holds (places text (done ++ insn ∷ []))
 none_read Holds text done insn none not_it =
-    subst (λ (list : List Place). NoneOf Holds list) (sym (here_last text done insn)) (none_more Holds (places text done) (here text done insn) none not_it)
+    subst (λ (list : List Place). NoneOf Holds list) (sym (here_last text done insn))
+    (none_more Holds (places text done) (here text done insn) none not_it)
 
 -- ---- jumps
 
@@ -67,22 +81,27 @@ no_target_checked text starts (insns, valid, whole, starts_are) = record {
   none = tt;
 }
 
-pub bad_target_here : (text rest starts : List ℕ) (front : Front) → TargetsChecked text rest starts → IsFront text rest front → IsBadTarget starts (direct_target front.insn front.at)
+pub bad_target_here : (text rest starts : List ℕ) (front : Front) → TargetsChecked text rest starts → IsFront text rest front
+    → IsBadTarget starts (direct_target front.insn front.at)
     → IsFirstOf (λ of_text. HasBadTarget (starts_of of_text)) text front.at
 bad_target_here text rest starts front checked is bad =
     let turned = turn text rest checked.done checked.more front checked.reads is in
-    let bad_here : HasBadTarget starts (here text checked.done front.insn) = subst (λ (at : ℕ). IsBadTarget starts (direct_target front.insn at)) turned.here bad in
+    let bad_here : HasBadTarget starts (here text checked.done front.insn) =
+    subst (λ (at : ℕ). IsBadTarget starts (direct_target front.insn at)) turned.here bad in
     let first = first_here (HasBadTarget starts) text rest checked.done checked.more front turned checked.none bad_here in (
       places text (checked.done ++ checked.more),
       placed text rest checked.done checked.more checked.reads,
-      subst (λ (list : List ℕ). IsFirstAt (HasBadTarget list) (places text (checked.done ++ checked.more)) front.at) checked.starts_are first,
+      subst (λ (list : List ℕ). IsFirstAt (HasBadTarget list) (places text (checked.done ++ checked.more)) front.at)
+          checked.starts_are first,
     )
 
-pub good_target_here : (text rest starts : List ℕ) (front : Front) → TargetsChecked text rest starts → IsFront text rest front → ¬ IsBadTarget starts (direct_target front.insn front.at)
+pub good_target_here : (text rest starts : List ℕ) (front : Front) → TargetsChecked text rest starts → IsFront text rest front
+    → ¬ IsBadTarget starts (direct_target front.insn front.at)
     → TargetsChecked text front.rest.now starts
 good_target_here text rest starts front checked is good =
     let turned = turn text rest checked.done checked.more front checked.reads is in
-    let good_here : ¬ HasBadTarget starts (here text checked.done front.insn) = subst (λ (at : ℕ). ¬ IsBadTarget starts (direct_target front.insn at)) turned.here good in
+    let good_here : ¬ HasBadTarget starts (here text checked.done front.insn) =
+    subst (λ (at : ℕ). ¬ IsBadTarget starts (direct_target front.insn at)) turned.here good in
     record {
       done = checked.done ++ front.insn ∷ [];
       more = turned.others;
@@ -93,8 +112,12 @@ good_target_here text rest starts front checked is good =
 
 pub targets_checked : (text rest starts : List ℕ) → TargetsChecked text rest starts → length rest ≡ 0 → JumpsLeadWell text
 targets_checked text rest starts checked none =
-    let all : checked.done ≡ checked.done ++ checked.more = sym (append-nil checked.done) ∙ ap (λ (list : List Insn). checked.done ++ list) (sym (all_read text rest checked.done checked.more checked.reads none)) in
-    let good : NoneOf (HasBadTarget starts) (places text (checked.done ++ checked.more)) = subst (λ (list : List Insn). NoneOf (HasBadTarget starts) (places text list)) all checked.none in (
+    let all : checked.done ≡ checked.done ++ checked.more =
+    sym (append-nil checked.done)
+    ∙ ap (λ (list : List Insn). checked.done ++ list)
+    (sym (all_read text rest checked.done checked.more checked.reads none)) in
+    let good : NoneOf (HasBadTarget starts) (places text (checked.done ++ checked.more)) =
+    subst (λ (list : List Insn). NoneOf (HasBadTarget starts) (places text list)) all checked.none in (
       places text (checked.done ++ checked.more),
       placed text rest checked.done checked.more checked.reads,
       subst (λ (list : List ℕ). NoneOf (HasBadTarget list) (places text (checked.done ++ checked.more))) checked.starts_are good,
@@ -103,9 +126,12 @@ targets_checked text rest starts checked none =
 -- ---- what the form of an instruction asks for
 
 -- the starts are in a text
-pub in_text : (text : List ℕ) (insns : List Insn) → length text ≤ 2097152 → text ≡ spelled insns → AreInText (starts_of (places text insns))
+pub in_text : (text : List ℕ) (insns : List Insn) → length text ≤ 2097152 → text ≡ spelled insns
+    → AreInText (starts_of (places text insns))
 in_text text insns size whole start held =
-    let within = starts_within text_address insns start (subst (λ (list : List ℕ). Contains list start) (starts_placed text text_address area_address insns) held) in
+    let within =
+    starts_within text_address insns start
+    (subst (λ (list : List ℕ). Contains list start) (starts_placed text text_address area_address insns) held) in
     (within.0, omega (arith, within.1, size, ap length whole))
 
 -- the text's jumps lead well
@@ -114,13 +140,16 @@ pub record JumpsKnown (text : List ℕ) (insns : List Insn) : Type 0 where
   pub whole : text ≡ spelled insns
   pub well : LeadsWell (places text insns)
 
-pub form_asks : NotInJumps → (text rest : List ℕ) (done more : List Insn) (front : Front) → Reads text rest done more → JumpsKnown text (done ++ more) → IsFront text rest front → 0 < length rest
+pub form_asks : NotInJumps → (text rest : List ℕ) (done more : List Insn) (front : Front) → Reads text rest done more
+    → JumpsKnown text (done ++ more) → IsFront text rest front → 0 < length rest
     → IsDirect front.insn → HasNoPattern (spelling front.insn)
 form_asks law text rest done more front reads known is some =
     let turned = turn text rest done more front reads is in
     let starts : List ℕ = starts_of (places text (done ++ more)) in
-    let good : ¬ HasBadTarget starts (here text done front.insn) = not_here (HasBadTarget starts) text rest done more front turned known.well in
-    let good_here : ¬ IsBadTarget starts (direct_target front.insn front.at) = subst (λ (at : ℕ). ¬ IsBadTarget starts (direct_target front.insn at)) (sym turned.here) good in
+    let good : ¬ HasBadTarget starts (here text done front.insn) =
+    not_here (HasBadTarget starts) text rest done more front turned known.well in
+    let good_here : ¬ IsBadTarget starts (direct_target front.insn front.at) =
+    subst (λ (at : ℕ). ¬ IsBadTarget starts (direct_target front.insn at)) (sym turned.here) good in
     let low : 0x400000 ≤ front.at = omega (arith, is.here) in
     let high : front.at < 0x600000 = omega (arith, is.here, known.size) in
     jump_free law front.insn front.at starts is.valid low high (in_text text (done ++ more) known.size known.whole) good_here
@@ -134,7 +163,8 @@ pub record MovableChecked (text rest : List ℕ) : Type 0 where
   pub known : JumpsKnown text (done ++ more)
   pub none : NoneOf IsUnmovable (places text done)
 
-pub jumps_known : (text : List ℕ) → length text ≤ 2097152 → JumpsLeadWell text → (insns : List Insn) × Reads text text [] insns × JumpsKnown text insns
+pub jumps_known : (text : List ℕ) → length text ≤ 2097152 → JumpsLeadWell text
+    → (insns : List Insn) × Reads text text [] insns × JumpsKnown text insns
 jumps_known text size (of_text, are, well) = (
   are.insns,
   nothing_read text are.insns are.valid are.whole,
@@ -151,23 +181,30 @@ nothing_checked text size well =
 pub unmovable_here : (text rest : List ℕ) (done more : List Insn) (front : Front) (slot : ℕ) → Turn text rest done more front
     → form_of front.insn front.at slot (is_after_0f text front.at) ≡ form.Unmovable → IsUnmovable (here text done front.insn)
 unmovable_here text rest done more front slot turned is =
-    subst (λ (at : ℕ). form_of front.insn at (area_address + slots_size (places text done)) (is_after_0f text at) ≡ form.Unmovable) turned.here
+    subst (λ (at : ℕ). form_of front.insn at (area_address + slots_size (places text done)) (is_after_0f text at)
+    ≡ form.Unmovable) turned.here
     (unmovable_anywhere front.insn front.at slot (area_address + slots_size (places text done)) (is_after_0f text front.at) is)
 
 pub movable_here : (text rest : List ℕ) (done more : List Insn) (front : Front) (slot : ℕ) → Turn text rest done more front
-    → ¬ (form_of front.insn front.at slot (is_after_0f text front.at) ≡ form.Unmovable) → ¬ IsUnmovable (here text done front.insn)
+    → ¬ (form_of front.insn front.at slot (is_after_0f text front.at) ≡ form.Unmovable)
+    → ¬ IsUnmovable (here text done front.insn)
 movable_here text rest done more front slot turned can is =
-    let back : form_of front.insn front.at (area_address + slots_size (places text done)) (is_after_0f text front.at) ≡ form.Unmovable =
-    subst (λ (at : ℕ). form_of front.insn at (area_address + slots_size (places text done)) (is_after_0f text at) ≡ form.Unmovable) (sym turned.here) is in
-    can (unmovable_anywhere front.insn front.at (area_address + slots_size (places text done)) slot (is_after_0f text front.at) back)
+    let back : form_of front.insn front.at (area_address + slots_size (places text done)) (is_after_0f text front.at)
+    ≡ form.Unmovable =
+    subst (λ (at : ℕ). form_of front.insn at (area_address + slots_size (places text done)) (is_after_0f text at)
+    ≡ form.Unmovable) (sym turned.here) is in
+    can (unmovable_anywhere front.insn front.at (area_address + slots_size (places text done)) slot
+    (is_after_0f text front.at) back)
 
 pub first_unmovable : (text rest : List ℕ) (front : Front) (slot : ℕ) → MovableChecked text rest → IsFront text rest front
-    → form_of front.insn front.at slot (is_after_0f text front.at) ≡ form.Unmovable → IsFirstOf (λ of_text. IsUnmovable) text front.at
+    → form_of front.insn front.at slot (is_after_0f text front.at) ≡ form.Unmovable
+    → IsFirstOf (λ of_text. IsUnmovable) text front.at
 first_unmovable text rest front slot checked is cannot =
     let turned = turn text rest checked.done checked.more front checked.reads is in (
       places text (checked.done ++ checked.more),
       placed text rest checked.done checked.more checked.reads,
-      first_here IsUnmovable text rest checked.done checked.more front turned checked.none (unmovable_here text rest checked.done checked.more front slot turned cannot),
+      first_here IsUnmovable text rest checked.done checked.more front turned checked.none
+          (unmovable_here text rest checked.done checked.more front slot turned cannot),
     )
 
 pub one_movable : (text rest : List ℕ) (front : Front) (slot : ℕ) → MovableChecked text rest → IsFront text rest front
@@ -179,12 +216,17 @@ one_movable text rest front slot checked is can =
       more = turned.others;
       reads = turned.reads;
       known = subst (λ (list : List Insn). JumpsKnown text list) (sym turned.all) checked.known;
-      none = none_read IsUnmovable text checked.done front.insn checked.none (movable_here text rest checked.done checked.more front slot turned can);
+      none = none_read IsUnmovable text checked.done front.insn checked.none
+          (movable_here text rest checked.done checked.more front slot turned can);
     }
 
-pub all_movable : (text rest : List ℕ) → MovableChecked text rest → length rest ≡ 0 → (of_text : List Place) × ArePlaces text of_text × NoneOf IsUnmovable of_text
+pub all_movable : (text rest : List ℕ) → MovableChecked text rest → length rest ≡ 0
+    → (of_text : List Place) × ArePlaces text of_text × NoneOf IsUnmovable of_text
 all_movable text rest checked none =
-    let all : checked.done ≡ checked.done ++ checked.more = sym (append-nil checked.done) ∙ ap (λ (list : List Insn). checked.done ++ list) (sym (all_read text rest checked.done checked.more checked.reads none)) in (
+    let all : checked.done ≡ checked.done ++ checked.more =
+    sym (append-nil checked.done)
+    ∙ ap (λ (list : List Insn). checked.done ++ list)
+    (sym (all_read text rest checked.done checked.more checked.reads none)) in (
       places text (checked.done ++ checked.more),
       placed text rest checked.done checked.more checked.reads,
       subst (λ (list : List Insn). NoneOf IsUnmovable (places text list)) all checked.none,

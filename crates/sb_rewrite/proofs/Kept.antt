@@ -21,7 +21,8 @@ use Rattle.sb_forms.proofs.Held.{none_held}
 absent : (bytes : List ℕ) (byte : ℕ) → list_any (λ one. one == byte) bytes ≡ false → ¬ Contains bytes byte
 absent bytes byte none held =
     let here : get_or bytes held.0 0 ≡ byte = get_or_default bytes held.0 0 byte held.1 ∙ held.2 in
-    both_ways (list_any (λ one. one == byte) bytes) none (list_any_at (λ one. one == byte) bytes held.0 0 held.1 (eq-eqb (get_or bytes held.0 0) byte here))
+    both_ways (list_any (λ one. one == byte) bytes) none
+    (list_any_at (λ one. one == byte) bytes held.0 0 held.1 (eq-eqb (get_or bytes held.0 0) byte here))
 
 module _ (insn : Insn) (none : ¬ Contains (spelling insn) 0xD4) where
   -- the opcode is not VMFUNC's
@@ -34,7 +35,8 @@ module _ (insn : Insn) (none : ¬ Contains (spelling insn) 0xD4) where
   no_vmfunc : is_vmfunc insn.op ≡ false
   no_vmfunc = by_op insn.op (λ held.
       none (Contains-append_left (front_bytes insn.lock insn.rex insn.op) _ 0xD4
-      (Contains-append_right (lock_bytes insn.lock) _ 0xD4 (Contains-append_right (option_to_list insn.rex) (op_bytes insn.op) 0xD4 held))))
+      (Contains-append_right (lock_bytes insn.lock) _ 0xD4
+      (Contains-append_right (option_to_list insn.rex) (op_bytes insn.op) 0xD4 held))))
 
   -- nor is it ADD ESP, EDX
   by_modrm : (modrm : Option ℕ) → ¬ Contains (option_to_list modrm) 0xD4 → is_modrm 0xD4 modrm ≡ false
@@ -43,7 +45,8 @@ module _ (insn : Insn) (none : ¬ Contains (spelling insn) 0xD4) where
 
   no_modrm : is_modrm 0xD4 insn.modrm ≡ false
   no_modrm = by_modrm insn.modrm (λ held.
-      none (Contains-append_right (front_bytes insn.lock insn.rex insn.op) _ 0xD4 (Contains-append_left (option_to_list insn.modrm) _ 0xD4 held)))
+      none (Contains-append_right (front_bytes insn.lock insn.rex insn.op) _ 0xD4
+      (Contains-append_left (option_to_list insn.modrm) _ 0xD4 held)))
 
   completes_nothing : (after_0f : Bool) → completes_pattern insn after_0f ≡ false
   completes_nothing after_0f = false_from_ne_true (completes_pattern insn after_0f) (λ is.
@@ -54,12 +57,18 @@ module _ (insn : Insn) (none : ¬ Contains (spelling insn) 0xD4) where
   -- nor does it hold the bytes of VMFUNC
   holds_nothing : HasNoPattern (spelling insn)
   holds_nothing place stands =
-      let past : length (spelling insn) ≤ place + 2 → get_or (spelling insn) (place + 2) 0 ≡ 0 = get_or_past (spelling insn) (place + 2) 0 in
+      let past : length (spelling insn) ≤ place + 2 → get_or (spelling insn) (place + 2) 0 ≡ 0 =
+      get_or_past (spelling insn) (place + 2) 0 in
       let within : place + 2 < length (spelling insn) = grind (arith, stands.2) in
       none (place + 2, within, get_or_default (spelling insn) (place + 2) 0xD4 0 within ∙ stands.2)
 
-pub kept : (insn : Insn) (at slot : ℕ) (after_0f : Bool) → list_any (λ one. one == 0xD4) (spelling insn) ≡ false → form_of insn at slot after_0f ≡ form.Keep
+pub kept : (insn : Insn) (at slot : ℕ) (after_0f : Bool) → list_any (λ one. one == 0xD4) (spelling insn) ≡ false
+    → form_of insn at slot after_0f ≡ form.Keep
 unfolding form_of replacement
 kept insn at slot after_0f none =
     let no_byte = absent (spelling insn) 0xD4 none in
-    rw (no_vmfunc insn no_byte, completes_nothing insn no_byte after_0f, none_held (spelling insn) (holds_nothing insn no_byte)) refl
+    rw (
+      no_vmfunc insn no_byte,
+      completes_nothing insn no_byte after_0f,
+      none_held (spelling insn) (holds_nothing insn no_byte),
+    ) refl

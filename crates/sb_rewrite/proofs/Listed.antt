@@ -29,31 +29,38 @@ none_listed text starts none = record {
 }
 
 pub spelled_push : (insns : List Insn) (insn : Insn) → spelled (insns ++ insn ∷ []) ≡ spelled insns ++ spelling insn
-spelled_push insns insn = flat_map-append spelling insns (insn ∷ []) ∙ ap (λ (bytes : List ℕ). spelled insns ++ bytes) (append-nil (spelling insn))
+spelled_push insns insn =
+    flat_map-append spelling insns (insn ∷ []) ∙ ap (λ (bytes : List ℕ). spelled insns ++ bytes) (append-nil (spelling insn))
 
-pub starts_push : (at : ℕ) (insns : List Insn) (insn : Insn) → starts_from at (insns ++ insn ∷ []) ≡ starts_from at insns ++ (at + length (spelled insns)) ∷ []
+pub starts_push : (at : ℕ) (insns : List Insn) (insn : Insn)
+    → starts_from at (insns ++ insn ∷ []) ≡ starts_from at insns ++ (at + length (spelled insns)) ∷ []
 unfolding starts_from
 starts_push at [] insn =
     let here : at ≡ at + 0 = omega arith in
     ap (λ (place : ℕ). place ∷ []) here
 starts_push at (first ∷ insns) insn =
-    let behind : at + length (spelling first) + length (spelled insns) ≡ at + length (spelling first ++ spelled insns) = omega (arith, length-append (spelling first) (spelled insns)) in
-    ap (λ (later : List ℕ). at ∷ later) (starts_push (at + length (spelling first)) insns insn ∙ ap (λ (place : ℕ). starts_from (at + length (spelling first)) insns ++ place ∷ []) behind)
+    let behind : at + length (spelling first) + length (spelled insns) ≡ at + length (spelling first ++ spelled insns) =
+    omega (arith, length-append (spelling first) (spelled insns)) in
+    ap (λ (later : List ℕ). at ∷ later) (starts_push (at + length (spelling first)) insns insn
+    ∙ ap (λ (place : ℕ). starts_from (at + length (spelling first)) insns ++ place ∷ []) behind)
 
 pub valid_push : (insns : List Insn) (insn : Insn) → AllValid insns → AllValid (insn ∷ []) → AllValid (insns ++ insn ∷ [])
 valid_push [] insn all one = one
 valid_push (first ∷ insns) insn all one = (all.0, valid_push insns insn all.1 one)
 
 -- where the rest of the text stands
-pub place_of : (text rest : List ℕ) (insns : List Insn) → text ≡ spelled insns ++ rest → length text - length rest ≡ length (spelled insns)
+pub place_of : (text rest : List ℕ) (insns : List Insn) → text ≡ spelled insns ++ rest
+    → length text - length rest ≡ length (spelled insns)
 place_of text rest insns whole = omega (arith, ap length whole ∙ length-append (spelled insns) rest)
 
 -- behind the spelling of the first instruction
 behind : (text rest : List ℕ) (insn : Insn) → text ≡ spelling insn ++ rest → drop (length (spelling insn)) text ≡ rest
-behind text rest insn parts = ap (λ (bytes : List ℕ). drop (length (spelling insn)) bytes) parts ∙ drop-append_seam (spelling insn) rest
+behind text rest insn parts =
+    ap (λ (bytes : List ℕ). drop (length (spelling insn)) bytes) parts ∙ drop-append_seam (spelling insn) rest
 
 -- one more instruction begins it
-unfoldable pub more_of : (text rest tail starts : List ℕ) (insn : Insn) → Partway text rest starts → AllValid (insn ∷ []) → rest ≡ spelling insn ++ tail
+unfoldable pub more_of : (text rest tail starts : List ℕ) (insn : Insn) → Partway text rest starts → AllValid (insn ∷ [])
+    → rest ≡ spelling insn ++ tail
     → Partway text tail (starts ++ (text_address + (length text - length rest)) ∷ [])
 more_of text rest tail starts insn partway one parts = record {
   insns = partway.insns ++ insn ∷ [];
@@ -74,17 +81,21 @@ pub one_more : (text rest starts : List ℕ) (insn : Insn) (count : ℕ) → Par
     → Partway text (take (length rest - count) (drop count rest)) (starts ++ (text_address + (length text - length rest)) ∷ [])
 one_more text rest starts insn count partway ((valid, (tail, parts)), is_length) =
     let left : drop count rest ≡ tail = ap (λ (many : ℕ). drop many rest) is_length ∙ behind rest tail insn parts in
-    let all : take (length rest - count) (drop count rest) ≡ tail = rw (← length-drop count rest) (take-length (drop count rest)) ∙ left in
-    subst (λ (bytes : List ℕ). Partway text bytes (starts ++ (text_address + (length text - length rest)) ∷ [])) (sym all) (more_of text rest tail starts insn partway (valid, tt) parts)
+    let all : take (length rest - count) (drop count rest) ≡ tail =
+    rw (← length-drop count rest) (take-length (drop count rest)) ∙ left in
+    subst (λ (bytes : List ℕ). Partway text bytes (starts ++ (text_address + (length text - length rest)) ∷ [])) (sym all)
+    (more_of text rest tail starts insn partway (valid, tt) parts)
 
 -- where nothing is left, they spell the whole text
-pub all_spelled : (text rest starts : List ℕ) (partway : Partway text rest starts) → length rest ≡ 0 → text ≡ spelled partway.insns
+pub all_spelled : (text rest starts : List ℕ) (partway : Partway text rest starts) → length rest ≡ 0
+    → text ≡ spelled partway.insns
 all_spelled text [] starts partway none = partway.whole ∙ append-nil (spelled partway.insns)
 all_spelled text (byte ∷ rest) starts partway none = absurd (omega arith)
 
 -- all of the text is listed
 pub all_listed : (text rest starts : List ℕ) → Partway text rest starts → length rest ≡ 0 → IsListing text starts
-all_listed text rest starts partway none = (partway.insns, partway.valid, all_spelled text rest starts partway none, partway.starts_are)
+all_listed text rest starts partway none =
+    (partway.insns, partway.valid, all_spelled text rest starts partway none, partway.starts_are)
 
 -- no instruction begins what the decoder refuses
 pub none_begins : (rest : List ℕ) (fault : DecodeFault) → Decodes rest (Err fault) → (insn : Insn) → BeginsWith rest insn → ⊥
@@ -93,7 +104,8 @@ none_begins rest Undecoded decodes insn begins =
     decodes [] insn (subst (λ (bytes : List ℕ). BeginsWith bytes insn) (sym (append-nil rest)) begins)
 
 -- what is left begins with no instruction
-pub stuck_behind : (text rest starts : List ℕ) → Partway text rest starts → IsStuck rest → IsUndecodedAt text (text_address + (length text - length rest))
+pub stuck_behind : (text rest starts : List ℕ) → Partway text rest starts → IsStuck rest
+    → IsUndecodedAt text (text_address + (length text - length rest))
 stuck_behind text rest starts partway stuck = (
   partway.insns,
   rest,
@@ -104,6 +116,8 @@ stuck_behind text rest starts partway stuck = (
 )
 
 -- nothing more is decoded
-pub stuck_there : (text rest starts : List ℕ) (fault : DecodeFault) → Partway text rest starts → 0 < length rest → Decodes rest (Err fault)
+pub stuck_there : (text rest starts : List ℕ) (fault : DecodeFault) → Partway text rest starts → 0 < length rest
+    → Decodes rest (Err fault)
     → IsUndecodedAt text (text_address + (length text - length rest))
-stuck_there text rest starts fault partway some decodes = stuck_behind text rest starts partway (some, none_begins rest fault decodes)
+stuck_there text rest starts fault partway some decodes =
+    stuck_behind text rest starts partway (some, none_begins rest fault decodes)

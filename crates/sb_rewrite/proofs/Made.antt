@@ -9,5 +9,6 @@ use Rattle.sb_rewrite.proofs.Ordered.{ordered}
 pub made_ordered : (text : List ℕ) (draft : Output) → IsAllPut text draft → IsOrdered draft
 made_ordered text draft (of_text, are, fits, is) = subst (λ (one : Output). IsOrdered one) (sym is) (ordered text of_text are)
 
-pub left_refused : (text : List ℕ) (draft : Output) (at : ℕ) → IsAllPut text draft → IsLeftAt draft at → Rewrites text (Err (Left at))
+pub left_refused : (text : List ℕ) (draft : Output) (at : ℕ) → IsAllPut text draft → IsLeftAt draft at
+    → Rewrites text (Err (Left at))
 left_refused text draft at (of_text, are, fits, is) left = (of_text, are, fits, subst (λ (one : Output). IsLeftAt one at) is left)

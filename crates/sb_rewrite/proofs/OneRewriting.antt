@@ -14,8 +14,10 @@ use Rattle.sb_rewrite.proofs.FirstAt.{not_first, one_first}
 
 pub one_places : (text : List ℕ) (first second : List Place) → ArePlaces text first → ArePlaces text second → first ≡ second
 one_places text first second one other =
-    let fronts : spelled one.insns ++ [] ≡ spelled other.insns ++ [] = append-nil (spelled one.insns) ∙ sym one.whole ∙ other.whole ∙ sym (append-nil (spelled other.insns)) in
-    let same : one.insns ≡ other.insns = same_insns one.insns other.insns [] [] one.valid other.valid nothing_begins nothing_begins fronts in
+    let fronts : spelled one.insns ++ [] ≡ spelled other.insns ++ [] =
+    append-nil (spelled one.insns) ∙ sym one.whole ∙ other.whole ∙ sym (append-nil (spelled other.insns)) in
+    let same : one.insns ≡ other.insns =
+    same_insns one.insns other.insns [] [] one.valid other.valid nothing_begins nothing_begins fronts in
     one.places_are ∙ ap (λ (insns : List Insn). places text insns) same ∙ sym other.places_are
 
 -- ---- one answer behind another
@@ -25,29 +27,40 @@ abbrev IsOne : (Result Output RewriteRefusal → Type 0) → Type 0
 IsOne Answers = (first second : Result Output RewriteRefusal) → Answers first → Answers second → first ≡ second
 
 -- a refusal at the first place of which something holds, and where there is none another answer
-abbrev Unless : (Place → Type 0) → List Place → (ℕ → RewriteRefusal) → (Result Output RewriteRefusal → Type 0) → Result Output RewriteRefusal → Type 0
-Unless Holds of_text refusal Next answer = ((at : ℕ) × IsFirstAt Holds of_text at × (answer ≡ Err (refusal at))) ⊎ (NoneOf Holds of_text × Next answer)
+abbrev Unless : (Place → Type 0) → List Place → (ℕ → RewriteRefusal) → (Result Output RewriteRefusal → Type 0)
+    → Result Output RewriteRefusal → Type 0
+Unless Holds of_text refusal Next answer =
+    ((at : ℕ) × IsFirstAt Holds of_text at × (answer ≡ Err (refusal at))) ⊎ (NoneOf Holds of_text × Next answer)
 
-one_unless : (Holds : Place → Type 0) (of_text : List Place) (refusal : ℕ → RewriteRefusal) (Next : Result Output RewriteRefusal → Type 0) → IsOne Next → IsOne (Unless Holds of_text refusal Next)
+one_unless : (Holds : Place → Type 0) (of_text : List Place) (refusal : ℕ → RewriteRefusal) (Next : Result Output RewriteRefusal
+    → Type 0)
+    → IsOne Next → IsOne (Unless Holds of_text refusal Next)
 one_unless Holds of_text refusal Next one_next first second (inl (at, here, is)) (inl (at', here', is')) =
     is ∙ ap (λ (place : ℕ). Err (refusal place)) (one_first Holds of_text at at' here here') ∙ sym is'
-one_unless Holds of_text refusal Next one_next first second (inl (at, here, is)) (inr (none, next)) = absurd (not_first Holds of_text at none here)
-one_unless Holds of_text refusal Next one_next first second (inr (none, next)) (inl (at, here, is)) = absurd (not_first Holds of_text at none here)
-one_unless Holds of_text refusal Next one_next first second (inr (none, next)) (inr (none', next')) = one_next first second next next'
+one_unless Holds of_text refusal Next one_next first second (inl (at, here, is)) (inr (none, next)) =
+    absurd (not_first Holds of_text at none here)
+one_unless Holds of_text refusal Next one_next first second (inr (none, next)) (inl (at, here, is)) =
+    absurd (not_first Holds of_text at none here)
+one_unless Holds of_text refusal Next one_next first second (inr (none, next)) (inr (none', next')) =
+    one_next first second next next'
 
 -- ---- what is left at last
 
 Last : List Place → Result Output RewriteRefusal → Type 0
-Last of_text answer = ((at : ℕ) × IsLeftAt (output of_text) at × (answer ≡ Err (Left at))) ⊎ (IsFree (output of_text) × (answer ≡ Ok (output of_text)))
+Last of_text answer =
+    ((at : ℕ) × IsLeftAt (output of_text) at × (answer ≡ Err (Left at)))
+    ⊎ (IsFree (output of_text) × (answer ≡ Ok (output of_text)))
 
-same_pattern : (bytes : List ℕ) (place place' : ℕ) → HasFirstPatternAt bytes place → HasFirstPatternAt bytes place' → place ≡ place'
+same_pattern : (bytes : List ℕ) (place place' : ℕ) → HasFirstPatternAt bytes place → HasFirstPatternAt bytes place'
+    → place ≡ place'
 same_pattern bytes place place' one other =
     let no_less : place < place' → ⊥ = λ less. other.1 place less one.0 in
     let no_more : place' < place → ⊥ = λ less. one.1 place' less other.0 in
     omega arith
 
 one_left : (made : Output) (at at' : ℕ) → IsLeftAt made at → IsLeftAt made at' → at ≡ at'
-one_left made at at' (inl (place, stands, is)) (inl (place', stands', is')) = is ∙ ap (λ (one : ℕ). area_address + one) (same_pattern made.area place place' stands stands') ∙ sym is'
+one_left made at at' (inl (place, stands, is)) (inl (place', stands', is')) =
+    is ∙ ap (λ (one : ℕ). area_address + one) (same_pattern made.area place place' stands stands') ∙ sym is'
 one_left made at at' (inl (place, stands, is)) (inr (none, there)) = absurd (none place stands.0)
 one_left made at at' (inr (none, there)) (inl (place, stands, is)) = absurd (none place stands.0)
 one_left made at at' (inr (none, (place, stands, is))) (inr (none', (place', stands', is'))) =
@@ -59,7 +72,8 @@ not_left made at free (inr (none, (place, stands, is))) = free.1 place stands.0
 
 one_last : (of_text : List Place) → IsOne (Last of_text)
 unfolding Last
-one_last of_text first second (inl (at, left, is)) (inl (at', left', is')) = is ∙ ap (λ (place : ℕ). Err (Left place)) (one_left (output of_text) at at' left left') ∙ sym is'
+one_last of_text first second (inl (at, left, is)) (inl (at', left', is')) =
+    is ∙ ap (λ (place : ℕ). Err (Left place)) (one_left (output of_text) at at' left left') ∙ sym is'
 one_last of_text first second (inl (at, left, is)) (inr (free, made)) = absurd (not_left (output of_text) at free left)
 one_last of_text first second (inr (free, made)) (inl (at, left, is)) = absurd (not_left (output of_text) at free left)
 one_last of_text first second (inr (free, made)) (inr (free', made')) = made ∙ sym made'
@@ -68,40 +82,59 @@ one_last of_text first second (inr (free, made)) (inr (free', made')) = made ∙
 
 -- jumps first, then what can be moved, then room, then the pattern
 Answer : List Place → Result Output RewriteRefusal → Type 0
-Answer of_text = Unless (HasBadTarget (starts_of of_text)) of_text (λ at. BadTarget at) (Unless IsUnmovable of_text (λ at. Unmovable at) (Unless EndsBehindArea of_text (λ at. AreaFull at) (Last of_text)))
+Answer of_text =
+    Unless (HasBadTarget (starts_of of_text)) of_text (λ at. BadTarget at)
+    (Unless IsUnmovable of_text (λ at. Unmovable at) (Unless EndsBehindArea of_text (λ at. AreaFull at) (Last of_text)))
 
 one_of_places : (of_text : List Place) → IsOne (Answer of_text)
 unfolding Answer
 one_of_places of_text =
     one_unless (HasBadTarget (starts_of of_text)) of_text (λ at. BadTarget at) _
-    (one_unless IsUnmovable of_text (λ at. Unmovable at) _ (one_unless EndsBehindArea of_text (λ at. AreaFull at) _ (one_last of_text)))
+    (one_unless IsUnmovable of_text (λ at. Unmovable at) _
+    (one_unless EndsBehindArea of_text (λ at. AreaFull at) _ (one_last of_text)))
 
 -- an answer is for want of a listing, or about the places of the text
 Told : List ℕ → Result Output RewriteRefusal → Type 0
-Told text answer = ((at : ℕ) × IsUndecodedAt text at × (answer ≡ Err (Undecoded at))) ⊎ ((of_text : List Place) × ArePlaces text of_text × Answer of_text answer)
+Told text answer =
+    ((at : ℕ) × IsUndecodedAt text at × (answer ≡ Err (Undecoded at)))
+    ⊎ ((of_text : List Place) × ArePlaces text of_text × Answer of_text answer)
 
 told : (text : List ℕ) (answer : Result Output RewriteRefusal) → answer ≢ Err Memory → Rewrites text answer → Told text answer
 unfolding Told Answer Last
 told text (Ok made) not_memory (of_text, are, fits, is, free) =
-    inr (of_text, are, inr (fits.0.0, inr (fits.0.1, inr (fits.1, inr (subst (λ (one : Output). IsFree one) is free, ap (λ (one : Output). Ok one) is)))))
+    inr (
+      of_text,
+      are,
+      inr (
+        fits.0.0,
+        inr (fits.0.1, inr (fits.1, inr (subst (λ (one : Output). IsFree one) is free, ap (λ (one : Output). Ok one) is))),
+      ),
+    )
 told text (Err (Undecoded at)) not_memory undecoded = inl (at, undecoded, refl)
 told text (Err (BadTarget at)) not_memory (of_text, are, first) = inr (of_text, are, inl (at, first, refl))
 told text (Err (Unmovable at)) not_memory (of_text, are, well, first) = inr (of_text, are, inr (well, inl (at, first, refl)))
-told text (Err (AreaFull at)) not_memory (of_text, are, movable, first) = inr (of_text, are, inr (movable.0, inr (movable.1, inl (at, first, refl))))
-told text (Err (Left at)) not_memory (of_text, are, fits, left) = inr (of_text, are, inr (fits.0.0, inr (fits.0.1, inr (fits.1, inl (at, left, refl)))))
+told text (Err (AreaFull at)) not_memory (of_text, are, movable, first) =
+    inr (of_text, are, inr (movable.0, inr (movable.1, inl (at, first, refl))))
+told text (Err (Left at)) not_memory (of_text, are, fits, left) =
+    inr (of_text, are, inr (fits.0.0, inr (fits.0.1, inr (fits.1, inl (at, left, refl)))))
 told text (Err Memory) not_memory any = absurd (not_memory refl)
 
 -- a text that has places has a listing
 no_place_undecoded : (text : List ℕ) (of_text : List Place) (at : ℕ) → ArePlaces text of_text → IsUndecodedAt text at → ⊥
-no_place_undecoded text of_text at are undecoded = listed_apart text (starts_from text_address are.insns) at (are.insns, are.valid, are.whole, refl) undecoded
+no_place_undecoded text of_text at are undecoded =
+    listed_apart text (starts_from text_address are.insns) at (are.insns, are.valid, are.whole, refl) undecoded
 
 one_told : (text : List ℕ) → IsOne (Told text)
 unfolding Told
-one_told text first second (inl (at, undecoded, is)) (inl (at', undecoded', is')) = is ∙ ap (λ (place : ℕ). Err (Undecoded place)) (one_place text at at' undecoded undecoded') ∙ sym is'
-one_told text first second (inl (at, undecoded, is)) (inr (of_text, are, answer)) = absurd (no_place_undecoded text of_text at are undecoded)
-one_told text first second (inr (of_text, are, answer)) (inl (at, undecoded, is)) = absurd (no_place_undecoded text of_text at are undecoded)
+one_told text first second (inl (at, undecoded, is)) (inl (at', undecoded', is')) =
+    is ∙ ap (λ (place : ℕ). Err (Undecoded place)) (one_place text at at' undecoded undecoded') ∙ sym is'
+one_told text first second (inl (at, undecoded, is)) (inr (of_text, are, answer)) =
+    absurd (no_place_undecoded text of_text at are undecoded)
+one_told text first second (inr (of_text, are, answer)) (inl (at, undecoded, is)) =
+    absurd (no_place_undecoded text of_text at are undecoded)
 one_told text first second (inr (of_text, are, answer)) (inr (of_text', are', answer')) =
-    one_of_places of_text first second answer (subst (λ (list : List Place). Answer list second) (sym (one_places text of_text of_text' are are')) answer')
+    one_of_places of_text first second answer
+    (subst (λ (list : List Place). Answer list second) (sym (one_places text of_text of_text' are are')) answer')
 
 pub one_rewritten : OneRewriting
 one_rewritten text first second one other a b = one_told text first second (told text first one a) (told text second other b)

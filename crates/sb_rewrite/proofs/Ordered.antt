@@ -32,7 +32,8 @@ increasing low [] rising k less = absurd (omega arith)
 increasing low (first ∷ []) rising k less = absurd (omega arith)
 increasing low (first ∷ second ∷ rest) rising zero less = omega (arith, rising.1.0)
 increasing low (first ∷ second ∷ rest) rising (suc k) less =
-    let next : get_or (second ∷ rest) k 0 < get_or (second ∷ rest) (k + 1) 0 = increasing (first + 1) (second ∷ rest) rising.1 k (omega arith) in
+    let next : get_or (second ∷ rest) k 0 < get_or (second ∷ rest) (k + 1) 0 =
+    increasing (first + 1) (second ∷ rest) rising.1 k (omega arith) in
     simp unary_clauses (simp unary_clauses at next)
 
 -- a moved instruction has a main
@@ -56,7 +57,8 @@ by_form one form.Unmovable is = tt
 
 form_has_main : (insn : Insn) (at slot : ℕ) (after_0f : Bool) → has_main (form_of insn at slot after_0f)
 unfolding form_of
-form_has_main insn at slot after_0f = by_form (replacement insn (site_of insn at slot) after_0f) (bytes_of (replacement insn (site_of insn at slot) after_0f)) refl
+form_has_main insn at slot after_0f =
+    by_form (replacement insn (site_of insn at slot) after_0f) (bytes_of (replacement insn (site_of insn at slot) after_0f)) refl
 
 abbrev start_of : Move → ℕ
 start_of one = one.start
@@ -69,44 +71,55 @@ first_start : (made : Form) (insn : Insn) (at slot next : ℕ) (later : List Mov
     → Rising at (map start_of (moves_by made (record { insn = insn; at = at; slot = slot; form = made }) ++ later))
 unfolding Rising
 first_start form.Keep insn at slot next later less rising = rising_from next at (map start_of later) (omega arith) rising
-first_start (form.InPlace bytes) insn at slot next later less rising = rising_from next at (map start_of later) (omega arith) rising
-first_start (form.Moved pre main post) insn at slot next later less rising = (omega arith, rising_from next (at + 1) (map start_of later) (omega arith) rising)
+first_start (form.InPlace bytes) insn at slot next later less rising =
+    rising_from next at (map start_of later) (omega arith) rising
+first_start (form.Moved pre main post) insn at slot next later less rising =
+    (omega arith, rising_from next (at + 1) (map start_of later) (omega arith) rising)
 first_start form.Unmovable insn at slot next later less rising = rising_from next at (map start_of later) (omega arith) rising
 
-first_main : (made : Form) (insn : Insn) (at slot : ℕ) (later : List Move) → has_main made → Rising (slot + length (slot_bytes made)) (map main_of later)
+first_main : (made : Form) (insn : Insn) (at slot : ℕ) (later : List Move) → has_main made
+    → Rising (slot + length (slot_bytes made)) (map main_of later)
     → Rising slot (map main_of (moves_by made (record { insn = insn; at = at; slot = slot; form = made }) ++ later))
 unfolding Rising
 first_main form.Keep insn at slot later some rising = rising_from (slot + 0) slot (map main_of later) (omega arith) rising
-first_main (form.InPlace bytes) insn at slot later some rising = rising_from (slot + 0) slot (map main_of later) (omega arith) rising
+first_main (form.InPlace bytes) insn at slot later some rising =
+    rising_from (slot + 0) slot (map main_of later) (omega arith) rising
 first_main (form.Moved pre main post) insn at slot later some rising = (
   omega arith,
-  rising_from (slot + length (pre ++ (main ++ post))) (slot + length pre + 1) (map main_of later) (omega (arith, some, length-append pre (main ++ post), length-append main post)) rising,
+  rising_from (slot + length (pre ++ (main ++ post))) (slot + length pre + 1) (map main_of later)
+      (omega (arith, some, length-append pre (main ++ post), length-append main post)) rising,
 )
 first_main form.Unmovable insn at slot later some rising = rising_from (slot + 0) slot (map main_of later) (omega arith) rising
 
-starts_rise : (text : List ℕ) (at slot : ℕ) (insns : List Insn) → Rising at (map start_of (flat_map moves_of (places_from text at slot insns)))
+starts_rise : (text : List ℕ) (at slot : ℕ) (insns : List Insn)
+    → Rising at (map start_of (flat_map moves_of (places_from text at slot insns)))
 unfolding places_from Rising
 starts_rise text at slot [] = tt
 starts_rise text at slot (insn ∷ insns) =
     let made : Form = form_of insn at slot (is_after_0f text at) in
     let next : ℕ = at + length (spelling insn) in
     let next_slot : ℕ = slot + length (slot_bytes made) in
-    first_start made insn at slot next (flat_map moves_of (places_from text next next_slot insns)) (omega (arith, some_spelling insn)) (starts_rise text next next_slot insns)
+    first_start made insn at slot next (flat_map moves_of (places_from text next next_slot insns))
+    (omega (arith, some_spelling insn)) (starts_rise text next next_slot insns)
 
-mains_rise : (text : List ℕ) (at slot : ℕ) (insns : List Insn) → Rising slot (map main_of (flat_map moves_of (places_from text at slot insns)))
+mains_rise : (text : List ℕ) (at slot : ℕ) (insns : List Insn)
+    → Rising slot (map main_of (flat_map moves_of (places_from text at slot insns)))
 unfolding places_from Rising
 mains_rise text at slot [] = tt
 mains_rise text at slot (insn ∷ insns) =
     let made : Form = form_of insn at slot (is_after_0f text at) in
     let next : ℕ = at + length (spelling insn) in
     let next_slot : ℕ = slot + length (slot_bytes made) in
-    first_main made insn at slot (flat_map moves_of (places_from text next next_slot insns)) (form_has_main insn at slot (is_after_0f text at)) (mains_rise text next next_slot insns)
+    first_main made insn at slot (flat_map moves_of (places_from text next next_slot insns))
+    (form_has_main insn at slot (is_after_0f text at)) (mains_rise text next next_slot insns)
 
 -- what is made of the instructions of a text is in order
 pub ordered : (text : List ℕ) (of_text : List Place) → ArePlaces text of_text → IsOrdered (output of_text)
 ordered text of_text are =
     let all : IsOrdered (output (places text are.insns)) = record {
-      starts = subst (λ (list : List ℕ). IsStrictlyIncreasing list) (sym (starts_placed text text_address area_address are.insns)) (rises text_address are.insns);
+      starts =
+          subst (λ (list : List ℕ). IsStrictlyIncreasing list) (sym (starts_placed text text_address area_address are.insns))
+          (rises text_address are.insns);
       moved = increasing text_address _ (starts_rise text text_address area_address are.insns);
       mains = increasing area_address _ (mains_rise text text_address area_address are.insns);
     } in

@@ -34,15 +34,19 @@ module _ (key : Move → ℕ) (moves : List Move) (rising : IsStrictlyIncreasing
 
   -- the comparisons rise along the list, as a binary search asks
   comparisons_rise : IsNonDecreasingBy (λ one. ordering_index (nat_cmp (key one) x)) moves
-  comparisons_rise = IsNonDecreasingBy-from_default (λ one. ordering_index (nat_cmp (key one) x)) moves nowhere (λ i j before within.
+  comparisons_rise =
+      IsNonDecreasingBy-from_default (λ one. ordering_index (nat_cmp (key one) x)) moves nowhere (λ i j before within.
       let rise : key (move_at moves i) ≤ key (move_at moves j) = keys_rise i j before within in
       grind (arith, nat_tests))
 
-  pub searched : (found : Result ℕ ℕ) → IsSearchInRange found (length moves) → IsBinarySearchResult (λ one. nat_cmp (key one) x) moves found → Found key moves x found
+  pub searched : (found : Result ℕ ℕ) → IsSearchInRange found (length moves)
+      → IsBinarySearchResult (λ one. nat_cmp (key one) x) moves found → Found key moves x found
   searched (Ok k) within equal = (within, ranked _ x _ (sym (equal nowhere)))
   searched (Err k) within parted = λ j inside is.
-      let lower : j < k → key (move_at moves j) < x = λ less. ranked _ x _ (sym ((parted comparisons_rise).0 j nowhere (omega arith) less)) in
-      let higher : k ≤ j → x < key (move_at moves j) = λ less. ranked _ x _ (sym ((parted comparisons_rise).1 j nowhere less inside)) in
+      let lower : j < k → key (move_at moves j) < x =
+      λ less. ranked _ x _ (sym ((parted comparisons_rise).0 j nowhere (omega arith) less)) in
+      let higher : k ≤ j → x < key (move_at moves j) =
+      λ less. ranked _ x _ (sym ((parted comparisons_rise).1 j nowhere less inside)) in
       grind arith
 
 abbrev pub start_of : Move → ℕ
@@ -52,7 +56,8 @@ abbrev pub main_of : Move → ℕ
 main_of one = one.main
 
 -- a move of the list
-among : (moves : List Move) (k start main : ℕ) → k < length moves → (move_at moves k).start ≡ start → (move_at moves k).main ≡ main → Contains moves (record { start = start; main = main })
+among : (moves : List Move) (k start main : ℕ) → k < length moves → (move_at moves k).start ≡ start
+    → (move_at moves k).main ≡ main → Contains moves (record { start = start; main = main })
 among moves k start main within is_start is_main =
     let one : Move = record { start = start; main = main } in
     (k, within, get_or_default moves k one nowhere within ∙ (λ i. record { start = is_start i; main = is_main i }))
@@ -63,19 +68,23 @@ place_of moves one held = get_or_default moves held.0 nowhere one held.1 ∙ hel
 
 pub found_moved : (moves : List Move) (at : ℕ) (found : Result ℕ ℕ) → Found start_of moves at found
     → IsTrue (is_ok found) ↔ ((main : ℕ) × Contains moves (record { start = at; main = main }))
-found_moved moves at (Ok k) (within, is) = (λ _. ((move_at moves k).main, among moves k at (move_at moves k).main within is refl), λ _. refl)
+found_moved moves at (Ok k) (within, is) =
+    (λ _. ((move_at moves k).main, among moves k at (move_at moves k).main within is refl), λ _. refl)
 found_moved moves at (Err k) none = (
   λ is. absurd (false≢true is),
   λ moved. absurd (none moved.1.0 moved.1.1 (ap start_of (place_of moves (record { start = at; main = moved.0 }) moved.1))),
 )
 
-pub found_main : (moves : List Move) (at k : ℕ) (one : Move) → one ≡ move_at moves k → Found main_of moves at (Ok k) → Contains moves (record { start = one.start; main = at })
+pub found_main : (moves : List Move) (at k : ℕ) (one : Move) → one ≡ move_at moves k → Found main_of moves at (Ok k)
+    → Contains moves (record { start = one.start; main = at })
 found_main moves at k one read (within, is) = among moves k one.start at within (ap start_of (sym read)) is
 
-pub no_main : (moves : List Move) (at k : ℕ) → Found main_of moves at (Err k) → (start : ℕ) → ¬ Contains moves (record { start = start; main = at })
+pub no_main : (moves : List Move) (at k : ℕ) → Found main_of moves at (Err k) → (start : ℕ)
+    → ¬ Contains moves (record { start = start; main = at })
 no_main moves at k none start held = none held.0 held.1 (ap main_of (place_of moves (record { start = start; main = at }) held))
 
 -- what is not in place is what was moved there
-pub moved_original : (made : Output) (at : ℕ) (found : Option ℕ) → ¬ IsInPlace made at → IsMovedTo made at found → IsOriginal made at found
+pub moved_original : (made : Output) (at : ℕ) (found : Option ℕ) → ¬ IsInPlace made at → IsMovedTo made at found
+    → IsOriginal made at found
 moved_original made at (Some start) not_here main = inr main
 moved_original made at None not_here none = λ start runs. ⊎_elim (λ here. not_here here.1) (λ main. none start main) runs

@@ -8,10 +8,12 @@ use Rattle.sb_rewrite.specs.Placing.{Place, place, places_from, places, area_add
 use Rattle.sb_rewrite.specs.Output.{area_bytes, starts_of}
 
 -- the starts are those of the listing
-pub starts_placed : (text : List ℕ) (at slot : ℕ) (insns : List Insn) → starts_of (places_from text at slot insns) ≡ starts_from at insns
+pub starts_placed : (text : List ℕ) (at slot : ℕ) (insns : List Insn)
+    → starts_of (places_from text at slot insns) ≡ starts_from at insns
 unfolding places_from starts_from
 starts_placed text at slot [] = refl
-starts_placed text at slot (insn ∷ insns) = ap (λ (starts : List ℕ). at ∷ starts) (starts_placed text (at + length (spelling insn)) _ insns)
+starts_placed text at slot (insn ∷ insns) =
+    ap (λ (starts : List ℕ). at ∷ starts) (starts_placed text (at + length (spelling insn)) _ insns)
 
 -- how many bytes the slots have
 abbrev pub slots_size : List Place → ℕ
@@ -19,7 +21,8 @@ slots_size of_text = length (flat_map area_bytes of_text)
 
 -- instructions behind others begin where those end, and so do their slots
 pub places_append : (text : List ℕ) (at slot : ℕ) (insns others : List Insn) → places_from text at slot (insns ++ others)
-    ≡ places_from text at slot insns ++ places_from text (at + length (spelled insns)) (slot + slots_size (places_from text at slot insns)) others
+    ≡ places_from text at slot insns ++ places_from text (at + length (spelled insns))
+    (slot + slots_size (places_from text at slot insns)) others
 unfolding places_from
 places_append text at slot [] others =
     let here : at ≡ at + 0 = omega arith in
@@ -30,7 +33,8 @@ places_append text at slot (insn ∷ insns) others =
     let next : ℕ = at + length (spelling insn) in
     let next_slot : ℕ = slot + length (area_bytes first) in
     let later : List Place = places_from text next next_slot insns in
-    let here : next + length (spelled insns) ≡ at + length (spelling insn ++ spelled insns) = omega (arith, length-append (spelling insn) (spelled insns)) in
+    let here : next + length (spelled insns) ≡ at + length (spelling insn ++ spelled insns) =
+    omega (arith, length-append (spelling insn) (spelled insns)) in
     let there : next_slot + slots_size later ≡ slot + length (area_bytes first ++ flat_map area_bytes later) =
     omega (arith, length-append (area_bytes first) (flat_map area_bytes later)) in
     ap (λ (list : List Place). first ∷ list) (places_append text next next_slot insns others)
@@ -40,10 +44,12 @@ places_append text at slot (insn ∷ insns) others =
 abbrev pub here : List ℕ → List Insn → Insn → Place
 here text done insn = place text (text_address + length (spelled done)) (area_address + slots_size (places text done)) insn
 
-pub here_among : (text : List ℕ) (done : List Insn) (insn : Insn) (others : List Insn) → (behind : List Place) × (places text (done ++ insn ∷ others) ≡ places text done ++ here text done insn ∷ behind)
+pub here_among : (text : List ℕ) (done : List Insn) (insn : Insn) (others : List Insn)
+    → (behind : List Place) × (places text (done ++ insn ∷ others) ≡ places text done ++ here text done insn ∷ behind)
 unfolding places_from
 here_among text done insn others = (_, places_append text text_address area_address done (insn ∷ others))
 
-pub here_last : (text : List ℕ) (done : List Insn) (insn : Insn) → places text (done ++ insn ∷ []) ≡ places text done ++ here text done insn ∷ []
+pub here_last : (text : List ℕ) (done : List Insn) (insn : Insn)
+    → places text (done ++ insn ∷ []) ≡ places text done ++ here text done insn ∷ []
 unfolding places_from
 here_last text done insn = places_append text text_address area_address done (insn ∷ [])

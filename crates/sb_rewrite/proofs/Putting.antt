@@ -55,7 +55,8 @@ nothing_put text jumps none = record {
 -- ---- one more instruction
 
 -- an instruction that does not lead far away has a form
-pub form_asks_here : NotInJumps → (text rest : List ℕ) (front : Front) → length text ≤ 2097152 → IsFront text rest front → 0 < length rest
+pub form_asks_here : NotInJumps → (text rest : List ℕ) (front : Front) → length text ≤ 2097152 → IsFront text rest front
+    → 0 < length rest
     → ¬ IsFar (direct_target front.insn front.at) → HasForm front.insn
 form_asks_here law text rest front size is some near =
     let low : 0x400000 ≤ front.at = omega (arith, is.here) in
@@ -67,30 +68,37 @@ module _ (text rest starts : List ℕ) (partway : Partway text rest starts) (fro
   stands_here = is.here ∙ ap (λ (size : ℕ). text_address + size) (place_of text rest partway.insns partway.whole)
 
   -- what holds of it, and of none before it, holds of it first
-  pub first_so_far : (Holds : Place → Type 0) → NoneOf Holds (places text partway.insns) → Holds (here text partway.insns front.insn)
+  pub first_so_far : (Holds : Place → Type 0) → NoneOf Holds (places text partway.insns)
+      → Holds (here text partway.insns front.insn)
       → (of_text : List Place) → ArePlaces text of_text → IsFirstAt Holds of_text front.at
   first_so_far Holds none holds of_text are =
       let read = read_so_far text rest partway.insns of_text partway.valid partway.whole are in
       let turned = turn text rest partway.insns read.0 front read.1 is in
-      subst (λ (list : List Place). IsFirstAt Holds list front.at) (sym read.2) (first_here Holds text rest partway.insns read.0 front turned none holds)
+      subst (λ (list : List Place). IsFirstAt Holds list front.at) (sym read.2)
+      (first_here Holds text rest partway.insns read.0 front turned none holds)
 
   -- what holds of none of the text's does not hold of it
-  pub not_so_far : (Holds : Place → Type 0) (of_text : List Place) → ArePlaces text of_text → NoneOf Holds of_text → ¬ Holds (here text partway.insns front.insn)
+  pub not_so_far : (Holds : Place → Type 0) (of_text : List Place) → ArePlaces text of_text → NoneOf Holds of_text
+      → ¬ Holds (here text partway.insns front.insn)
   not_so_far Holds of_text are none =
       let read = read_so_far text rest partway.insns of_text partway.valid partway.whole are in
       let turned = turn text rest partway.insns read.0 front read.1 is in
       not_here Holds text rest partway.insns read.0 front turned (subst (λ (list : List Place). NoneOf Holds list) read.2 none)
 
 -- what is put is the instruction's place
-pub next_is : (text rest : List ℕ) (draft : Output) (jumps : List Jump) (front : Front) (so_far : PutSoFar text rest draft jumps) → IsFront text rest front
+pub next_is : (text rest : List ℕ) (draft : Output) (jumps : List Jump) (front : Front) (so_far : PutSoFar text rest draft jumps)
+    → IsFront text rest front
     → place text front.at (area_address + length draft.area) front.insn ≡ here text so_far.partway.insns front.insn
 next_is text rest draft jumps front so_far is i =
-    let at : front.at ≡ text_address + length (spelled so_far.partway.insns) = stands_here text rest draft.starts so_far.partway front is in
-    let slot : area_address + length draft.area ≡ area_address + slots_size (places text so_far.partway.insns) = ap (λ (area : List ℕ). area_address + length area) so_far.made.area in
+    let at : front.at ≡ text_address + length (spelled so_far.partway.insns) =
+    stands_here text rest draft.starts so_far.partway front is in
+    let slot : area_address + length draft.area ≡ area_address + slots_size (places text so_far.partway.insns) =
+    ap (λ (area : List ℕ). area_address + length area) so_far.made.area in
     place text (at i) (slot i) front.insn
 
 -- one more place is put
-made_more : (draft : Output) (at : ℕ) (of_text : List Place) (one : Place) → IsMade draft of_text → IsMade (with_place (with_start draft at) one) (of_text ++ one ∷ [])
+made_more : (draft : Output) (at : ℕ) (of_text : List Place) (one : Place) → IsMade draft of_text
+    → IsMade (with_place (with_start draft at) one) (of_text ++ one ∷ [])
 made_more draft at of_text one made = record {
   text = ap (λ (bytes : List ℕ). bytes ++ text_bytes one) made.text ∙ flat_map_more text_bytes [] of_text one;
   area = ap (λ (bytes : List ℕ). bytes ++ area_bytes one) made.area ∙ flat_map_more area_bytes [] of_text one;
@@ -98,46 +106,66 @@ made_more draft at of_text one made = record {
   moves = ap (λ (moves : List Move). moves ++ moves_of one) made.moves ∙ flat_map_more moves_of [] of_text one;
 }
 
-pub one_put : (text rest : List ℕ) (draft new : Output) (jumps more_jumps : List Jump) (front : Front) → PutSoFar text rest draft jumps → IsFront text rest front
+pub one_put : (text rest : List ℕ) (draft new : Output) (jumps more_jumps : List Jump) (front : Front)
+    → PutSoFar text rest draft jumps → IsFront text rest front
     → ¬ IsFar (direct_target front.insn front.at) → more_jumps ≡ jumps ++ jumps_to front.at (direct_target front.insn front.at)
-    → Puts (with_start draft front.at) new (place text front.at (area_address + length draft.area) front.insn) (Ok tt) → PutSoFar text front.rest.now new more_jumps
+    → Puts (with_start draft front.at) new (place text front.at (area_address + length draft.area) front.insn) (Ok tt)
+    → PutSoFar text front.rest.now new more_jumps
 unfolding more_of
 one_put text rest draft new jumps more_jumps front so_far is near more_are (movable, fits, new_is) =
     let done : List Insn = so_far.partway.insns in
     let one : Place = here text done front.insn in
     let at : front.at ≡ one.at = stands_here text rest draft.starts so_far.partway front is in
-    let next : place text front.at (area_address + length draft.area) front.insn ≡ one = next_is text rest draft jumps front so_far is in
+    let next : place text front.at (area_address + length draft.area) front.insn ≡ one =
+    next_is text rest draft jumps front so_far is in
     let last : places text (done ++ front.insn ∷ []) ≡ places text done ++ one ∷ [] = here_last text done front.insn in
-    let new_here : new ≡ with_place (with_start draft front.at) one = new_is ∙ ap (λ (put : Place). with_place (with_start draft front.at) put) next in
+    let new_here : new ≡ with_place (with_start draft front.at) one =
+    new_is ∙ ap (λ (put : Place). with_place (with_start draft front.at) put) next in
     let new_starts : draft.starts ++ (text_address + (length text - length rest)) ∷ [] ≡ new.starts =
     ap (λ (start : ℕ). draft.starts ++ start ∷ []) (sym is.here) ∙ ap (λ (made : Output). made.starts) (sym new_here) in
     let partway : Partway text front.rest.now (draft.starts ++ (text_address + (length text - length rest)) ∷ []) =
     more_of text rest front.rest.now draft.starts front.insn so_far.partway (is.valid, tt) is.parts in
     record {
-      partway = record { insns = done ++ front.insn ∷ []; valid = partway.valid; whole = partway.whole; starts_are = sym new_starts ∙ partway.starts_are };
+      partway =
+          record {
+            insns = done ++ front.insn ∷ [];
+            valid = partway.valid;
+            whole = partway.whole;
+            starts_are = sym new_starts
+                ∙ partway.starts_are;
+          };
       made =
           subst (λ (made : Output). IsMade made (places text (done ++ front.insn ∷ []))) (sym new_here)
-          (subst (λ (of_text : List Place). IsMade (with_place (with_start draft front.at) one) of_text) (sym last) (made_more draft front.at (places text done) one so_far.made));
+          (subst (λ (of_text : List Place). IsMade (with_place (with_start draft front.at) one) of_text) (sym last)
+          (made_more draft front.at (places text done) one so_far.made));
       jumps_are =
           more_are
           ∙ (λ i. so_far.jumps_are i ++ jumps_to (at i) (direct_target front.insn (at i)))
           ∙ flat_map_more jumps_of [] (places text done) one
           ∙ ap (λ (of_text : List Place). flat_map jumps_of of_text) (sym last);
-      near = none_read HasFarTarget text done front.insn so_far.near (subst (λ (place : ℕ). ¬ IsFar (direct_target front.insn place)) at near);
-      movable = none_read IsUnmovable text done front.insn so_far.movable (subst (λ (put : Place). ¬ IsUnmovable put) next movable);
+      near = none_read HasFarTarget text done front.insn so_far.near
+          (subst (λ (place : ℕ). ¬ IsFar (direct_target front.insn place)) at near);
+      movable =
+          none_read IsUnmovable text done front.insn so_far.movable (subst (λ (put : Place). ¬ IsUnmovable put) next movable);
       fits = none_read EndsBehindArea text done front.insn so_far.fits (subst (λ (put : Place). ¬ EndsBehindArea put) next fits);
     }
 
 -- ---- all instructions
 
-module _ (text rest : List ℕ) (draft : Output) (jumps : List Jump) (so_far : PutSoFar text rest draft jumps) (none : length rest ≡ 0) where
+module _ (text rest : List ℕ) (draft : Output) (jumps : List Jump) (so_far : PutSoFar text rest draft jumps)
+    (none : length rest ≡ 0) where
   -- the starts come in order
   pub rising_so_far : IsStrictlyIncreasing draft.starts
   rising_so_far = rising_starts text draft.starts (all_listed text rest draft.starts so_far.partway none)
 
   pub all_placed : ArePlaces text (places text so_far.partway.insns)
   all_placed =
-      record { insns = so_far.partway.insns; valid = so_far.partway.valid; whole = all_spelled text rest draft.starts so_far.partway none; places_are = refl }
+      record {
+        insns = so_far.partway.insns;
+        valid = so_far.partway.valid;
+        whole = all_spelled text rest draft.starts so_far.partway none;
+        places_are = refl;
+      }
 
   pub starts_are_placed : draft.starts ≡ starts_of (places text so_far.partway.insns)
   starts_are_placed = so_far.partway.starts_are ∙ sym (starts_placed text text_address area_address so_far.partway.insns)
@@ -146,10 +174,17 @@ module _ (text rest : List ℕ) (draft : Output) (jumps : List Jump) (so_far : P
   all_put checked =
       let of_text : List Place = places text so_far.partway.insns in
       let lead : NoneOf (HasBadTarget draft.starts) of_text =
-      all_lead draft.starts of_text so_far.near (λ jump held. All-contains (λ (one : Jump). Contains draft.starts one.target) jumps jump checked
+      all_lead draft.starts of_text so_far.near
+      (λ jump held. All-contains (λ (one : Jump). Contains draft.starts one.target) jumps jump checked
       (subst (λ (list : List Jump). Contains list jump) (sym so_far.jumps_are) held)) in (
         of_text,
         all_placed,
         ((subst (λ (list : List ℕ). NoneOf (HasBadTarget list) of_text) starts_are_placed lead, so_far.movable), so_far.fits),
-        (λ i. record { text = so_far.made.text i; area = so_far.made.area i; starts = starts_are_placed i; edits = so_far.made.edits i; moves = so_far.made.moves i }),
+        (λ i. record {
+          text = so_far.made.text i;
+          area = so_far.made.area i;
+          starts = starts_are_placed i;
+          edits = so_far.made.edits i;
+          moves = so_far.made.moves i;
+        }),
       )

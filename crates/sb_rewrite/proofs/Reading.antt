@@ -23,13 +23,16 @@ pub nothing_read : (text : List ℕ) (insns : List Insn) → AllValid insns → 
 nothing_read text insns valid whole = record { valid = valid; whole = whole; rest_is = whole }
 
 -- the places of the text's instructions
-pub placed : (text rest : List ℕ) (done more : List Insn) → Reads text rest done more → ArePlaces text (places text (done ++ more))
+pub placed : (text rest : List ℕ) (done more : List Insn) → Reads text rest done more
+    → ArePlaces text (places text (done ++ more))
 placed text rest done more reads = record { insns = done ++ more; valid = reads.valid; whole = reads.whole; places_are = refl }
 
 -- where the rest begins
-pub rest_begins : (text rest : List ℕ) (done more : List Insn) → Reads text rest done more → length text - length rest ≡ length (spelled done)
+pub rest_begins : (text rest : List ℕ) (done more : List Insn) → Reads text rest done more
+    → length text - length rest ≡ length (spelled done)
 rest_begins text rest done more reads =
-    let size : length text ≡ length (spelled done) + length (spelled more) = ap length (reads.whole ∙ flat_map-append spelling done more) ∙ length-append (spelled done) (spelled more) in
+    let size : length text ≡ length (spelled done) + length (spelled more) =
+    ap length (reads.whole ∙ flat_map-append spelling done more) ∙ length-append (spelled done) (spelled more) in
     omega (arith, ap length reads.rest_is)
 
 valid_first : (done : List Insn) (insn : Insn) (others : List Insn) → AllValid (done ++ insn ∷ others) → IsValid insn
@@ -37,7 +40,8 @@ valid_first [] insn others valid = valid.0
 valid_first (first ∷ done) insn others valid = valid_first done insn others valid.1
 
 -- in front of a rest that is not empty an instruction stands
-pub never_stuck : (text rest : List ℕ) (done more : List Insn) → Reads text rest done more → 0 < length rest → ((insn : Insn) → ¬ BeginsWith rest insn) → ⊥
+pub never_stuck : (text rest : List ℕ) (done more : List Insn) → Reads text rest done more → 0 < length rest
+    → ((insn : Insn) → ¬ BeginsWith rest insn) → ⊥
 never_stuck text rest done [] reads some none = omega (arith, ap length reads.rest_is)
 never_stuck text rest done (insn ∷ others) reads some none =
     let valid : IsValid insn = valid_first done insn others reads.valid in
@@ -51,7 +55,8 @@ pub record Turn (text rest : List ℕ) (done more : List Insn) (front : Front) :
   pub all : (done ++ front.insn ∷ []) ++ others ≡ done ++ more
   pub here : front.at ≡ text_address + length (spelled done)
 
-next_read : (text rest behind : List ℕ) (done : List Insn) (insn : Insn) (others : List Insn) → Reads text rest done (insn ∷ others) → rest ≡ spelling insn ++ behind → Reads text behind (done ++ insn ∷ []) others
+next_read : (text rest behind : List ℕ) (done : List Insn) (insn : Insn) (others : List Insn)
+    → Reads text rest done (insn ∷ others) → rest ≡ spelling insn ++ behind → Reads text behind (done ++ insn ∷ []) others
 next_read text rest behind done insn others reads parts =
     let all : done ++ insn ∷ others ≡ (done ++ insn ∷ []) ++ others = sym (append_assoc done (insn ∷ []) others) in
     record {
@@ -60,13 +65,21 @@ next_read text rest behind done insn others reads parts =
       rest_is = append_cancel_left (spelling insn) behind (spelled others) (sym parts ∙ reads.rest_is);
     }
 
-pub turn : (text rest : List ℕ) (done more : List Insn) (front : Front) → Reads text rest done more → IsFront text rest front → Turn text rest done more front
+pub turn : (text rest : List ℕ) (done more : List Insn) (front : Front) → Reads text rest done more → IsFront text rest front
+    → Turn text rest done more front
 turn text rest done [] front reads is =
-    absurd (omega (arith, some_spelling front.insn, ap length (sym reads.rest_is ∙ is.parts) ∙ length-append (spelling front.insn) front.rest.now))
+    absurd (omega (
+      arith,
+      some_spelling front.insn,
+      ap length (sym reads.rest_is ∙ is.parts)
+          ∙ length-append (spelling front.insn) front.rest.now,
+    ))
 turn text rest done (first ∷ others) front reads is =
     let valid : IsValid first = valid_first done first others reads.valid in
-    let same : first ≡ front.insn = one_begins rest first front.insn (valid, (spelled others, reads.rest_is)) (is.valid, (front.rest.now, is.parts)) in
-    let reads_it : Reads text rest done (front.insn ∷ others) = subst (λ (insn : Insn). Reads text rest done (insn ∷ others)) same reads in
+    let same : first ≡ front.insn =
+    one_begins rest first front.insn (valid, (spelled others, reads.rest_is)) (is.valid, (front.rest.now, is.parts)) in
+    let reads_it : Reads text rest done (front.insn ∷ others) =
+    subst (λ (insn : Insn). Reads text rest done (insn ∷ others)) same reads in
     record {
       others = others;
       more_is = ap (λ (insn : Insn). insn ∷ others) same;
@@ -84,20 +97,34 @@ all_read text rest done (insn ∷ others) reads none =
 -- ---- a front of a text
 
 -- the instructions of a text begin with those that spell a front of it
-goes_on : (done insns : List Insn) (rest : List ℕ) → AllValid done → AllValid insns → spelled insns ≡ spelled done ++ rest → (more : List Insn) × (insns ≡ done ++ more)
+goes_on : (done insns : List Insn) (rest : List ℕ) → AllValid done → AllValid insns → spelled insns ≡ spelled done ++ rest
+    → (more : List Insn) × (insns ≡ done ++ more)
 goes_on [] insns rest valid valid' same = (insns, refl)
 goes_on (first ∷ done) [] rest valid valid' same =
-    absurd (omega (arith, some_spelling first, ap length same, length-append (spelling first ++ spelled done) rest, length-append (spelling first) (spelled done)))
+    absurd (omega (
+      arith,
+      some_spelling first,
+      ap length same,
+      length-append (spelling first ++ spelled done) rest,
+      length-append (spelling first) (spelled done),
+    ))
 goes_on (first ∷ done) (insn ∷ insns) rest valid valid' same =
-    let parts : spelled (insn ∷ insns) ≡ spelling first ++ (spelled done ++ rest) = same ∙ append_assoc (spelling first) (spelled done) rest in
-    let is : insn ≡ first = one_begins (spelled (insn ∷ insns)) insn first (valid'.0, (spelled insns, refl)) (valid.0, (spelled done ++ rest, parts)) in
+    let parts : spelled (insn ∷ insns) ≡ spelling first ++ (spelled done ++ rest) =
+    same ∙ append_assoc (spelling first) (spelled done) rest in
+    let is : insn ≡ first =
+    one_begins (spelled (insn ∷ insns)) insn first (valid'.0, (spelled insns, refl)) (
+      valid.0,
+      (spelled done ++ rest, parts),
+    ) in
     let behind : spelled insns ≡ spelled done ++ rest =
-    append_cancel_left (spelling first) (spelled insns) (spelled done ++ rest) (ap (λ (one : Insn). spelling one ++ spelled insns) (sym is) ∙ parts) in
+    append_cancel_left (spelling first) (spelled insns) (spelled done ++ rest)
+    (ap (λ (one : Insn). spelling one ++ spelled insns) (sym is) ∙ parts) in
     let later = goes_on done insns rest valid.1 valid'.1 behind in
     (later.0, λ i. is i ∷ later.1 i)
 
 -- so a text that is listed is read so far
-pub read_so_far : (text rest : List ℕ) (done : List Insn) (of_text : List Place) → AllValid done → text ≡ spelled done ++ rest → ArePlaces text of_text
+pub read_so_far : (text rest : List ℕ) (done : List Insn) (of_text : List Place) → AllValid done → text ≡ spelled done ++ rest
+    → ArePlaces text of_text
     → (more : List Insn) × Reads text rest done more × (of_text ≡ places text (done ++ more))
 read_so_far text rest done of_text valid front are =
     let found = goes_on done are.insns rest valid are.valid (sym are.whole ∙ front) in
@@ -106,7 +133,8 @@ read_so_far text rest done of_text valid front are =
       record {
         valid = subst (λ (list : List Insn). AllValid list) found.1 are.valid;
         whole = whole;
-        rest_is = append_cancel_left (spelled done) rest (spelled found.0) (sym front ∙ whole ∙ flat_map-append spelling done found.0);
+        rest_is =
+            append_cancel_left (spelled done) rest (spelled found.0) (sym front ∙ whole ∙ flat_map-append spelling done found.0);
       },
       are.places_are ∙ ap (λ (list : List Insn). places text list) found.1,
     )

@@ -23,35 +23,43 @@ use Rattle.sb_rewrite.proofs.Putting.{PutSoFar, stands_here, next_is, first_so_f
 -- ---- what putting meets
 
 -- an instruction that leads far away is among those of the text
-far_refused : (text rest : List ℕ) (draft : Output) (jumps : List Jump) (front : Front) → PutSoFar text rest draft jumps → IsFront text rest front → length text ≤ 2097152
+far_refused : (text rest : List ℕ) (draft : Output) (jumps : List Jump) (front : Front) → PutSoFar text rest draft jumps
+    → IsFront text rest front → length text ≤ 2097152
     → IsFar (direct_target front.insn front.at) → ¬ JumpsLeadWell text
 far_refused text rest draft jumps front so_far is size far (of_text, are, well) =
     let at = stands_here text rest draft.starts so_far.partway front is in
     let bad : IsBadTarget (starts_of (places text are.insns)) (direct_target front.insn front.at) =
-    far_is_bad (starts_of (places text are.insns)) (direct_target front.insn front.at) (in_text text are.insns size are.whole) far in
+    far_is_bad (starts_of (places text are.insns)) (direct_target front.insn front.at)
+    (in_text text are.insns size are.whole) far in
     let bad_here : HasBadTarget (starts_of of_text) (here text so_far.partway.insns front.insn) =
     subst (λ (list : List Place). HasBadTarget (starts_of list) (here text so_far.partway.insns front.insn)) (sym are.places_are)
     (subst (λ (place : ℕ). IsBadTarget (starts_of (places text are.insns)) (direct_target front.insn place)) at bad) in
     not_so_far text rest draft.starts so_far.partway front is (HasBadTarget (starts_of of_text)) of_text are well bad_here
 
-pub jump_refused : (text rest : List ℕ) (draft : Output) (jumps new : List Jump) (front : Front) (refusal : RewriteRefusal) → PutSoFar text rest draft jumps → IsFront text rest front
+pub jump_refused : (text rest : List ℕ) (draft : Output) (jumps new : List Jump) (front : Front) (refusal : RewriteRefusal)
+    → PutSoFar text rest draft jumps → IsFront text rest front
     → length text ≤ 2097152 → Remembers jumps new front (Err refusal) → IsPutRefusal text refusal
 jump_refused text rest draft jumps new front (Undecoded at) so_far is size remembers = absurd remembers
-jump_refused text rest draft jumps new front (BadTarget at) so_far is size remembers = far_refused text rest draft jumps front so_far is size remembers
+jump_refused text rest draft jumps new front (BadTarget at) so_far is size remembers =
+    far_refused text rest draft jumps front so_far is size remembers
 jump_refused text rest draft jumps new front (Unmovable at) so_far is size remembers = absurd remembers
 jump_refused text rest draft jumps new front (AreaFull at) so_far is size remembers = absurd remembers
 jump_refused text rest draft jumps new front (Left at) so_far is size remembers = remembers
 jump_refused text rest draft jumps new front Memory so_far is size remembers = tt
 
 -- nothing is decoded
-pub front_refused : (text rest : List ℕ) (draft : Output) (jumps : List Jump) (refusal : RewriteRefusal) → PutSoFar text rest draft jumps → 0 < length rest
+pub front_refused : (text rest : List ℕ) (draft : Output) (jumps : List Jump) (refusal : RewriteRefusal)
+    → PutSoFar text rest draft jumps → 0 < length rest
     → DecodesFront text rest (Err refusal) → IsPutRefusal text refusal
 front_refused text rest draft jumps refusal so_far some (is, none) =
-    subst (λ (one : RewriteRefusal). IsPutRefusal text one) (sym is) (stuck_behind text rest draft.starts so_far.partway (some, none))
+    subst (λ (one : RewriteRefusal). IsPutRefusal text one) (sym is)
+    (stuck_behind text rest draft.starts so_far.partway (some, none))
 
 -- an instruction is refused whose place cannot be put
-pub put_refused : (text rest : List ℕ) (draft new : Output) (jumps : List Jump) (front : Front) (refusal : RewriteRefusal) → PutSoFar text rest draft jumps → IsFront text rest front
-    → Puts (with_start draft front.at) new (place text front.at (area_address + length draft.area) front.insn) (Err refusal) → IsPutRefusal text refusal
+pub put_refused : (text rest : List ℕ) (draft new : Output) (jumps : List Jump) (front : Front) (refusal : RewriteRefusal)
+    → PutSoFar text rest draft jumps → IsFront text rest front
+    → Puts (with_start draft front.at) new (place text front.at (area_address + length draft.area) front.insn) (Err refusal)
+    → IsPutRefusal text refusal
 put_refused text rest draft new jumps front (Undecoded at) so_far is puts = absurd puts
 put_refused text rest draft new jumps front (BadTarget at) so_far is puts = absurd puts
 put_refused text rest draft new jumps front (Unmovable at) so_far is puts = λ movable.
@@ -65,15 +73,18 @@ put_refused text rest draft new jumps front (Left at) so_far is puts = absurd pu
 put_refused text rest draft new jumps front Memory so_far is puts = tt
 
 -- a jump that was remembered leads to no start
-pub check_refused : (text rest : List ℕ) (draft : Output) (jumps : List Jump) (refusal : RewriteRefusal) → PutSoFar text rest draft jumps → length rest ≡ 0
+pub check_refused : (text rest : List ℕ) (draft : Output) (jumps : List Jump) (refusal : RewriteRefusal)
+    → PutSoFar text rest draft jumps → length rest ≡ 0
     → ChecksJumps jumps draft.starts (Err refusal) → IsPutRefusal text refusal
 check_refused text rest draft jumps (Undecoded at) so_far none checks = absurd checks
 check_refused text rest draft jumps (BadTarget at) so_far none (jump, held, no_start) = λ leads.
     let of_text : List Place = places text so_far.partway.insns in
     let well : LeadsWell of_text =
-    subst (λ (list : List Place). LeadsWell list) (one_places text leads.0 of_text leads.1 (all_placed text rest draft jumps so_far none)) leads.2 in
+    subst (λ (list : List Place). LeadsWell list)
+    (one_places text leads.0 of_text leads.1 (all_placed text rest draft jumps so_far none)) leads.2 in
     one_astray draft.starts of_text jump (subst (λ (list : List Jump). Contains list jump) so_far.jumps_are held) no_start
-    (subst (λ (list : List ℕ). NoneOf (HasBadTarget list) of_text) (sym (starts_are_placed text rest draft jumps so_far none)) well)
+    (subst (λ (list : List ℕ). NoneOf (HasBadTarget list) of_text)
+    (sym (starts_are_placed text rest draft jumps so_far none)) well)
 check_refused text rest draft jumps (Unmovable at) so_far none checks = absurd checks
 check_refused text rest draft jumps (AreaFull at) so_far none checks = absurd checks
 check_refused text rest draft jumps (Left at) so_far none checks = checks
@@ -83,9 +94,11 @@ check_refused text rest draft jumps Memory so_far none checks = absurd checks
 
 -- the text's jumps lead well, whichever list of its places is taken
 well_placed : (text : List ℕ) (of_text : List Place) → JumpsLeadWell text → ArePlaces text of_text → LeadsWell of_text
-well_placed text of_text (others, are, well) are_too = subst (λ (list : List Place). LeadsWell list) (one_places text others of_text are are_too) well
+well_placed text of_text (others, are, well) are_too =
+    subst (λ (list : List Place). LeadsWell list) (one_places text others of_text are are_too) well
 
-pub unmovable_first : (text : List ℕ) (refusal : RewriteRefusal) → JumpsLeadWell text → ChecksMovable text (Err refusal) → Rewrites text (Err refusal)
+pub unmovable_first : (text : List ℕ) (refusal : RewriteRefusal) → JumpsLeadWell text → ChecksMovable text (Err refusal)
+    → Rewrites text (Err refusal)
 unmovable_first text (Undecoded at) well checks = absurd checks
 unmovable_first text (BadTarget at) well checks = absurd checks
 unmovable_first text (Unmovable at) well (of_text, are, first) = (of_text, are, well_placed text of_text well are, first)
@@ -94,10 +107,12 @@ unmovable_first text (Left at) well checks = absurd checks
 unmovable_first text Memory well checks = absurd checks
 
 -- of what putting meets, only a full area is left, or want of memory
-pub area_first : (text starts : List ℕ) (refusal : RewriteRefusal) → IsListing text starts → JumpsLeadWell text → AllMovable text → IsPutRefusal text refusal → Rewrites text (Err refusal)
+pub area_first : (text starts : List ℕ) (refusal : RewriteRefusal) → IsListing text starts → JumpsLeadWell text
+    → AllMovable text → IsPutRefusal text refusal → Rewrites text (Err refusal)
 area_first text starts (Undecoded at) listed well movable put = absurd (listed_apart text starts at listed put)
 area_first text starts (BadTarget at) listed well movable put = absurd (put well)
 area_first text starts (Unmovable at) listed well movable put = absurd (put movable)
-area_first text starts (AreaFull at) listed well (of_text, are, none) put = (of_text, are, (well_placed text of_text well are, none), put of_text are)
+area_first text starts (AreaFull at) listed well (of_text, are, none) put =
+    (of_text, are, (well_placed text of_text well are, none), put of_text are)
 area_first text starts (Left at) listed well movable put = absurd put
 area_first text starts Memory listed well movable put = tt

@@ -9,7 +9,8 @@ use Rattle.std.specs.Ordering.{nat_cmp}
 use Rattle.std.specs.Result.{is_ok}
 
 -- an earlier start is no greater
-pub in_order : (starts : List ℕ) → IsStrictlyIncreasing starts → (i j : ℕ) → i ≤ j → j < length starts → get_or starts i 0 ≤ get_or starts j 0
+pub in_order : (starts : List ℕ) → IsStrictlyIncreasing starts → (i j : ℕ) → i ≤ j → j < length starts
+    → get_or starts i 0 ≤ get_or starts j 0
 in_order starts rising i zero before within =
     let same : i ≡ 0 = omega arith in
     omega (arith, ap (λ (k : ℕ). get_or starts k 0) same)
@@ -21,7 +22,8 @@ in_order starts rising i (suc j) before within =
     (λ other. omega (arith, in_order starts rising i j (omega arith) (omega arith)))
     (cases_eq i (suc j))
 
-pub found_start : (starts : List ℕ) (at : ℕ) (found : Result ℕ ℕ) → IsStrictlyIncreasing starts → IsBinarySearchResult (λ y. nat_cmp y at) starts found → IsTrue (is_ok found) ↔ Contains starts at
+pub found_start : (starts : List ℕ) (at : ℕ) (found : Result ℕ ℕ) → IsStrictlyIncreasing starts
+    → IsBinarySearchResult (λ y. nat_cmp y at) starts found → IsTrue (is_ok found) ↔ Contains starts at
 found_start starts at (Ok index) rising answer =
     let here = searched starts at (Ok index) answer (in_order starts rising) in
     (λ is. (index, here.0, get_or_default starts index at 0 here.0 ∙ here.1), λ held. refl)

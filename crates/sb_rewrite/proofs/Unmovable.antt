@@ -22,12 +22,14 @@ is_unmovable _ = false
 abbrev Alike : Replacement → Replacement → Type 0
 Alike one other = is_unmovable one ≡ is_unmovable other
 
-by_test : (test : Bool) (one one' other other' : Replacement) → Alike one one' → Alike other other' → Alike (cond test one other) (cond test one' other')
+by_test : (test : Bool) (one one' other other' : Replacement) → Alike one one' → Alike other other'
+    → Alike (cond test one other) (cond test one' other')
 by_test true one one' other other' a b = a
 by_test false one one' other other' a b = b
 
 module _ (insn : Insn) (site site' : Site) where
-  by_imm : (instruction : Instruction) (value : Imm) → Alike (form_by instruction insn site value) (form_by instruction insn site' value)
+  by_imm : (instruction : Instruction) (value : Imm)
+      → Alike (form_by instruction insn site value) (form_by instruction insn site' value)
   unfolding wide_constant_form address_and_constant_form address_form constant_form
   by_imm instruction imm.None = refl
   by_imm instruction (imm.I8 value) = refl
@@ -47,13 +49,15 @@ module _ (insn : Insn) (site site' : Site) where
 
   by_held : Alike (held_form insn site) (held_form insn site')
   unfolding held_form
-  by_held = by_test (is_exchangeable insn) _ _ _ _ refl (by_test (begins_at_modrm insn) _ _ _ _ refl (by_map (instruction_of insn)))
+  by_held =
+      by_test (is_exchangeable insn) _ _ _ _ refl (by_test (begins_at_modrm insn) _ _ _ _ refl (by_map (instruction_of insn)))
 
   by_table : (after_0f : Bool) → Alike (replacement insn site after_0f) (replacement insn site' after_0f)
   unfolding replacement
   by_table after_0f =
       by_test (is_vmfunc insn.op) _ _ _ _ refl
-      (by_test (completes_pattern insn after_0f) _ _ _ _ refl (by_test (not (holds_pattern (spelling insn))) _ _ _ _ refl by_held))
+      (by_test (completes_pattern insn after_0f) _ _ _ _ refl
+      (by_test (not (holds_pattern (spelling insn))) _ _ _ _ refl by_held))
 
 of_form : (one : Replacement) → bytes_of one ≡ form.Unmovable → is_unmovable one ≡ true
 of_form Keep is = absurd cc
@@ -68,8 +72,10 @@ to_form (Moved pre main post) is = absurd (false≢true is)
 to_form Unmovable is = refl
 
 -- what cannot be moved with one slot cannot with another
-pub unmovable_anywhere : (insn : Insn) (at slot slot' : ℕ) (after_0f : Bool) → form_of insn at slot after_0f ≡ form.Unmovable → form_of insn at slot' after_0f ≡ form.Unmovable
+pub unmovable_anywhere : (insn : Insn) (at slot slot' : ℕ) (after_0f : Bool) → form_of insn at slot after_0f ≡ form.Unmovable
+    → form_of insn at slot' after_0f ≡ form.Unmovable
 unfolding form_of
 unmovable_anywhere insn at slot slot' after_0f is =
     to_form (replacement insn (site_of insn at slot') after_0f)
-    (sym (by_table insn (site_of insn at slot) (site_of insn at slot') after_0f) ∙ of_form (replacement insn (site_of insn at slot) after_0f) is)
+    (sym (by_table insn (site_of insn at slot) (site_of insn at slot') after_0f)
+    ∙ of_form (replacement insn (site_of insn at slot) after_0f) is)

@@ -6,7 +6,7 @@ use Rattle.sb_abi.specs.declared.space.TheConstants.{TEXT_ADDRESS}
 use Rattle.sb_insn.specs.declared.insn.Insn.{Insn}
 use Rattle.sb_insn.specs.Spelling.{spelling}
 use Rattle.sb_insn.specs.Grammar.{IsValid, BeginsWith}
-pub use Rattle.sb_forms.specs.Table.{spelled}
+pub use Rattle.sb_forms.specs.Table.{spelled_bytes}
 use Rattle.sb_rewrite.specs.declared.refusal.ListRefusal.{ListRefusal}
 use Rattle.sb_rewrite.specs.declared.refusal.ListRefusal.TheVariants.{Undecoded, Memory}
 
@@ -24,7 +24,8 @@ starts_from at (insn ∷ insns) = at ∷ starts_from (at + length (spelling insn
 
 -- instructions spell the text from its first byte to its last, and these are their starts
 abbrev pub IsListing : List ℕ → List ℕ → Type 0
-IsListing text starts = (insns : List Insn) × AllValid insns × (text ≡ spelled insns) × (starts ≡ starts_from text_address insns)
+IsListing text starts =
+    (insns : List Insn) × AllValid insns × (text ≡ spelled_bytes insns) × (starts ≡ starts_from text_address insns)
 
 -- bytes are left, and no instruction begins them
 abbrev pub IsStuck : List ℕ → Type 0
@@ -33,7 +34,8 @@ IsStuck rest = (0 < length rest) × ((insn : Insn) → ¬ BeginsWith rest insn)
 -- instructions spell a front of the text, and behind it, at this address, no whole instruction stands
 abbrev pub IsUndecodedAt : List ℕ → ℕ → Type 0
 IsUndecodedAt text at =
-    (insns : List Insn) × (rest : List ℕ) × AllValid insns × (text ≡ spelled insns ++ rest) × IsStuck rest × (at ≡ text_address + length (spelled insns))
+    (insns : List Insn) × (rest : List ℕ) × AllValid insns × (text ≡ spelled_bytes insns ++ rest) × IsStuck rest
+    × (at ≡ text_address + length (spelled_bytes insns))
 
 -- The listing of the text, or where it has none; the cases exclude each other.
 abbrev pub Lists : List ℕ → Result (List ℕ) ListRefusal → Type 0

@@ -4,14 +4,14 @@ use Rattle.std.specs.List.Sorted.{IsStrictlyIncreasing}
 use Rattle.sb_insn.specs.Spelling.{spelling}
 use Rattle.sb_forms.specs.declared.answer.Form.{Form}
 use Rattle.sb_forms.specs.declared.answer.Form.TheVariants as form
-use Rattle.sb_forms.specs.Pieces.{jump}
+use Rattle.sb_forms.specs.Pieces.{jump_insn}
 use Rattle.sb_rewrite.specs.declared.edit.Edit.{Edit}
 use Rattle.sb_rewrite.specs.declared.edit.Move.{Move}
 use Rattle.sb_rewrite.specs.Placing.{Place, slot_bytes}
 
 -- a jump to the slot, and NOPs for the further bytes of the instruction
 abbrev pub jump_bytes : Place → List ℕ
-jump_bytes place = spelling (jump place.at place.slot) ++ replicate (length (spelling place.insn) - 5) 0x90
+jump_bytes place = spelling (jump_insn place.at place.slot) ++ replicate (length (spelling place.insn) - 5) 0x90
 
 -- what stands in the text where the instruction stood
 abbrev pub text_bytes_by : Form → Place → List ℕ
@@ -31,7 +31,11 @@ area_bytes place = slot_bytes place.form
 abbrev pub edits_by : Form → Place → List Edit
 edits_by (form.InPlace bytes) place = record { at = place.at; old_len = length (spelling place.insn); slot = None } ∷ []
 edits_by (form.Moved pre main post) place =
-    record { at = place.at; old_len = length (spelling place.insn); slot = Some (place.slot, length (pre ++ (main ++ post))) } ∷ []
+    record {
+      at = place.at;
+      old_len = length (spelling place.insn);
+      slot = Some (place.slot, length (pre ++ (main ++ post)));
+    } ∷ []
 edits_by _ place = []
 
 abbrev pub edits_of : Place → List Edit

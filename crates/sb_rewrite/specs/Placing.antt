@@ -41,7 +41,8 @@ place text at slot insn = record { insn = insn; at = at; slot = slot; form = for
 unfoldable pub places_from : List ℕ → ℕ → ℕ → List Insn → List Place
 places_from text at slot [] = []
 places_from text at slot (insn ∷ insns) =
-    place text at slot insn ∷ places_from text (at + length (spelling insn)) (slot + length (slot_bytes (place text at slot insn).form)) insns
+    place text at slot insn ∷ places_from text (at + length (spelling insn))
+    (slot + length (slot_bytes (place text at slot insn).form)) insns
 
 -- all instructions of the text
 abbrev pub places : List ℕ → List Insn → List Place

@@ -74,11 +74,15 @@ IsLeftAt made at =
 
 -- What rewriting answers. The cases exclude each other, but for want of memory.
 abbrev pub Rewrites : List ℕ → Result Output RewriteRefusal → Type 0
-Rewrites text (Ok made) = (of_text : List Place) × ArePlaces text of_text × FitsArea of_text × (made ≡ output of_text) × IsFree made
+Rewrites text (Ok made) = (of_text : List Place) × ArePlaces text of_text × FitsArea of_text × (made ≡ output of_text)
+    × IsFree made
 Rewrites text (Err (Undecoded at)) = IsUndecodedAt text at
-Rewrites text (Err (BadTarget at)) = (of_text : List Place) × ArePlaces text of_text × IsFirstAt (HasBadTarget (starts_of of_text)) of_text at
-Rewrites text (Err (Unmovable at)) = (of_text : List Place) × ArePlaces text of_text × LeadsWell of_text × IsFirstAt IsUnmovable of_text at
-Rewrites text (Err (AreaFull at)) = (of_text : List Place) × ArePlaces text of_text × IsMovable of_text × IsFirstAt EndsBehindArea of_text at
+Rewrites text (Err (BadTarget at)) =
+    (of_text : List Place) × ArePlaces text of_text × IsFirstAt (HasBadTarget (starts_of of_text)) of_text at
+Rewrites text (Err (Unmovable at)) =
+    (of_text : List Place) × ArePlaces text of_text × LeadsWell of_text × IsFirstAt IsUnmovable of_text at
+Rewrites text (Err (AreaFull at)) =
+    (of_text : List Place) × ArePlaces text of_text × IsMovable of_text × IsFirstAt EndsBehindArea of_text at
 Rewrites text (Err (Left at)) = (of_text : List Place) × ArePlaces text of_text × FitsArea of_text × IsLeftAt (output of_text) at
 Rewrites text (Err Memory) = Unit {0}
 
@@ -87,9 +91,11 @@ Rewrites text (Err Memory) = Unit {0}
 -- a text has one answer, but for want of memory
 abbrev pub OneRewriting : Type 0
 OneRewriting =
-    (text : List ℕ) (first second : Result Output RewriteRefusal) → first ≢ Err Memory → second ≢ Err Memory → Rewrites text first → Rewrites text second
+    (text : List ℕ) (first second : Result Output RewriteRefusal) → first ≢ Err Memory → second ≢ Err Memory → Rewrites text first
+    → Rewrites text second
     → first ≡ second
 
 -- one original instruction at most runs at an address
 abbrev pub OneOriginal : Type 0
-OneOriginal = (text : List ℕ) (made : Output) (at first second : ℕ) → Rewrites text (Ok made) → RunsAt made at first → RunsAt made at second → first ≡ second
+OneOriginal = (text : List ℕ) (made : Output) (at first second : ℕ) → Rewrites text (Ok made) → RunsAt made at first
+    → RunsAt made at second → first ≡ second

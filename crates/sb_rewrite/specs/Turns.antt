@@ -29,7 +29,8 @@ pub record IsFront (text rest : List ℕ) (front : Front) : Type 0 where
 
 abbrev pub DecodesFront : List ℕ → List ℕ → Result Front RewriteRefusal → Type 0
 DecodesFront text rest (Ok front) = IsFront text rest front
-DecodesFront text rest (Err refusal) = (refusal ≡ Undecoded (text_address + (length text - length rest))) × ((insn : Insn) → ¬ BeginsWith rest insn)
+DecodesFront text rest (Err refusal) =
+    (refusal ≡ Undecoded (text_address + (length text - length rest))) × ((insn : Insn) → ¬ BeginsWith rest insn)
 
 -- a whole instruction of a text
 pub record IsFrontOfText (front : Front) : Type 0 where
@@ -58,7 +59,8 @@ next_place old insn at form = record { insn = insn; at = at; slot = area_address
 
 -- one more instruction starts
 abbrev pub with_start : Output → ℕ → Output
-with_start old at = record { text = old.text; area = old.area; starts = old.starts ++ at ∷ []; edits = old.edits; moves = old.moves }
+with_start old at =
+    record { text = old.text; area = old.area; starts = old.starts ++ at ∷ []; edits = old.edits; moves = old.moves }
 
 -- what stands in its place is put
 abbrev pub with_place : Output → Place → Output

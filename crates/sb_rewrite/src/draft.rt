@@ -2,7 +2,7 @@
 
 ghost use Rattle.std.specs.Prelude.{◌≡◌, ◌+◌, ◌-◌, ◌≤◌, ◌++◌, IfOk, length, replicate};
 ghost use Rattle.sb_insn.specs.Spelling.{spelling};
-ghost use Rattle.sb_forms.specs.Pieces.{jump};
+ghost use Rattle.sb_forms.specs.Pieces.{jump_insn};
 ghost use Rattle.sb_forms.specs.Answers.{HasRoom, FitsSlot};
 ghost use Rattle.sb_rewrite.specs.Placing.{area_address, area_end};
 ghost use Rattle.sb_rewrite.specs.Output.{IsOrdered};
@@ -14,8 +14,8 @@ use crate::listing::Starts;
 use crate::refusal::RewriteRefusal;
 use crate::rewritten::Rewritten;
 use sb_abi::{AREA_ADDRESS, AREA_PAGES, TEXT_ADDRESS};
-use sb_memory::PAGE_SIZE;
 use sb_forms::{Code, Form};
+use sb_memory::PAGE_SIZE;
 use sb_scan::find_pattern;
 use std::alloc::{AllocError, Global};
 use std::marker::Model;
@@ -46,12 +46,12 @@ impl Model for Draft {
 }
 
 /// Puts the jump to a slot into a text, and NOPs for the further bytes of the instruction.
-#[tactic(auto, unfolding(sb_forms::specs::Pieces::jump))]
+#[tactic(auto, unfolding(sb_forms::specs::Pieces::jump_insn))]
 fn put_jump(text: &mut Vec<u8>, from: u64, to: u64, length: usize) -> Result<(), AllocError>
     requires from { from ≤ 0x600000 }
     requires to { to ≤ 0x11000 }
     requires room { 5 ≤ length }
-    ensures { IfOk result (λ done. text.new.items ≡ text.old.items ++ (spelling (jump from to) ++ replicate (length - 5) 0x90)) }
+    ensures { IfOk result (λ done. text.new.items ≡ text.old.items ++ (spelling (jump_insn from to) ++ replicate (length - 5) 0x90)) }
 {
     let distance = to as i32 - (from as i32 + 5);
     text.push(0xE9)?;

@@ -4,7 +4,7 @@ ghost use Rattle.std.specs.Prelude.{◌≡◌, ◌+◌, ◌<◌, ◌≤◌, IfOk
 ghost use Rattle.sb_forms.specs.Answers.{IsClean};
 ghost use Rattle.sb_forms.specs.Places.{HasForm};
 ghost use Rattle.sb_rewrite.specs.Listing.{text_address, IsListing};
-ghost use Rattle.sb_rewrite.specs.Placing.{place, area_address, is_after_0f as is_after_0f_at};
+ghost use Rattle.sb_rewrite.specs.Placing.{place, area_address, is_after_0f};
 ghost use Rattle.sb_rewrite.specs.Turns.{IsFrontOfText, JumpsLeadWell, ChecksTargets, ChecksMovable, with_start, Puts, IsPutRefusal, PutsAll};
 ghost use Rattle.sb_rewrite.specs.Rewriting.{Rewrites, OneRewriting, OneOriginal};
 
@@ -21,7 +21,7 @@ use std::alloc::Global;
 /// Whether the byte before the address is 0F in the text.
 fn is_after_0f(text: &[u8], at: u64) -> bool
     requires { at ≤ text_address + length text.now }
-    ensures { result ≡ is_after_0f_at text.now at }
+    ensures { result ≡ is_after_0f text.now at }
 {
     at > TEXT_ADDRESS && text[(at - TEXT_ADDRESS) as usize - 1] == 0x0F
 }

@@ -3,7 +3,7 @@
 ghost use Rattle.std.specs.Prelude.{◌≡◌, ◌↔◌, IsTrue};
 ghost use Rattle.std.specs.List.Sorted.{IsStrictlyIncreasing};
 ghost use Rattle.sb_rewrite.specs.Target.{InTrampoline, IsBadTarget};
-ghost use Rattle.sb_rewrite.specs.Turns.{is_in_text as is_in_text_at, Remembers, ChecksJumps};
+ghost use Rattle.sb_rewrite.specs.Turns.{is_in_text, Remembers, ChecksJumps};
 
 use crate::front::Front;
 use crate::listing::Listing;
@@ -39,7 +39,7 @@ pub(crate) fn is_bad_target(listing: &Listing, target: Option<u64>) -> bool
 
 /// Whether it is an address that a text can have.
 fn is_in_text(address: u64) -> bool
-    ensures { result ≡ is_in_text_at address }
+    ensures { result ≡ is_in_text address }
 {
     TEXT_ADDRESS <= address && address < TEXT_ADDRESS + WINDOW_PAGES * PAGE_SIZE
 }

@@ -16,7 +16,7 @@ use Rattle.sb_frames.specs.declared.kind.Kind.TheVariants.{EptpList}
 use Rattle.sb_root.specs.declared.root_kernel.RootKernel.{RootKernel}
 use Rattle.sb_root.specs.declared.view.View.{View}
 use Rattle.sb_root.specs.Tables.{IsPage}
-use Rattle.sb_root.specs.Root.{Use, list_of, view_of, list_entry, entry_of_index, with_list, used_frame, kind_for, owner_for}
+use Rattle.sb_root.specs.Root.{Use, eptp_list_frame, view_of, list_entry, entry_of_index, with_list, used_frame, kind_for, owner_for}
 use Rattle.sb_root.specs.Standing.{Stands, IsBooked, IsApart}
 use Rattle.sb_root.specs.Answers.{SameViews}
 use Rattle.sb_root.specs.Calls.{IsFree, IsAddedList, IsZeroed}
@@ -28,14 +28,16 @@ use Rattle.sb_root.proofs.LowPages.{alike_page}
 use Rattle.sb_root.proofs.Uses.{IsNewList, list_same, list_other, list_uses, shape_with_list, uses_apart, some_frame}
 
 -- a frame of the root kernel is not free
-pub used_not_free : (root : RootKernel) (book : Book) (memory : Physical) (purpose : Use) (frame : ℕ) → IsBooked root book memory → used_frame root purpose ≡ Some frame → IsFree book frame → ⊥
+pub used_not_free : (root : RootKernel) (book : Book) (memory : Physical) (purpose : Use) (frame : ℕ)
+    → IsBooked root book memory → used_frame root purpose ≡ Some frame → IsFree book frame → ⊥
 used_not_free root book memory purpose frame booked used free =
     let held = booked.held purpose frame used in
     let none = free.1 in
     cc
 
 -- a thread without a list has no entries
-no_entries_by : (root : RootKernel) (memory : Physical) (thread index : ℕ) → Stands root memory → list_of root thread ≡ None → (kept : Option View) → view_of root thread index ≡ kept → entry_of_index kept ≡ 0
+no_entries_by : (root : RootKernel) (memory : Physical) (thread index : ℕ) → Stands root memory
+    → eptp_list_frame root thread ≡ None → (kept : Option View) → view_of root thread index ≡ kept → entry_of_index kept ≡ 0
 no_entries_by root memory thread index stands none None is = refl
 no_entries_by root memory thread index stands none (Some view) is = absurd (stands.listed thread index view is none)
 
@@ -46,7 +48,8 @@ not_none : (kept : Option Frame) (frame : Frame) → kept ≡ Some frame → kep
 not_none kept frame is none = cc
 
 module _ (root : RootKernel) (book : Book) (memory : Physical) (thread : ℕ) (frame : Frame)
-    (stands : Stands root memory) (booked : IsBooked root book memory) (small : thread < 32) (none : list_of root thread ≡ None) (free : IsFree book frame.0) where
+    (stands : Stands root memory) (booked : IsBooked root book memory) (small : thread < 32)
+    (none : eptp_list_frame root thread ≡ None) (free : IsFree book frame.0) where
   abbrev cleared : Physical
   cleared = with_bytes memory (clear_frame memory.bytes frame.0)
 
@@ -74,18 +77,25 @@ module _ (root : RootKernel) (book : Book) (memory : Physical) (thread : ℕ) (f
       (λ index. zero_word index ∙ sym (no_entries_by root memory thread index stands none (view_of root thread index) refl))
       (cleared_page memory frame.0 [] stands.whole.size inside)
 
-  list_by : (other : ℕ) (list : Frame) → list_of more other ≡ Some list → (one : Bool) → (other == thread) ≡ one → IsPage cleared list.0 (list_entry more other)
+  list_by : (other : ℕ) (list : Frame) → eptp_list_frame more other ≡ Some list → (one : Bool) → (other == thread) ≡ one
+      → IsPage cleared list.0 (list_entry more other)
   list_by other list is true e =
       let same = eqb-true other thread e in
-      let here = some_frame frame list (sym (list_same root thread frame stands.shape small) ∙ subst (λ (t : ℕ). list_of more t ≡ Some list) same is) in
+      let here =
+      some_frame frame list (sym (list_same root thread frame stands.shape small)
+      ∙ subst (λ (t : ℕ). eptp_list_frame more t ≡ Some list) same is) in
       rw (same, ← here) page
-  list_by other list is false e = before.lists other list (sym (list_other root thread other frame (eqb-false other thread e)) ∙ is)
+  list_by other list is false e =
+      before.lists other list (sym (list_other root thread other frame (eqb-false other thread e)) ∙ is)
 
-  listed_by : (other : ℕ) → list_of root other ≢ None → (one : Bool) → (other == thread) ≡ one → list_of more other ≢ None
+  listed_by : (other : ℕ) → eptp_list_frame root other ≢ None → (one : Bool) → (other == thread) ≡ one
+      → eptp_list_frame more other ≢ None
   listed_by other some true e =
       let same = eqb-true other thread e in
-      not_none (list_of more other) frame (ap (list_of more) same ∙ list_same root thread frame stands.shape small)
-  listed_by other some false e = subst (λ (kept : Option Frame). kept ≢ None) (sym (list_other root thread other frame (eqb-false other thread e))) some
+      not_none (eptp_list_frame more other) frame (ap (eptp_list_frame more) same
+      ∙ list_same root thread frame stands.shape small)
+  listed_by other some false e =
+      subst (λ (kept : Option Frame). kept ≢ None) (sym (list_other root thread other frame (eqb-false other thread e))) some
 
   new_inside : (purpose : Use) (used : ℕ) → IsNewList thread frame purpose used → (512 ≤ used) × (used < frame_count memory)
   new_inside purpose used new =
@@ -111,20 +121,23 @@ module _ (root : RootKernel) (book : Book) (memory : Physical) (thread : ℕ) (f
     inside = inside_after;
     apart = uses_apart root more (IsNewList thread frame) (list_uses root thread frame stands.shape small)
         (λ first second used one two. one.purpose_is ∙ sym two.purpose_is)
-        (λ first second used new old. used_not_free root book memory second used booked old (subst (IsFree book) (sym new.frame_is) free))
+        (λ first second used new old. used_not_free root book memory second used booked old
+        (subst (IsFree book) (sym new.frame_is) free))
         stands.apart;
   }
 
   abbrev taken : Book
   taken = with_holder book frame.0 (Some (EptpList, thread))
 
-  new_held : (purpose : Use) (used : ℕ) → IsNewList thread frame purpose used → holder taken used ≡ Some (kind_for purpose, owner_for purpose)
+  new_held : (purpose : Use) (used : ℕ) → IsNewList thread frame purpose used
+      → holder taken used ≡ Some (kind_for purpose, owner_for purpose)
   new_held purpose used new =
       let purpose_is = new.purpose_is in
       let frame_is = new.frame_is in
       rw (purpose_is, frame_is) (holder_same book frame.0 (Some (EptpList, thread)) free.0)
 
-  old_held : (purpose : Use) (used : ℕ) → used_frame root purpose ≡ Some used → holder taken used ≡ Some (kind_for purpose, owner_for purpose)
+  old_held : (purpose : Use) (used : ℕ) → used_frame root purpose ≡ Some used
+      → holder taken used ≡ Some (kind_for purpose, owner_for purpose)
   old_held purpose used old =
       holder_other book frame.0 used (Some (EptpList, thread)) free.0.0 (stands.inside purpose used old).0
       (λ same. used_not_free root book memory purpose used booked old (subst (IsFree book) (sym same) free))
@@ -150,15 +163,17 @@ module _ (root : RootKernel) (book : Book) (memory : Physical) (thread : ℕ) (f
 
 -- ---- all that the call answers
 
-pub record ListAdded (root root' : RootKernel) (book book' : Book) (old new : Physical) (thread : ℕ) (frame : Frame) : Type 0 where
+pub record ListAdded (root root' : RootKernel) (book book' : Book) (old new : Physical) (thread : ℕ)
+    (frame : Frame) : Type 0 where
   pub added : IsAddedList root root' book book' old new thread frame
   pub stands : Stands root' new
   pub booked : IsBooked root' book' new
   pub others : SameViews root old new
 
 pub list_added : (root root' : RootKernel) (book book' : Book) (old new : Physical) (thread : ℕ) (frame : Frame)
-    → Stands root old → IsBooked root book old → thread < 32 → list_of root thread ≡ None → IsLowestFree book frame.0
-    → book' ≡ with_holder book frame.0 (Some (EptpList, thread)) → new ≡ with_bytes old (clear_frame old.bytes frame.0) → root' ≡ with_list root thread frame
+    → Stands root old → IsBooked root book old → thread < 32 → eptp_list_frame root thread ≡ None → IsLowestFree book frame.0
+    → book' ≡ with_holder book frame.0 (Some (EptpList, thread)) → new ≡ with_bytes old (clear_frame old.bytes frame.0)
+    → root' ≡ with_list root thread frame
     → ListAdded root root' book book' old new thread frame
 list_added root root' book book' old new thread frame stands booked small none lowest taken written kept =
     let free : IsFree book frame.0 = (lowest.inside, lowest.free) in

@@ -12,7 +12,7 @@ use Rattle.sb_frames.specs.Book.{Book}
 use Rattle.sb_root.specs.declared.root_kernel.RootKernel.{RootKernel}
 use Rattle.sb_root.specs.declared.view.View.{View}
 use Rattle.sb_root.specs.Tables.{view_entries}
-use Rattle.sb_root.specs.Root.{IsShaped, Use, IsSet, is_listed, list_of, view_of, list_entry, entry_of_index, eptp_of_view, with_view, unlisted, used_frame}
+use Rattle.sb_root.specs.Root.{IsShaped, Use, IsSet, is_listed, eptp_list_frame, view_of, list_entry, entry_of_index, eptp_of_view, with_view, without_listing, used_frame}
 use Rattle.sb_root.specs.Standing.{HasView, Stands, IsBooked}
 use Rattle.sb_root.specs.Answers.{SameAnswers, SameViews}
 use Rattle.sb_root.proofs.Kept.{set_views}
@@ -24,12 +24,12 @@ none_set : (kept : Option View) → kept ≡ None → is_listed kept ≡ true �
 none_set None is set = cc
 none_set (Some view) is set = cc
 
-same_entries : (view : View) (page : ℕ) → view_entries view page ≡ view_entries (unlisted view) page
+same_entries : (view : View) (page : ℕ) → view_entries view page ≡ view_entries (without_listing view) page
 unfolding view_entries
 same_entries view page = refl
 
 -- the tables of a view are those of the view whose entry was cleared
-unlisted_stands : (memory : Physical) (view : View) → HasView memory view → HasView memory (unlisted view)
+unlisted_stands : (memory : Physical) (view : View) → HasView memory view → HasView memory (without_listing view)
 unlisted_stands memory view standing =
     let tables = standing.tables in
     record {
@@ -37,7 +37,8 @@ unlisted_stands memory view standing =
         root = tables.root;
         pointers = tables.pointers;
         directory = tables.directory;
-        first = alike_page memory view.tables.first.0 (view_entries view) (view_entries (unlisted view)) (same_entries view) tables.first;
+        first = alike_page memory view.tables.first.0 (view_entries view) (view_entries (without_listing view))
+            (same_entries view) tables.first;
         inside = tables.inside;
       };
       home = standing.home;
@@ -50,34 +51,42 @@ set_few root thread index shape small set = elim (cases_lt index 16) [
   | inl few ↦ few
   | inr many ↦
       let size = shape.views thread small in
-      let none : view_of root thread index ≡ None = get_or-eq_default (get_or root.views thread []) None {n = index} (omega arith) in
+      let none : view_of root thread index ≡ None =
+      get_or-eq_default (get_or root.views thread []) None {n = index} (omega arith) in
       absurd (none_set (view_of root thread index) none set)
 ]
 
 module _ (root : RootKernel) (memory : Physical) (thread index : ℕ) (list : Frame) (view : View)
-    (stands : Stands root memory) (small : thread < 32) (few : index < 16) (list_is : list_of root thread ≡ Some list) (is : view_of root thread index ≡ Some view) where
+    (stands : Stands root memory) (small : thread < 32) (few : index < 16) (list_is : eptp_list_frame root thread ≡ Some list)
+    (is : view_of root thread index ≡ Some view) where
   abbrev less : RootKernel
-  less = with_view root thread index (unlisted view)
+  less = with_view root thread index (without_listing view)
 
   abbrev new : Physical
   new = with_bytes memory (put_word memory.bytes (entry_in list.0 index) 0)
 
-  kept_here : view_of less thread index ≡ Some (unlisted view)
-  kept_here = view_same root thread index (unlisted view) stands.shape small few
+  kept_here : view_of less thread index ≡ Some (without_listing view)
+  kept_here = view_same root thread index (without_listing view) stands.shape small few
 
-  elsewhere_same : (other second : ℕ) → (other ≡ thread → second ≡ index → ⊥) → view_of less other second ≡ view_of root other second
-  elsewhere_same other second differ = view_other root thread index other second (unlisted view) stands.shape small differ
+  elsewhere_same : (other second : ℕ) → (other ≡ thread → second ≡ index → ⊥)
+      → view_of less other second ≡ view_of root other second
+  elsewhere_same other second differ = view_other root thread index other second (without_listing view) stands.shape small differ
 
-  entry_elsewhere : (other second : ℕ) → (other ≡ thread → second ≡ index → ⊥) → list_entry less other second ≡ list_entry root other second
+  entry_elsewhere : (other second : ℕ) → (other ≡ thread → second ≡ index → ⊥)
+      → list_entry less other second ≡ list_entry root other second
   entry_elsewhere other second differ = ap entry_of_index (elsewhere_same other second differ)
 
   -- a view that is kept now was kept before, with the same tables
   view_before_by : (other second : ℕ) (kept : View) → view_of less other second ≡ Some kept → Place thread index other second
       → (earlier : View) × (view_of root other second ≡ Some earlier) × (HasView memory earlier → HasView memory kept)
   view_before_by other second kept now (here same again) =
-      let one = some_view (unlisted view) kept (sym kept_here ∙ subst (λ (t : ℕ). view_of less t index ≡ Some kept) same (subst (λ (k : ℕ). view_of less other k ≡ Some kept) again now)) in
+      let one =
+      some_view (without_listing view) kept (sym kept_here
+      ∙ subst (λ (t : ℕ). view_of less t index ≡ Some kept) same
+      (subst (λ (k : ℕ). view_of less other k ≡ Some kept) again now)) in
       (view, rw (same, again) is, λ standing. rw (← one) (unlisted_stands memory view standing))
-  view_before_by other second kept now (elsewhere differ) = (kept, sym (elsewhere_same other second differ) ∙ now, λ standing. standing)
+  view_before_by other second kept now (elsewhere differ) =
+      (kept, sym (elsewhere_same other second differ) ∙ now, λ standing. standing)
 
   view_before : (other second : ℕ) (kept : View) → view_of less other second ≡ Some kept
       → (earlier : View) × (view_of root other second ≡ Some earlier) × (HasView memory earlier → HasView memory kept)
@@ -88,14 +97,19 @@ module _ (root : RootKernel) (memory : Physical) (thread index : ℕ) (list : Fr
 
   but : StandsBut less memory thread index list
   but = record {
-    shape = shape_with_view root thread index (unlisted view) stands.shape small;
+    shape = shape_with_view root thread index (without_listing view) stands.shape small;
     whole = stands.whole;
     base = stands.base;
     list_is = list_is;
-    lists = λ other frame differ found. alike_page memory frame.0 (list_entry root other) (list_entry less other) (λ second. sym (entry_elsewhere other second (λ same again. differ same))) (stands.lists other frame found);
-    entries = λ second within differ. (stands.lists thread list list_is).entry second within ∙ sym (entry_elsewhere thread second (λ same again. differ again));
-    views = λ other second kept now. let earlier = view_before other second kept now in earlier.2 (stands.views other second earlier.0 earlier.1);
-    listed = λ other second kept now. let earlier = view_before other second kept now in stands.listed other second earlier.0 earlier.1;
+    lists = λ other frame differ found. alike_page memory frame.0 (list_entry root other) (list_entry less other)
+        (λ second. sym (entry_elsewhere other second (λ same again. differ same))) (stands.lists other frame found);
+    entries =
+        λ second within differ. (stands.lists thread list list_is).entry second within
+        ∙ sym (entry_elsewhere thread second (λ same again. differ again));
+    views = λ other second kept now. let earlier = view_before other second kept now in
+        earlier.2 (stands.views other second earlier.0 earlier.1);
+    listed = λ other second kept now. let earlier = view_before other second kept now in
+        stands.listed other second earlier.0 earlier.1;
     inside = λ purpose frame used. stands.inside purpose frame (sym (uses purpose) ∙ used);
     apart = λ first second frame one two. stands.apart first second frame (sym (uses first) ∙ one) (sym (uses second) ∙ two);
   }
@@ -107,17 +121,26 @@ module _ (root : RootKernel) (memory : Physical) (thread index : ℕ) (list : Fr
   stands_without = stands_after less memory thread index list 0 but (omega arith) (omega arith) word_is
 
   pub booked_without : (book : Book) → IsBooked root book memory → IsBooked less book new
-  booked_without book booked = record { size = booked.size; held = λ purpose frame used. booked.held purpose frame (sym (uses purpose) ∙ used) }
+  booked_without book booked =
+      record { size = booked.size; held = λ purpose frame used. booked.held purpose frame (sym (uses purpose) ∙ used) }
 
-  view_after_by : (other second : ℕ) (kept : View) → view_of root other second ≡ Some kept → Place thread index other second → SameAnswers memory new (eptp_of_view kept)
+  view_after_by : (other second : ℕ) (kept : View) → view_of root other second ≡ Some kept → Place thread index other second
+      → SameAnswers memory new (eptp_of_view kept)
   view_after_by other second kept found (here same again) =
-      let one = some_view view kept (sym is ∙ subst (λ (t : ℕ). view_of root t index ≡ Some kept) same (subst (λ (k : ℕ). view_of root other k ≡ Some kept) again found)) in
-      rw (← one) (same_view less memory thread index list 0 but (omega arith) (omega arith) word_is thread index (unlisted view) kept_here)
+      let one =
+      some_view view kept (sym is
+      ∙ subst (λ (t : ℕ). view_of root t index ≡ Some kept) same
+      (subst (λ (k : ℕ). view_of root other k ≡ Some kept) again found)) in
+      rw (← one)
+      (same_view less memory thread index list 0 but (omega arith) (omega arith) word_is thread index
+      (without_listing view) kept_here)
   view_after_by other second kept found (elsewhere differ) =
-      same_view less memory thread index list 0 but (omega arith) (omega arith) word_is other second kept (elsewhere_same other second differ ∙ found)
+      same_view less memory thread index list 0 but (omega arith) (omega arith) word_is other second kept
+      (elsewhere_same other second differ ∙ found)
 
   pub views_without : SameViews root memory new
   views_without = record {
     base = base_same less memory thread index list 0 but (omega arith) (omega arith) word_is;
-    views = set_views root memory new (λ other second kept found. view_after_by other second kept found (place_of_index thread index other second));
+    views = set_views root memory new
+        (λ other second kept found. view_after_by other second kept found (place_of_index thread index other second));
   }

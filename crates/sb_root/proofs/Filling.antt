@@ -20,7 +20,8 @@ abbrev pub first_words : ℕ → List ℕ → ℕ → ℕ
 first_words count words index = if nat_lt index count then get_or words index 0 else 0
 
 -- a frame that was cleared
-pub cleared_page : (memory : Physical) (frame : ℕ) (words : List ℕ) → HasSize memory → frame < frame_count memory → IsPage (with_bytes memory (clear_frame memory.bytes frame)) frame (first_words 0 words)
+pub cleared_page : (memory : Physical) (frame : ℕ) (words : List ℕ) → HasSize memory → frame < frame_count memory
+    → IsPage (with_bytes memory (clear_frame memory.bytes frame)) frame (first_words 0 words)
 cleared_page memory frame words size inside = record {
   entry = λ index within.
       let whole = size.bytes in
@@ -28,9 +29,11 @@ cleared_page memory frame words size inside = record {
       rw none (word_of_cleared memory.bytes frame (entry_in frame index) (omega arith) (omega arith) (omega arith));
 }
 
-more_by : (memory : Physical) (frame count index : ℕ) (words : List ℕ) → HasSize memory → frame < frame_count memory → count < 512 → index < 512 → get_or words count 0 < 2 ^ 64
+more_by : (memory : Physical) (frame count index : ℕ) (words : List ℕ) → HasSize memory → frame < frame_count memory
+    → count < 512 → index < 512 → get_or words count 0 < 2 ^ 64
     → IsPage memory frame (first_words count words) → (here : Bool) → (index == count) ≡ here
-    → word_at (put_word memory.bytes (entry_in frame count) (get_or words count 0)) (entry_in frame index) ≡ first_words (count + 1) words index
+    → word_at (put_word memory.bytes (entry_in frame count) (get_or words count 0)) (entry_in frame index)
+    ≡ first_words (count + 1) words index
 more_by memory frame count index words size inside small within fits page true e =
     let same = eqb-true index count e in
     let whole = size.bytes in
@@ -39,11 +42,15 @@ more_by memory frame count index words size inside small within fits page true e
 more_by memory frame count index words size inside small within fits page false e =
     let other = eqb-false index count e in
     let test : nat_lt index (count + 1) ≡ nat_lt index count = grind (arith, common_steps) in
-    rw test (word_elsewhere memory.bytes (entry_in frame count) (get_or words count 0) (entry_in frame index) (omega arith) (omega arith) (λ same. other (omega arith)) ∙ page.entry index within)
+    rw test (word_elsewhere memory.bytes (entry_in frame count) (get_or words count 0) (entry_in frame index) (omega arith)
+    (omega arith) (λ same. other (omega arith)) ∙ page.entry index within)
 
 -- one more word is put
-pub filled_more : (memory : Physical) (frame count : ℕ) (words : List ℕ) → HasSize memory → frame < frame_count memory → count < 512 → get_or words count 0 < 2 ^ 64
-    → IsPage memory frame (first_words count words) → IsPage (with_bytes memory (put_word memory.bytes (entry_in frame count) (get_or words count 0))) frame (first_words (count + 1) words)
+pub filled_more : (memory : Physical) (frame count : ℕ) (words : List ℕ) → HasSize memory → frame < frame_count memory
+    → count < 512 → get_or words count 0 < 2 ^ 64
+    → IsPage memory frame (first_words count words)
+    → IsPage (with_bytes memory (put_word memory.bytes (entry_in frame count) (get_or words count 0))) frame
+    (first_words (count + 1) words)
 filled_more memory frame count words size inside small fits page = record {
   entry = λ index within. more_by memory frame count index words size inside small within fits page (index == count) refl;
 }
@@ -51,25 +58,39 @@ filled_more memory frame count words size inside small fits page = record {
 -- ---- the steps of filling, with what changed
 
 abbrev pub Filled : Physical → Physical → ℕ → ℕ → List ℕ → Type 0
-Filled old memory frame count words = IsPage memory frame (first_words count words) × HasSize memory × SameOutside (frame ∷ []) old memory
+Filled old memory frame count words =
+    IsPage memory frame (first_words count words) × HasSize memory × SameOutside (frame ∷ []) old memory
 
-pub put_first : (old new : Physical) (frame : ℕ) (words : List ℕ) → new ≡ with_bytes old (clear_frame old.bytes frame) → HasSize new → frame < frame_count old → Filled old new frame 0 words
+pub put_first : (old new : Physical) (frame : ℕ) (words : List ℕ) → new ≡ with_bytes old (clear_frame old.bytes frame)
+    → HasSize new → frame < frame_count old → Filled old new frame 0 words
 put_first old new frame words is size inside =
     let size_before : HasSize old = size_before_clear old new frame is size in
     let page = cleared_page old frame words size_before inside in
-    let same = same_outside_cleared (frame ∷ []) old frame (Contains-get_or (frame ∷ []) 0 0 (omega arith)) in
-    (subst (λ (m : Physical). IsPage m frame (first_words 0 words)) (sym is) page, size, subst (SameOutside (frame ∷ []) old) (sym is) same)
+    let same = same_outside_cleared (frame ∷ []) old frame (Contains-get_or (frame ∷ []) 0 0 (omega arith)) in (
+      subst (λ (m : Physical). IsPage m frame (first_words 0 words)) (sym is) page,
+      size,
+      subst (SameOutside (frame ∷ []) old) (sym is) same,
+    )
 
-pub put_next : (old memory new : Physical) (frame count place : ℕ) (words : List ℕ) → place ≡ entry_in frame count → new ≡ with_bytes memory (put_word memory.bytes place (get_or words count 0)) → HasSize new
-    → frame < frame_count old → Filled old memory frame count words → count < 512 → get_or words count 0 < 2 ^ 64 → Filled old new frame (count + 1) words
+pub put_next : (old memory new : Physical) (frame count place : ℕ) (words : List ℕ) → place ≡ entry_in frame count
+    → new ≡ with_bytes memory (put_word memory.bytes place (get_or words count 0)) → HasSize new
+    → frame < frame_count old → Filled old memory frame count words → count < 512 → get_or words count 0 < 2 ^ 64
+    → Filled old new frame (count + 1) words
 put_next old memory new frame count place words here is size inside filled small fits =
-    let written : new ≡ with_bytes memory (put_word memory.bytes (entry_in frame count) (get_or words count 0)) = is ∙ ap (λ (at : ℕ). with_bytes memory (put_word memory.bytes at (get_or words count 0))) here in
+    let written : new ≡ with_bytes memory (put_word memory.bytes (entry_in frame count) (get_or words count 0)) =
+    is ∙ ap (λ (at : ℕ). with_bytes memory (put_word memory.bytes at (get_or words count 0))) here in
     let present = filled.2.present in
     let inside_now : frame < frame_count memory = rw present inside in
     let page = filled_more memory frame count words filled.1 inside_now small fits filled.0 in
     let there : frame_of (entry_in frame count) ≡ frame = omega arith in
-    let same = same_outside_then (frame ∷ []) old memory _ filled.2 (same_outside_word (frame ∷ []) memory (entry_in frame count) (get_or words count 0) (omega arith) (subst (Contains (frame ∷ [])) (sym there) (Contains-get_or (frame ∷ []) 0 0 (omega arith)))) in
-    (subst (λ (m : Physical). IsPage m frame (first_words (count + 1) words)) (sym written) page, size, subst (SameOutside (frame ∷ []) old) (sym written) same)
+    let same =
+    same_outside_then (frame ∷ []) old memory _ filled.2
+    (same_outside_word (frame ∷ []) memory (entry_in frame count) (get_or words count 0) (omega arith)
+    (subst (Contains (frame ∷ [])) (sym there) (Contains-get_or (frame ∷ []) 0 0 (omega arith)))) in (
+      subst (λ (m : Physical). IsPage m frame (first_words (count + 1) words)) (sym written) page,
+      size,
+      subst (SameOutside (frame ∷ []) old) (sym written) same,
+    )
 
 -- ---- the bytes of the page
 
@@ -83,7 +104,8 @@ holds_same : (memory new : Physical) (frame : ℕ) (page other : List ℕ) → n
 holds_same memory new frame page other is same holds =
     subst (λ (m : Physical). HoldsBytes m frame other) (sym is) (subst (HoldsBytes memory frame) (sym same) holds)
 
-pub bytes_first : (old new : Physical) (frame : ℕ) (words : List ℕ) → new ≡ with_bytes old (clear_frame old.bytes frame) → HasSize new
+pub bytes_first : (old new : Physical) (frame : ℕ) (words : List ℕ) → new ≡ with_bytes old (clear_frame old.bytes frame)
+    → HasSize new
     → frame < frame_count old → HoldsBytes new frame (first_bytes 0 words)
 bytes_first old new frame words is size inside =
     holds_same _ new frame (zeros 4096) (first_bytes 0 words) is refl
@@ -109,7 +131,8 @@ bytes_next memory new frame count place words here is size inside within small h
 
 -- ---- a list that is made entry by entry
 
-tabled_by : (entries : List ℕ) (count entry : ℕ) (f : ℕ → ℕ) (k : ℕ) → count < length entries → entry ≡ f count → ((k : ℕ) → k < count → get_or entries k 0 ≡ f k) → k < count + 1
+tabled_by : (entries : List ℕ) (count entry : ℕ) (f : ℕ → ℕ) (k : ℕ) → count < length entries → entry ≡ f count
+    → ((k : ℕ) → k < count → get_or entries k 0 ≡ f k) → k < count + 1
     → (here : Bool) → (k == count) ≡ here → get_or (slice_set entries count entry) k 0 ≡ f k
 tabled_by entries count entry f k within is before below true e =
     let same = eqb-true k count e in
@@ -119,12 +142,15 @@ tabled_by entries count entry f k within is before below false e =
     rw get_or-set_other (before k (omega arith))
 
 -- one more entry is made
-pub tabled_more : (entries : List ℕ) (count entry : ℕ) (f : ℕ → ℕ) → count < length entries → entry ≡ f count → ((k : ℕ) → k < count → get_or entries k 0 ≡ f k)
+pub tabled_more : (entries : List ℕ) (count entry : ℕ) (f : ℕ → ℕ) → count < length entries → entry ≡ f count
+    → ((k : ℕ) → k < count → get_or entries k 0 ≡ f k)
     → (k : ℕ) → k < count + 1 → get_or (slice_set entries count entry) k 0 ≡ f k
-tabled_more entries count entry f within is before k below = tabled_by entries count entry f k within is before below (k == count) refl
+tabled_more entries count entry f within is before k below =
+    tabled_by entries count entry f k within is before below (k == count) refl
 
 -- all entries are made
-pub tabled_all : (entries : List ℕ) (f : ℕ → ℕ) → ((k : ℕ) → k < length entries → get_or entries k 0 ≡ f k) → ((k : ℕ) → length entries ≤ k → f k ≡ 0) → (k : ℕ) → get_or entries k 0 ≡ f k
+pub tabled_all : (entries : List ℕ) (f : ℕ → ℕ) → ((k : ℕ) → k < length entries → get_or entries k 0 ≡ f k)
+    → ((k : ℕ) → length entries ≤ k → f k ≡ 0) → (k : ℕ) → get_or entries k 0 ≡ f k
 tabled_all entries f made none k = elim (cases_lt k (length entries)) [
   | inl below ↦ made k below
   | inr above ↦ let beyond : get_or entries k 0 ≡ 0 = grind (arith, common_steps) in beyond ∙ sym (none k above)

@@ -11,7 +11,8 @@ use Rattle.sb_root.specs.Tables.{base_frames, shared_frames}
 use Rattle.sb_root.specs.Root.{AreDifferent}
 
 -- a frame of a list has an index there
-pub contains_index : (frames : List ℕ) (frame : ℕ) → Contains frames frame → (k : ℕ) × (k < length frames) × (get_or frames k 0 ≡ frame)
+pub contains_index : (frames : List ℕ) (frame : ℕ) → Contains frames frame
+    → (k : ℕ) × (k < length frames) × (get_or frames k 0 ≡ frame)
 contains_index frames frame (k, within, is) = (k, within, sym (get_or_default_zero frames k frame within) ∙ is)
 
 -- the frame of a list of one
@@ -23,15 +24,18 @@ pub not_one : (one frame : ℕ) → frame ≢ one → ¬ Contains (one ∷ []) f
 not_one one frame other among = other (only_one one frame among)
 
 -- a change within some frames is one within more
-pub same_within : (few many : List ℕ) (old new : Physical) → ((frame : ℕ) → Contains few frame → Contains many frame) → SameOutside few old new → SameOutside many old new
+pub same_within : (few many : List ℕ) (old new : Physical) → ((frame : ℕ) → Contains few frame → Contains many frame)
+    → SameOutside few old new → SameOutside many old new
 same_within few many old new more same = record {
   present = same.present;
   size = same.size;
   bytes = λ place outside. same.bytes place (λ among. outside (more _ among));
 }
 
-pub same_within_one : (one : ℕ) (many : List ℕ) (old new : Physical) → Contains many one → SameOutside (one ∷ []) old new → SameOutside many old new
-same_within_one one many old new among same = same_within (one ∷ []) many old new (λ frame here. subst (Contains many) (sym (only_one one frame here)) among) same
+pub same_within_one : (one : ℕ) (many : List ℕ) (old new : Physical) → Contains many one → SameOutside (one ∷ []) old new
+    → SameOutside many old new
+same_within_one one many old new among same =
+    same_within (one ∷ []) many old new (λ frame here. subst (Contains many) (sym (only_one one frame here)) among) same
 
 -- ---- the frames of the base
 
@@ -39,7 +43,8 @@ pub shared_among : (region : ℕ) → 1 ≤ region → region < 16 → Contains 
 unfolding shared_frames
 shared_among region first within =
     let size = length-range_with_len 33 15 in
-    let here : get_or (range_with_len 33 15) (region - 1) 0 ≡ 32 + region = get_or-range_with_len 33 15 (region - 1) 0 (omega arith) ∙ omega arith in
+    let here : get_or (range_with_len 33 15) (region - 1) 0 ≡ 32 + region =
+    get_or-range_with_len 33 15 (region - 1) 0 (omega arith) ∙ omega arith in
     subst (Contains (range_with_len 33 15)) here (Contains-get_or (range_with_len 33 15) (region - 1) 0 (omega arith))
 
 pub shared_small : (frame : ℕ) → Contains shared_frames frame → (33 ≤ frame) × (frame < 48)
@@ -109,8 +114,10 @@ rises_at first (second ∷ frames) rises (suc k) within =
 -- then no frame stands twice
 pub rising_different : (first : ℕ) (frames : List ℕ) → Rises first frames → AreDifferent (first ∷ frames)
 rising_different first frames rises zero zero within within' differ = absurd (differ refl)
-rising_different first frames rises zero (suc j) within within' differ = let above = rises_at first frames rises j (omega arith) in omega arith
-rising_different first frames rises (suc i) zero within within' differ = let above = rises_at first frames rises i (omega arith) in omega arith
+rising_different first frames rises zero (suc j) within within' differ =
+    let above = rises_at first frames rises j (omega arith) in omega arith
+rising_different first frames rises (suc i) zero within within' differ =
+    let above = rises_at first frames rises i (omega arith) in omega arith
 rising_different first [] rises (suc i) (suc j) within within' differ = absurd (omega arith)
 rising_different first (second ∷ frames) rises (suc i) (suc j) within within' differ =
     rising_different second frames rises.1 i j (omega arith) (omega arith) (omega arith)

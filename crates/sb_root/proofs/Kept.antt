@@ -27,7 +27,8 @@ base_stays old new present stays base = record {
   shared = λ page from few. exposed_stays old new page present (stays.shared page from few) (base.shared page from few);
 }
 
-pub view_stays : (old new : Physical) (view : View) → new.present ≡ old.present → TablesStay old new view.tables → HasView old view → HasView new view
+pub view_stays : (old new : Physical) (view : View) → new.present ≡ old.present → TablesStay old new view.tables
+    → HasView old view → HasView new view
 view_stays old new view present stay standing = record {
   tables = tables_stay old new view.tables (view_entries view) present stay standing.tables;
   home = standing.home;
@@ -35,13 +36,15 @@ view_stays old new view present stay standing = record {
 }
 
 -- each view that is set is one that is kept
-pub set_views : (root : RootKernel) (old new : Physical) → ((thread index : ℕ) (view : View) → view_of root thread index ≡ Some view → SameAnswers old new (eptp_of_view view))
+pub set_views : (root : RootKernel) (old new : Physical)
+    → ((thread index : ℕ) (view : View) → view_of root thread index ≡ Some view → SameAnswers old new (eptp_of_view view))
     → (thread index : ℕ) → IsSet root thread index → SameAnswers old new (list_entry root thread index)
 set_views root old new same thread index set =
     let view = set_view root thread index set in
     subst (SameAnswers old new) (sym view.2) (same thread index view.0 view.1)
 
-module _ (root : RootKernel) (frames : List ℕ) (old new : Physical) (stands : Stands root old) (same : SameOutside frames old new) (apart : IsApart root frames) where
+module _ (root : RootKernel) (frames : List ℕ) (old new : Physical) (stands : Stands root old) (same : SameOutside frames old new)
+    (apart : IsApart root frames) where
   base_frame : (frame : ℕ) → Contains base_frames frame → FrameStays old new frame
   base_frame frame among = stays_outside frames old new frame same (apart.base frame among)
 
@@ -66,10 +69,16 @@ module _ (root : RootKernel) (frames : List ℕ) (old new : Physical) (stands : 
 
   view_tables : (thread index : ℕ) (view : View) → view_of root thread index ≡ Some view → TablesStay old new view.tables
   view_tables thread index view is = record {
-    root = table_frame (PartOf thread index 0) view.tables.root.0 (omega arith) (used_part root thread index 0 view is (omega arith));
-    pointers = table_frame (PartOf thread index 1) view.tables.pointers.0 (omega arith) (used_part root thread index 1 view is (omega arith));
-    directory = table_frame (PartOf thread index 2) view.tables.directory.0 (omega arith) (used_part root thread index 2 view is (omega arith));
-    first = table_frame (PartOf thread index 3) view.tables.first.0 (omega arith) (used_part root thread index 3 view is (omega arith));
+    root = table_frame (PartOf thread index 0) view.tables.root.0 (omega arith)
+        (used_part root thread index 0 view is (omega arith));
+    pointers =
+        table_frame (PartOf thread index 1) view.tables.pointers.0 (omega arith)
+        (used_part root thread index 1 view is (omega arith));
+    directory =
+        table_frame (PartOf thread index 2) view.tables.directory.0 (omega arith)
+        (used_part root thread index 2 view is (omega arith));
+    first = table_frame (PartOf thread index 3) view.tables.first.0 (omega arith)
+        (used_part root thread index 3 view is (omega arith));
   }
 
   pub stands_kept : Stands root new
@@ -79,8 +88,10 @@ module _ (root : RootKernel) (frames : List ℕ) (old new : Physical) (stands : 
         shape = stands.shape;
         whole = whole_stays old new present same.size stands.whole;
         base = base_stays old new present base_all stands.base;
-        lists = λ thread frame is. page_stays old new frame.0 (list_entry root thread) (table_frame (ListOf thread) frame.0 tt (used_list root thread frame is)) (stands.lists thread frame is);
-        views = λ thread index view is. view_stays old new view present (view_tables thread index view is) (stands.views thread index view is);
+        lists = λ thread frame is. page_stays old new frame.0 (list_entry root thread)
+            (table_frame (ListOf thread) frame.0 tt (used_list root thread frame is)) (stands.lists thread frame is);
+        views = λ thread index view is. view_stays old new view present (view_tables thread index view is)
+            (stands.views thread index view is);
         listed = stands.listed;
         inside = λ purpose frame used. rw present (stands.inside purpose frame used);
         apart = stands.apart;
@@ -88,7 +99,9 @@ module _ (root : RootKernel) (frames : List ℕ) (old new : Physical) (stands : 
 
   pub views_kept : SameViews root old new
   views_kept = record {
-    base = walks_stay old new base_tables base_entries stands.whole stands_kept.whole same.present stands.base.tables stands_kept.base.tables shared_stays;
+    base = walks_stay old new base_tables base_entries stands.whole stands_kept.whole same.present stands.base.tables
+        stands_kept.base.tables shared_stays;
     views = set_views root old new (λ thread index view is.
-        walks_stay old new view.tables (view_entries view) stands.whole stands_kept.whole same.present (stands.views thread index view is).tables (stands_kept.views thread index view is).tables shared_stays);
+        walks_stay old new view.tables (view_entries view) stands.whole stands_kept.whole same.present
+        (stands.views thread index view is).tables (stands_kept.views thread index view is).tables shared_stays);
   }

@@ -11,7 +11,7 @@ use Rattle.sb_walks.specs.Entry.{entry_in}
 use Rattle.sb_root.specs.declared.root_kernel.RootKernel.{RootKernel}
 use Rattle.sb_root.specs.declared.view.View.{View}
 use Rattle.sb_root.specs.Tables.{IsPage, IsRootMemory, HasBase, base_tables, base_entries, base_eptp, view_entries}
-use Rattle.sb_root.specs.Root.{IsShaped, Use, ListOf, PartOf, list_of, view_of, list_entry, eptp_of_view, used_frame}
+use Rattle.sb_root.specs.Root.{IsShaped, Use, ListOf, PartOf, eptp_list_frame, view_of, list_entry, eptp_of_view, used_frame}
 use Rattle.sb_root.specs.Standing.{HasView, Stands}
 use Rattle.sb_root.specs.Answers.{SameAnswers}
 use Rattle.sb_root.proofs.Stays.{FrameStays, TablesStay, page_stays, stays_beside, whole_stays, walks_stay}
@@ -23,13 +23,16 @@ pub record StandsBut (root : RootKernel) (memory : Physical) (thread index : ℕ
   pub shape : IsShaped root
   pub whole : IsRootMemory memory
   pub base : HasBase memory
-  pub list_is : list_of root thread ≡ Some list
-  pub lists : (other : ℕ) (frame : Frame) → other ≢ thread → list_of root other ≡ Some frame → IsPage memory frame.0 (list_entry root other)
-  pub entries : (other : ℕ) → other < 512 → other ≢ index → word_at memory.bytes (entry_in list.0 other) ≡ list_entry root thread other
+  pub list_is : eptp_list_frame root thread ≡ Some list
+  pub lists : (other : ℕ) (frame : Frame) → other ≢ thread → eptp_list_frame root other ≡ Some frame
+      → IsPage memory frame.0 (list_entry root other)
+  pub entries : (other : ℕ) → other < 512 → other ≢ index
+      → word_at memory.bytes (entry_in list.0 other) ≡ list_entry root thread other
   pub views : (other second : ℕ) (view : View) → view_of root other second ≡ Some view → HasView memory view
-  pub listed : (other second : ℕ) (view : View) → view_of root other second ≡ Some view → list_of root other ≢ None
+  pub listed : (other second : ℕ) (view : View) → view_of root other second ≡ Some view → eptp_list_frame root other ≢ None
   pub inside : (purpose : Use) (frame : ℕ) → used_frame root purpose ≡ Some frame → (512 ≤ frame) × (frame < frame_count memory)
-  pub apart : (first second : Use) (frame : ℕ) → used_frame root first ≡ Some frame → used_frame root second ≡ Some frame → first ≡ second
+  pub apart : (first second : Use) (frame : ℕ) → used_frame root first ≡ Some frame → used_frame root second ≡ Some frame
+      → first ≡ second
 
 no_list : (thread other second part : ℕ) → PartOf other second part ≡ ListOf thread → ⊥
 no_list thread other second part same = cc
@@ -38,7 +41,8 @@ one_list : (thread other : ℕ) → ListOf other ≡ ListOf thread → other ≡
 one_list thread other same = cc
 
 module _ (root : RootKernel) (memory : Physical) (thread index : ℕ) (list : Frame) (word : ℕ)
-    (but : StandsBut root memory thread index list) (few : index < 512) (fits : word < 2 ^ 64) (is : word ≡ list_entry root thread index) where
+    (but : StandsBut root memory thread index list) (few : index < 512) (fits : word < 2 ^ 64)
+    (is : word ≡ list_entry root thread index) where
   abbrev changed : Physical
   changed = with_bytes memory (put_word memory.bytes (entry_in list.0 index) word)
 
@@ -66,19 +70,26 @@ module _ (root : RootKernel) (memory : Physical) (thread index : ℕ) (list : Fr
   }
 
   -- a frame of a view's part is no list
-  pub part_differs : (other second part : ℕ) (frame : ℕ) → used_frame root (PartOf other second part) ≡ Some frame → frame ≢ list.0
+  pub part_differs : (other second part : ℕ) (frame : ℕ) → used_frame root (PartOf other second part) ≡ Some frame
+      → frame ≢ list.0
   part_differs other second part frame used same =
       no_list thread other second part (but.apart (PartOf other second part) (ListOf thread) frame used (rw same list_used))
 
   view_after : (other second : ℕ) (view : View) → view_of root other second ≡ Some view → TablesStay memory changed view.tables
   view_after other second view kept = record {
     root = frame_stays view.tables.root.0 (part_differs other second 0 _ (used_part root other second 0 view kept (omega arith)));
-    pointers = frame_stays view.tables.pointers.0 (part_differs other second 1 _ (used_part root other second 1 view kept (omega arith)));
-    directory = frame_stays view.tables.directory.0 (part_differs other second 2 _ (used_part root other second 2 view kept (omega arith)));
-    first = frame_stays view.tables.first.0 (part_differs other second 3 _ (used_part root other second 3 view kept (omega arith)));
+    pointers =
+        frame_stays view.tables.pointers.0
+        (part_differs other second 1 _ (used_part root other second 1 view kept (omega arith)));
+    directory =
+        frame_stays view.tables.directory.0
+        (part_differs other second 2 _ (used_part root other second 2 view kept (omega arith)));
+    first = frame_stays view.tables.first.0
+        (part_differs other second 3 _ (used_part root other second 3 view kept (omega arith)));
   }
 
-  entry_by : (other : ℕ) → other < 512 → (one : Bool) → (other == index) ≡ one → word_at changed.bytes (entry_in list.0 other) ≡ list_entry root thread other
+  entry_by : (other : ℕ) → other < 512 → (one : Bool) → (other == index) ≡ one
+      → word_at changed.bytes (entry_in list.0 other) ≡ list_entry root thread other
   entry_by other small true e =
       let same = eqb-true other index e in
       let inside = (but.inside (ListOf thread) list.0 list_used).1 in
@@ -86,18 +97,23 @@ module _ (root : RootKernel) (memory : Physical) (thread index : ℕ) (list : Fr
       rw same (word_read_back memory.bytes (entry_in list.0 index) word (omega arith) fits ∙ is)
   entry_by other small false e =
       let differ = eqb-false other index e in
-      word_elsewhere memory.bytes (entry_in list.0 index) word (entry_in list.0 other) (omega arith) (omega arith) (λ same. differ (omega arith)) ∙ but.entries other small differ
+      word_elsewhere memory.bytes (entry_in list.0 index) word (entry_in list.0 other) (omega arith) (omega arith)
+      (λ same. differ (omega arith)) ∙ but.entries other small differ
 
-  list_by : (other : ℕ) (frame : Frame) → list_of root other ≡ Some frame → (one : Bool) → (other == thread) ≡ one → IsPage changed frame.0 (list_entry root other)
+  list_by : (other : ℕ) (frame : Frame) → eptp_list_frame root other ≡ Some frame → (one : Bool) → (other == thread) ≡ one
+      → IsPage changed frame.0 (list_entry root other)
   list_by other frame kept true e =
       let same = eqb-true other thread e in
-      let there : list_of root thread ≡ Some frame = subst (λ (t : ℕ). list_of root t ≡ Some frame) same kept in
+      let there : eptp_list_frame root thread ≡ Some frame = subst (λ (t : ℕ). eptp_list_frame root t ≡ Some frame) same kept in
       let one = some_frame list frame (sym but.list_is ∙ there) in
       rw (same, ← one) (record { entry = λ second small. entry_by second small (second == index) refl })
   list_by other frame kept false e =
       let differ = eqb-false other thread e in
       page_stays memory changed frame.0 (list_entry root other)
-      (frame_stays frame.0 (λ same. differ (one_list thread other (but.apart (ListOf other) (ListOf thread) frame.0 (used_list root other frame kept) (rw same list_used)))))
+      (frame_stays frame.0
+      (λ same. differ
+      (one_list thread other
+      (but.apart (ListOf other) (ListOf thread) frame.0 (used_list root other frame kept) (rw same list_used)))))
       (but.lists other frame differ kept)
 
   pub stands_after : Stands root changed
@@ -106,19 +122,25 @@ module _ (root : RootKernel) (memory : Physical) (thread index : ℕ) (list : Fr
     whole = whole_after;
     base = base_stays memory changed refl base_after but.base;
     lists = λ other frame kept. list_by other frame kept (other == thread) refl;
-    views = λ other second view kept. view_stays memory changed view refl (view_after other second view kept) (but.views other second view kept);
+    views = λ other second view kept. view_stays memory changed view refl (view_after other second view kept)
+        (but.views other second view kept);
     listed = but.listed;
     inside = but.inside;
     apart = but.apart;
   }
 
   pub base_same : SameAnswers memory changed base_eptp
-  base_same = walks_stay memory changed base_tables base_entries but.whole whole_after refl but.base.tables stands_after.base.tables base_after.shared
+  base_same =
+      walks_stay memory changed base_tables base_entries but.whole whole_after refl but.base.tables stands_after.base.tables
+      base_after.shared
 
-  pub view_same : (other second : ℕ) (view : View) → view_of root other second ≡ Some view → SameAnswers memory changed (eptp_of_view view)
+  pub view_same : (other second : ℕ) (view : View) → view_of root other second ≡ Some view
+      → SameAnswers memory changed (eptp_of_view view)
   view_same other second view kept =
-      walks_stay memory changed view.tables (view_entries view) but.whole whole_after refl (but.views other second view kept).tables (stands_after.views other second view kept).tables base_after.shared
+      walks_stay memory changed view.tables (view_entries view) but.whole whole_after refl
+      (but.views other second view kept).tables (stands_after.views other second view kept).tables base_after.shared
 
   -- the other pages of views
-  pub part_stays : (other second part : ℕ) (frame : ℕ) → used_frame root (PartOf other second part) ≡ Some frame → FrameStays memory changed frame
+  pub part_stays : (other second part : ℕ) (frame : ℕ) → used_frame root (PartOf other second part) ≡ Some frame
+      → FrameStays memory changed frame
   part_stays other second part frame used = frame_stays frame (part_differs other second part frame used)

@@ -66,13 +66,15 @@ module _ (view : View) (page : ℕ) where
 
 -- ---- tables above the lowest level
 
-pub directory_within : (first region table entry : ℕ) → table ≡ 32 + region → entry ≡ link_to table → 1 ≤ region → region < 16 → entry ≡ directory_entries first region
+pub directory_within : (first region table entry : ℕ) → table ≡ 32 + region → entry ≡ link_to table → 1 ≤ region → region < 16
+    → entry ≡ directory_entries first region
 directory_within first region table entry here is from within = grind (arith, common_steps)
 
 pub directory_beyond : (first index : ℕ) → 16 ≤ index → directory_entries first index ≡ 0
 directory_beyond first index beyond = grind (arith, common_steps)
 
-pub alike_page : (memory : Physical) (frame : ℕ) (entries others : ℕ → ℕ) → ((index : ℕ) → entries index ≡ others index) → IsPage memory frame entries → IsPage memory frame others
+pub alike_page : (memory : Physical) (frame : ℕ) (entries others : ℕ → ℕ) → ((index : ℕ) → entries index ≡ others index)
+    → IsPage memory frame entries → IsPage memory frame others
 alike_page memory frame entries others same page = record { entry = λ index within. page.entry index within ∙ same index }
 
 one_entry : (entry next : ℕ) → entry ≡ link_to next → (index : ℕ) → from_start (entry ∷ []) index ≡ upper_entries next index
@@ -80,5 +82,7 @@ one_entry entry next is zero = is
 one_entry entry next is (suc index) = let other : (suc index == 0) ≡ false = ne_eqb _ _ (omega arith) in rw other refl
 
 -- a table with one entry
-pub upper_page : (memory : Physical) (frame entry next : ℕ) → entry ≡ link_to next → IsPage memory frame (from_start (entry ∷ [])) → IsPage memory frame (upper_entries next)
-upper_page memory frame entry next is page = alike_page memory frame (from_start (entry ∷ [])) (upper_entries next) (one_entry entry next is) page
+pub upper_page : (memory : Physical) (frame entry next : ℕ) → entry ≡ link_to next
+    → IsPage memory frame (from_start (entry ∷ [])) → IsPage memory frame (upper_entries next)
+upper_page memory frame entry next is page =
+    alike_page memory frame (from_start (entry ∷ [])) (upper_entries next) (one_entry entry next is) page

@@ -26,7 +26,9 @@ pub record IsWritten (view : View) (words : RecordWords) (old new : Physical) : 
   pub scratch : IsZeroed new view.scratch_page.0
   pub same : SameOutside (view_frames view) old new
 
-three_among : (view : View) (frame : ℕ) → Contains (view.tables.root.0 ∷ view.tables.pointers.0 ∷ view.tables.directory.0 ∷ []) frame → Contains (view_frames view) frame
+three_among : (view : View) (frame : ℕ)
+    → Contains (view.tables.root.0 ∷ view.tables.pointers.0 ∷ view.tables.directory.0 ∷ []) frame
+    → Contains (view_frames view) frame
 three_among view frame (zero, within, is) = (0, omega arith, is)
 three_among view frame (suc zero, within, is) = (1, omega arith, is)
 three_among view frame (suc (suc zero), within, is) = (2, omega arith, is)
@@ -34,24 +36,35 @@ three_among view frame (suc (suc (suc k)), within, is) = absurd (omega arith)
 
 pub view_written : (view : View) (words : RecordWords) (old upper lowest full new : Physical) (entries written : List ℕ)
     → ((part : ℕ) → part < 6 → get_or (view_frames view) part 0 < frame_count old) → AreDifferent (view_frames view)
-    → IsPage upper view.tables.root.0 (upper_entries view.tables.pointers.0) → IsPage upper view.tables.pointers.0 (upper_entries view.tables.directory.0)
+    → IsPage upper view.tables.root.0 (upper_entries view.tables.pointers.0)
+    → IsPage upper view.tables.pointers.0 (upper_entries view.tables.directory.0)
     → IsPage upper view.tables.directory.0 (directory_entries view.tables.first.0)
     → SameOutside (view.tables.root.0 ∷ view.tables.pointers.0 ∷ view.tables.directory.0 ∷ []) old upper
-    → ((page : ℕ) → get_or entries page 0 ≡ view_entries view page) → IsPage lowest view.tables.first.0 (from_start entries) → SameOutside (view.tables.first.0 ∷ []) upper lowest
-    → written ≡ words_of words → IsPage full view.record_page.0 (from_start written) → HasSize full → SameOutside (view.record_page.0 ∷ []) lowest full
+    → ((page : ℕ) → get_or entries page 0 ≡ view_entries view page) → IsPage lowest view.tables.first.0 (from_start entries)
+    → SameOutside (view.tables.first.0 ∷ []) upper lowest
+    → written ≡ words_of words → IsPage full view.record_page.0 (from_start written) → HasSize full
+    → SameOutside (view.record_page.0 ∷ []) lowest full
     → new ≡ with_bytes full (clear_frame full.bytes view.scratch_page.0)
     → IsWritten view words old new
-view_written view words old upper lowest full new entries written inside different root pointers directory same_upper made first same_first is_words record_page size same_record is =
+view_written view words old upper lowest full new entries written inside different root pointers directory same_upper made first
+    same_first is_words record_page size same_record is =
     let frames = view_frames view in
     let scratch = view.scratch_page.0 in
     let same_scratch : SameOutside (scratch ∷ []) full new =
-    subst (SameOutside (scratch ∷ []) full) (sym is) (same_outside_cleared (scratch ∷ []) full scratch (Contains-get_or (scratch ∷ []) 0 0 (omega arith))) in
-    let present : new.present ≡ old.present = same_scratch.present ∙ same_record.present ∙ same_first.present ∙ same_upper.present in
+    subst (SameOutside (scratch ∷ []) full) (sym is)
+    (same_outside_cleared (scratch ∷ []) full scratch (Contains-get_or (scratch ∷ []) 0 0 (omega arith))) in
+    let present : new.present ≡ old.present =
+    same_scratch.present ∙ same_record.present ∙ same_first.present ∙ same_upper.present in
     let present_full : full.present ≡ old.present = same_record.present ∙ same_first.present ∙ same_upper.present in
-    let behind_first : (part : ℕ) (page : ℕ → ℕ) → part < 3 → IsPage upper (get_or frames part 0) page → IsPage new (get_or frames part 0) page = λ part page low standing.
-    page_stays full new _ page (stays_outside _ full new _ same_scratch (not_one _ _ (different part 5 (omega arith) (omega arith) (omega arith))))
-    (page_stays lowest full _ page (stays_outside _ lowest full _ same_record (not_one _ _ (different part 4 (omega arith) (omega arith) (omega arith))))
-    (page_stays upper lowest _ page (stays_outside _ upper lowest _ same_first (not_one _ _ (different part 3 (omega arith) (omega arith) (omega arith)))) standing)) in
+    let behind_first : (part : ℕ) (page : ℕ → ℕ) → part < 3 → IsPage upper (get_or frames part 0) page
+    → IsPage new (get_or frames part 0) page = λ part page low standing.
+    page_stays full new _ page
+    (stays_outside _ full new _ same_scratch (not_one _ _ (different part 5 (omega arith) (omega arith) (omega arith))))
+    (page_stays lowest full _ page
+    (stays_outside _ lowest full _ same_record (not_one _ _ (different part 4 (omega arith) (omega arith) (omega arith))))
+    (page_stays upper lowest _ page
+    (stays_outside _ upper lowest _ same_first (not_one _ _ (different part 3 (omega arith) (omega arith) (omega arith))))
+    standing)) in
     let within : (part : ℕ) → part < 6 → get_or frames part 0 < frame_count new = λ part low. rw present (inside part low) in
     let scratch_inside : scratch < frame_count full = rw present_full (inside 5 (omega arith)) in
     let whole = size.bytes in
@@ -60,18 +73,25 @@ view_written view words old upper lowest full new entries written inside differe
         root = behind_first 0 _ (omega arith) root;
         pointers = behind_first 1 _ (omega arith) pointers;
         directory = behind_first 2 _ (omega arith) directory;
-        first = page_stays full new _ _ (stays_outside _ full new _ same_scratch (not_one _ _ (different 3 5 (omega arith) (omega arith) (omega arith))))
-            (page_stays lowest full _ _ (stays_outside _ lowest full _ same_record (not_one _ _ (different 3 4 (omega arith) (omega arith) (omega arith))))
+        first = page_stays full new _ _
+            (stays_outside _ full new _ same_scratch (not_one _ _ (different 3 5 (omega arith) (omega arith) (omega arith))))
+            (page_stays lowest full _ _
+            (stays_outside _ lowest full _ same_record
+            (not_one _ _ (different 3 4 (omega arith) (omega arith) (omega arith))))
             (alike_page lowest _ _ _ made first));
         inside = (within 0 (omega arith), within 1 (omega arith), within 2 (omega arith), within 3 (omega arith));
       };
-      record_page = page_stays full new _ _ (stays_outside _ full new _ same_scratch (not_one _ _ (different 4 5 (omega arith) (omega arith) (omega arith))))
+      record_page =
+          page_stays full new _ _
+          (stays_outside _ full new _ same_scratch (not_one _ _ (different 4 5 (omega arith) (omega arith) (omega arith))))
           (subst (λ (list : List ℕ). IsPage full view.record_page.0 (from_start list)) is_words record_page);
       scratch = λ place here. rw is (byte_of_cleared full.bytes scratch place (omega arith) here);
       same = same_outside_then frames old upper new
           (same_within _ frames old upper (λ frame among. three_among view frame among) same_upper)
-          (same_outside_then frames upper lowest new (same_within_one _ frames upper lowest (Contains-get_or frames 3 0 (omega arith)) same_first)
-          (same_outside_then frames lowest full new (same_within_one _ frames lowest full (Contains-get_or frames 4 0 (omega arith)) same_record)
+          (same_outside_then frames upper lowest new
+          (same_within_one _ frames upper lowest (Contains-get_or frames 3 0 (omega arith)) same_first)
+          (same_outside_then frames lowest full new
+          (same_within_one _ frames lowest full (Contains-get_or frames 4 0 (omega arith)) same_record)
           (same_within_one _ frames full new (Contains-get_or frames 5 0 (omega arith)) same_scratch)));
     }
 
@@ -83,7 +103,8 @@ unfolding record_bytes
 bytes_written view words full new written different is_words holds is =
     let scratch = view.scratch_page.0 in
     let same : SameOutside (scratch ∷ []) full new =
-    subst (SameOutside (scratch ∷ []) full) (sym is) (same_outside_cleared (scratch ∷ []) full scratch (Contains-get_or (scratch ∷ []) 0 0 (omega arith))) in
+    subst (SameOutside (scratch ∷ []) full) (sym is)
+    (same_outside_cleared (scratch ∷ []) full scratch (Contains-get_or (scratch ∷ []) 0 0 (omega arith))) in
     holds_outside (scratch ∷ []) full new view.record_page.0 (words_put (zeros 4096) 0 (words_of words)) same
     (not_one _ _ (different 4 5 (omega arith) (omega arith) (omega arith)))
     (subst (λ (list : List ℕ). HoldsBytes full view.record_page.0 (words_put (zeros 4096) 0 list)) is_words holds)

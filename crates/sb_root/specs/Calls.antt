@@ -13,7 +13,7 @@ use Rattle.sb_root.specs.declared.root_kernel.NoFrames.{NoFrames}
 use Rattle.sb_root.specs.declared.root_kernel.RootKernel.{RootKernel}
 use Rattle.sb_root.specs.declared.view.View.{View}
 use Rattle.sb_root.specs.Tables.{IsPage, from_start}
-use Rattle.sb_root.specs.Root.{IsLowestFree, list_of, with_list, with_view, view_frames, part_kind, eptp_of_view}
+use Rattle.sb_root.specs.Root.{IsLowestFree, eptp_list_frame, with_list, with_view, view_frames, part_kind, eptp_of_view}
 use Rattle.sb_root.specs.Answers.{IsViewOf}
 
 -- so many frames are needed, and so many are free
@@ -34,14 +34,16 @@ with_parts book thread part (frame ∷ frames) =
 pub record SameBeside (frames : List ℕ) (at : ℕ) (old new : Physical) : Type 0 where
   pub present : new.present ≡ old.present
   pub size : length new.bytes ≡ length old.bytes
-  pub bytes : (place : ℕ) → ¬ Contains frames (frame_of place) → (place < at) ⊎ (at + 8 ≤ place) → get_or new.bytes place 0 ≡ get_or old.bytes place 0
+  pub bytes : (place : ℕ) → ¬ Contains frames (frame_of place) → (place < at) ⊎ (at + 8 ≤ place)
+      → get_or new.bytes place 0 ≡ get_or old.bytes place 0
 
 -- the bytes of a frame are zero
 abbrev pub IsZeroed : Physical → ℕ → Type 0
 IsZeroed memory frame = (place : ℕ) → frame_of place ≡ frame → get_or memory.bytes place 0 ≡ 0
 
 -- a thread got a list in a frame that was free
-pub record IsAddedList (root root' : RootKernel) (book book' : Book) (old new : Physical) (thread : ℕ) (frame : Frame) : Type 0 where
+pub record IsAddedList (root root' : RootKernel) (book book' : Book) (old new : Physical) (thread : ℕ)
+    (frame : Frame) : Type 0 where
   pub free : IsFree book frame.0
   pub taken : book' ≡ with_holder book frame.0 (Some (EptpList, thread))
   pub kept : root' ≡ with_list root thread frame
@@ -49,7 +51,8 @@ pub record IsAddedList (root root' : RootKernel) (book book' : Book) (old new : 
   pub same : SameOutside (frame.0 ∷ []) old new
 
 -- a thread got a view at its lowest free index, in frames that were free
-pub record IsAddedView (root root' : RootKernel) (book book' : Book) (old new : Physical) (thread : ℕ) (home target : Frame) (words : RecordWords) (server : Bool) (index : ℕ) (view : View) : Type 0 where
+pub record IsAddedView (root root' : RootKernel) (book book' : Book) (old new : Physical) (thread : ℕ) (home target : Frame)
+    (words : RecordWords) (server : Bool) (index : ℕ) (view : View) : Type 0 where
   pub lowest : IsLowestFree root thread index
   pub shows : (view.home_root ≡ home) × (view.target_root ≡ target) × (view.server ≡ server) × (view.listed ≡ true)
   pub free : (frame : ℕ) → Contains (view_frames view) frame → IsFree book frame
@@ -60,4 +63,5 @@ pub record IsAddedView (root root' : RootKernel) (book book' : Book) (old new : 
   pub record_page : IsPage new view.record_page.0 (from_start (words_of words))
   pub record_page_bytes : HoldsBytes new view.record_page.0 (record_bytes words)
   pub scratch : IsZeroed new view.scratch_page.0
-  pub same : (list : Frame) → list_of root thread ≡ Some list → SameBeside (view_frames view) (entry_in list.0 index) old new
+  pub same : (list : Frame) → eptp_list_frame root thread ≡ Some list
+      → SameBeside (view_frames view) (entry_in list.0 index) old new

@@ -26,8 +26,8 @@ abbrev pub leaf_to : ℕ → ℕ → ℕ
 leaf_to frame rights = if rights == 0 then 0 else PAGE_SIZE * frame + (LEAF_WRITE_BACK + rights)
 
 -- what an address answers whose page leads to a frame with these rights
-unfoldable pub reached : ℕ → ℕ → ℕ → Access → Result PhysAddr EptStop
-reached frame rights at access =
+unfoldable pub entry_reached : ℕ → ℕ → ℕ → Access → Result PhysAddr EptStop
+entry_reached frame rights at access =
     if rights == 0 then Err (NotPresent 1)
     else if ept_permits access rights then Ok (phys_in at frame)
     else Err (Denied 1)

@@ -14,8 +14,8 @@ pub record IsShaped (root : RootKernel) : Type 0 where
   pub views : (thread : ℕ) → thread < 32 → length (get_or root.views thread []) ≡ 16
 
 -- the frame of a thread's list
-abbrev pub list_of : RootKernel → ℕ → Option Frame
-list_of root thread = get_or root.lists thread None
+abbrev pub eptp_list_frame : RootKernel → ℕ → Option Frame
+eptp_list_frame root thread = get_or root.lists thread None
 
 -- what is kept of a thread's index: a view, also one whose list entry was cleared
 abbrev pub view_of : RootKernel → ℕ → ℕ → Option View
@@ -69,8 +69,8 @@ with_view root thread index view =
     record root { views = slice_set root.views thread (slice_set (get_or root.views thread []) index (Some view)) }
 
 -- a view whose list entry was cleared
-abbrev pub unlisted : View → View
-unlisted view = record view { listed = false }
+abbrev pub without_listing : View → View
+without_listing view = record view { listed = false }
 
 -- ---- the frames that were taken
 
@@ -95,11 +95,13 @@ list_frame_in (Some frame) = Some frame.0
 
 abbrev pub part_in : Option View → ℕ → Option ℕ
 part_in None part = None
-part_in (Some view) part = get_or (Some view.tables.root.0 ∷ Some view.tables.pointers.0 ∷ Some view.tables.directory.0 ∷ Some view.tables.first.0 ∷ Some view.record_page.0 ∷ Some view.scratch_page.0 ∷ []) part None
+part_in (Some view) part =
+    get_or (Some view.tables.root.0 ∷ Some view.tables.pointers.0 ∷ Some view.tables.directory.0 ∷ Some view.tables.first.0 ∷ Some
+    view.record_page.0 ∷ Some view.scratch_page.0 ∷ []) part None
 
 -- the frame that is used so
 abbrev pub used_frame : RootKernel → Use → Option ℕ
-used_frame root (ListOf thread) = list_frame_in (list_of root thread)
+used_frame root (ListOf thread) = list_frame_in (eptp_list_frame root thread)
 used_frame root (PartOf thread index part) = part_in (view_of root thread index) part
 
 -- what it is taken for in the frame book

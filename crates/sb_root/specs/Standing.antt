@@ -7,7 +7,7 @@ use Rattle.sb_frames.specs.Book.{Book, holder}
 use Rattle.sb_root.specs.declared.root_kernel.RootKernel.{RootKernel}
 use Rattle.sb_root.specs.declared.view.View.{View}
 use Rattle.sb_root.specs.Tables.{IsPage, HasTables, IsRootMemory, HasBase, base_frames, view_entries}
-use Rattle.sb_root.specs.Root.{IsShaped, Use, ListOf, PartOf, list_of, view_of, list_entry, used_frame, kind_for, owner_for}
+use Rattle.sb_root.specs.Root.{IsShaped, Use, ListOf, PartOf, eptp_list_frame, view_of, list_entry, used_frame, kind_for, owner_for}
 
 -- the frame of the root of a process's page tables
 abbrev pub IsRootFrame : ℕ → Type 0
@@ -25,16 +25,19 @@ pub record Stands (root : RootKernel) (memory : Physical) : Type 0 where
   pub shape : IsShaped root
   pub whole : IsRootMemory memory
   pub base : HasBase memory
-  pub lists : (thread : ℕ) (frame : Frame) → list_of root thread ≡ Some frame → IsPage memory frame.0 (list_entry root thread)
+  pub lists : (thread : ℕ) (frame : Frame) → eptp_list_frame root thread ≡ Some frame
+      → IsPage memory frame.0 (list_entry root thread)
   pub views : (thread index : ℕ) (view : View) → view_of root thread index ≡ Some view → HasView memory view
-  pub listed : (thread index : ℕ) (view : View) → view_of root thread index ≡ Some view → list_of root thread ≢ None
+  pub listed : (thread index : ℕ) (view : View) → view_of root thread index ≡ Some view → eptp_list_frame root thread ≢ None
   pub inside : (purpose : Use) (frame : ℕ) → used_frame root purpose ≡ Some frame → (512 ≤ frame) × (frame < frame_count memory)
-  pub apart : (first second : Use) (frame : ℕ) → used_frame root first ≡ Some frame → used_frame root second ≡ Some frame → first ≡ second
+  pub apart : (first second : Use) (frame : ℕ) → used_frame root first ≡ Some frame → used_frame root second ≡ Some frame
+      → first ≡ second
 
 -- the frames of a root kernel are taken in the book of the memory, each for its use and by its thread
 pub record IsBooked (root : RootKernel) (book : Book) (memory : Physical) : Type 0 where
   pub size : length book + 512 ≡ frame_count memory
-  pub held : (purpose : Use) (frame : ℕ) → used_frame root purpose ≡ Some frame → holder book frame ≡ Some (kind_for purpose, owner_for purpose)
+  pub held : (purpose : Use) (frame : ℕ) → used_frame root purpose ≡ Some frame
+      → holder book frame ≡ Some (kind_for purpose, owner_for purpose)
 
 -- a list, or one of the four tables of a view: what walks and switches read
 abbrev pub IsTable : Use → Type 0

@@ -9,16 +9,16 @@ use Rattle.sb_root.specs.declared.switch_answer.Switch.{Switch}
 use Rattle.sb_root.specs.declared.switch_answer.Switch.TheVariants.{To, Unbound, BadLeaf}
 
 -- what an entry of the list says
-abbrev pub entry_switched : Result ℕ Missing → Result Switch Missing
-entry_switched (Ok entry) = Ok (if is_eptp entry then To entry else Unbound)
-entry_switched (Err gap) = Err gap
+abbrev pub switch_by_entry : Result ℕ Missing → Result Switch Missing
+switch_by_entry (Ok entry) = Ok (if is_eptp entry then To entry else Unbound)
+switch_by_entry (Err gap) = Err gap
 
 -- the leaf function 0 by an index of the list that stands in a frame
-unfoldable pub switched : Physical → ℕ → ℕ → ℕ → Result Switch Missing
-switched memory list eax ecx =
+unfoldable pub switch_result : Physical → ℕ → ℕ → ℕ → Result Switch Missing
+switch_result memory list eax ecx =
     if not (eax == 0) then Ok BadLeaf
     else if not (nat_lt ecx 512) then Ok Unbound
-    else entry_switched (word_read memory (entry_in list ecx))
+    else switch_by_entry (word_read memory (entry_in list ecx))
 
 -- the places of the words that are read for it
 unfoldable pub switch_reads : ℕ → ℕ → ℕ → List ℕ

@@ -7,13 +7,19 @@ use Rattle.sb_memory.specs.Physical.{Physical, HasSize, HasAllFrames, frame_coun
 use Rattle.sb_memory.specs.Words.{word_at}
 use Rattle.sb_walks.specs.Entry.{entry_in}
 use Rattle.sb_root.specs.declared.entry.TheConstants.{RIGHT_READ, RIGHT_READ_WRITE, RIGHT_EXECUTE}
-use Rattle.sb_root.specs.declared.tables.EptTables.{EptTables}
+use Rattle.sb_root.specs.declared.tables.ViewTables.{ViewTables}
 use Rattle.sb_root.specs.declared.view.View.{View}
 use Rattle.sb_root.specs.Entry.{eptp_to, link_to, leaf_to, is_rights}
 
 -- the tables of the base: frames 5, 6, 7 and 32
-abbrev pub base_tables : EptTables
-base_tables = record { root = record { 0 = 5 }; pointers = record { 0 = 6 }; directory = record { 0 = 7 }; first = record { 0 = FIRST_REGION_TABLE } }
+abbrev pub base_tables : ViewTables
+base_tables =
+    record {
+      root = record { 0 = 5 };
+      pointers = record { 0 = 6 };
+      directory = record { 0 = 7 };
+      first = record { 0 = FIRST_REGION_TABLE };
+    }
 
 abbrev pub base_eptp : ℕ
 base_eptp = eptp_to 5
@@ -73,12 +79,13 @@ view_entries view page =
     else base_entries page
 
 -- four tables stand in a memory, the lowest with these entries
-pub record HasTables (memory : Physical) (tables : EptTables) (entries : ℕ → ℕ) : Type 0 where
+pub record HasTables (memory : Physical) (tables : ViewTables) (entries : ℕ → ℕ) : Type 0 where
   pub root : IsPage memory tables.root.0 (upper_entries tables.pointers.0)
   pub pointers : IsPage memory tables.pointers.0 (upper_entries tables.directory.0)
   pub directory : IsPage memory tables.directory.0 (directory_entries tables.first.0)
   pub first : IsPage memory tables.first.0 entries
-  pub inside : (tables.root.0 < frame_count memory) × (tables.pointers.0 < frame_count memory) × (tables.directory.0 < frame_count memory) × (tables.first.0 < frame_count memory)
+  pub inside : (tables.root.0 < frame_count memory) × (tables.pointers.0 < frame_count memory)
+      × (tables.directory.0 < frame_count memory) × (tables.first.0 < frame_count memory)
 
 -- the place of the lowest entry for a page after the first 2 MiB
 abbrev pub shared_place : ℕ → ℕ

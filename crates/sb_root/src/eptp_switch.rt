@@ -2,8 +2,8 @@
 
 ghost use Rattle.std.specs.Prelude.{◌≡◌, ◌<◌};
 ghost use Rattle.sb_memory.specs.Physical.{frame_count};
-ghost use Rattle.sb_memory.specs.Accounts.{after_words};
-ghost use Rattle.sb_root.specs.Switch.{switch_reads, switched};
+ghost use Rattle.sb_memory.specs.Accounts.{account_after_words};
+ghost use Rattle.sb_root.specs.Switch.{switch_reads, switch_result};
 
 use crate::switch_answer::Switch;
 use sb_memory::{Frame, Missing, Phys};
@@ -16,12 +16,12 @@ const LIST_ENTRIES: u32 = 512;
 ///
 /// `BadLeaf` comes exactly where EAX is not 0. `Unbound` comes exactly where EAX is 0 and ECX is 512 or more, or the entry is
 /// no EPT pointer. `Missing` comes exactly where the entry would be read and the list's frame is not there.
-#[tactic(auto, unfolding(crate::specs::Switch::switched, crate::specs::Switch::switch_reads))]
+#[tactic(auto, unfolding(crate::specs::Switch::switch_result, crate::specs::Switch::switch_reads))]
 pub fn switch<P: Phys>(phys: &mut P, list: Frame, eax: u32, ecx: u32) -> Result<Switch, Missing>
     requires { list.0 < frame_count (P.meaning phys.old) }
-    ensures answer { result ≡ switched (P.meaning phys.old) list.0 eax ecx }
+    ensures answer { result ≡ switch_result (P.meaning phys.old) list.0 eax ecx }
     ensures same { P.meaning phys.new ≡ P.meaning phys.old }
-    ensures account { P.account phys.new ≡ after_words P.rule (P.meaning phys.old) (switch_reads list.0 eax ecx) (P.account phys.old) }
+    ensures account { P.account phys.new ≡ account_after_words P.rule (P.meaning phys.old) (switch_reads list.0 eax ecx) (P.account phys.old) }
     ensures kept { P.kept phys.new ≡ P.kept phys.old }
 {
     if eax != 0 {

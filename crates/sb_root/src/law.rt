@@ -11,10 +11,10 @@ ghost use Rattle.sb_frames.specs.Book.{Book, with_holder};
 ghost use Rattle.sb_root.specs.declared.switch_answer.Switch.{Switch};
 ghost use Rattle.sb_root.specs.declared.root_kernel.RootKernel.{RootKernel};
 ghost use Rattle.sb_root.specs.declared.view.View.{View};
-ghost use Rattle.sb_root.specs.Root.{IsSet, Use, eptp_of_view, is_listed, list_entry, list_of, used_frame, view_of};
+ghost use Rattle.sb_root.specs.Root.{IsSet, Use, eptp_of_view, is_listed, list_entry, eptp_list_frame, used_frame, view_of};
 ghost use Rattle.sb_root.specs.Standing.{IsApart, IsBooked, Stands};
 ghost use Rattle.sb_root.specs.Answers.{IsViewOf, SameViews};
-ghost use Rattle.sb_root.specs.Switch.{switched};
+ghost use Rattle.sb_root.specs.Switch.{switch_result};
 
 /// Under every change that leaves the frames of tables and lists alone, a root kernel stands as before, and the base and each
 /// view answer as before. Frames that it does not use may be taken and given back.
@@ -33,8 +33,8 @@ pub fn views_answer()
 /// A switch by a thread's list leads to the view of an index that is set, and nowhere else. The pointer of such a view leads to
 /// a table in the memory.
 pub fn lists_lead_to_views()
-    ensures set { (root : RootKernel) (memory : Physical) (thread index : ℕ) (list : Frame) → Stands root memory → list_of root thread ≡ Some list → IsSet root thread index → index < 512 → switched memory list.0 0 index ≡ Ok (Switch.To (list_entry root thread index)) }
-    ensures free { (root : RootKernel) (memory : Physical) (thread index : ℕ) (list : Frame) → Stands root memory → list_of root thread ≡ Some list → is_listed (view_of root thread index) ≡ false → switched memory list.0 0 index ≡ Ok Switch.Unbound }
+    ensures set { (root : RootKernel) (memory : Physical) (thread index : ℕ) (list : Frame) → Stands root memory → eptp_list_frame root thread ≡ Some list → IsSet root thread index → index < 512 → switch_result memory list.0 0 index ≡ Ok (Switch.To (list_entry root thread index)) }
+    ensures free { (root : RootKernel) (memory : Physical) (thread index : ℕ) (list : Frame) → Stands root memory → eptp_list_frame root thread ≡ Some list → is_listed (view_of root thread index) ≡ false → switch_result memory list.0 0 index ≡ Ok Switch.Unbound }
     ensures pointer { (root : RootKernel) (memory : Physical) (thread index : ℕ) → Stands root memory → IsSet root thread index → IsTrue (is_eptp (list_entry root thread index)) }
     ensures inside { (root : RootKernel) (memory : Physical) (thread index : ℕ) → Stands root memory → IsSet root thread index → frame_in (list_entry root thread index) < frame_count memory }
 {}

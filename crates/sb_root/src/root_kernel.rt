@@ -11,7 +11,7 @@ ghost use Rattle.sb_frames.specs.Book.{Book, free_count};
 ghost use Rattle.sb_root.specs.declared.view.View.{View};
 ghost use Rattle.sb_root.specs.Entry.{is_rights, leaf_to};
 ghost use Rattle.sb_root.specs.Tables.{base_frames, shared_frames, shared_place};
-ghost use Rattle.sb_root.specs.Root.{HasFreeIndex, IsLowestFree, IsSet, entry_of_view, is_listed, list_of, no_threads, unlisted, view_of, with_view};
+ghost use Rattle.sb_root.specs.Root.{HasFreeIndex, IsLowestFree, IsSet, entry_of_view, is_listed, eptp_list_frame, no_threads, without_listing, view_of, with_view};
 ghost use Rattle.sb_root.specs.Standing.{IsBooked, IsRootFrame, Stands};
 ghost use Rattle.sb_root.specs.Answers.{Exposes, IsFirstBase, SameViews};
 ghost use Rattle.sb_root.specs.Calls.{IsAddedList, IsAddedView, no_frames};
@@ -102,7 +102,7 @@ impl RootKernel {
         requires stands { Stands self.old memory.old }
         requires booked { IsBooked self.old book.old memory.old }
         requires thread { thread < 32 }
-        requires none { list_of self.old thread ≡ None }
+        requires none { eptp_list_frame self.old thread ≡ None }
         ensures refused { IsErr result ↔ (free_count book.old ≡ 0) }
         ensures cause { IfErr result (λ refusal. refusal ≡ no_frames 1 (free_count book.old)) }
         ensures unchanged { IfErr result (λ _. (self.new ≡ self.old) × (book.new ≡ book.old) × (memory.new ≡ memory.old)) }
@@ -139,7 +139,7 @@ impl RootKernel {
         requires stands { Stands self.old memory.old }
         requires booked { IsBooked self.old book.old memory.old }
         requires thread { thread < 32 }
-        requires list { list_of self.old thread ≢ None }
+        requires list { eptp_list_frame self.old thread ≢ None }
         requires room { HasFreeIndex self.old thread }
         requires home { IsRootFrame home_root.0 }
         requires target { IsRootFrame target_root.0 }
@@ -169,10 +169,10 @@ impl RootKernel {
     pub fn clear_entry(&mut self, memory: &mut Memory, thread: u8, index: u16)
         requires stands { Stands self.old memory.old }
         requires thread { thread < 32 }
-        requires list { list_of self.old thread ≢ None }
+        requires list { eptp_list_frame self.old thread ≢ None }
         requires set { IsSet self.old thread index }
-        ensures root { (view : View) → view_of self.old thread index ≡ Some view → self.new ≡ with_view self.old thread index (unlisted view) }
-        ensures entry { (list : Frame) → list_of self.old thread ≡ Some list → memory.new ≡ with_bytes memory.old (put_word memory.old.bytes (entry_in list.0 index) 0) }
+        ensures root { (view : View) → view_of self.old thread index ≡ Some view → self.new ≡ with_view self.old thread index (without_listing view) }
+        ensures entry { (list : Frame) → eptp_list_frame self.old thread ≡ Some list → memory.new ≡ with_bytes memory.old (put_word memory.old.bytes (entry_in list.0 index) 0) }
         ensures stands { Stands self.new memory.new }
         ensures booked { (book : Book) → IsBooked self.old book memory.old → IsBooked self.new book memory.new }
         ensures views { SameViews self.old memory.old memory.new }
@@ -193,7 +193,7 @@ impl RootKernel {
     /// Whether a thread has a list.
     pub fn has_list(&self, thread: u8) -> bool
         requires thread { thread < 32 }
-        ensures { (result ≡ false) ↔ (list_of self.now thread ≡ None) }
+        ensures { (result ≡ false) ↔ (eptp_list_frame self.now thread ≡ None) }
     {
         self.lists[usize::from(thread)].is_some()
     }
@@ -201,8 +201,8 @@ impl RootKernel {
     /// The frame of a thread's list.
     pub fn list_frame(&self, thread: u8) -> Frame
         requires thread { thread < 32 }
-        requires list { list_of self.now thread ≢ None }
-        ensures { list_of self.now thread ≡ Some result }
+        requires list { eptp_list_frame self.now thread ≢ None }
+        ensures { eptp_list_frame self.now thread ≡ Some result }
     {
         self.lists[usize::from(thread)].unwrap()
     }
@@ -235,11 +235,11 @@ impl RootKernel {
     /// Puts a view at an index of a thread, and its entry into the list.
     fn put_view(&mut self, memory: &mut Memory, thread: u8, index: u16, view: View)
         requires thread { thread < 32 }
-        requires list { list_of self.old thread ≢ None }
+        requires list { eptp_list_frame self.old thread ≢ None }
         requires index { index < 16 }
-        requires inside { (list : Frame) → list_of self.old thread ≡ Some list → list.0 < frame_count memory.old }
+        requires inside { (list : Frame) → eptp_list_frame self.old thread ≡ Some list → list.0 < frame_count memory.old }
         ensures root { self.new ≡ with_view self.old thread index view }
-        ensures entry { (list : Frame) → list_of self.old thread ≡ Some list → memory.new ≡ with_bytes memory.old (put_word memory.old.bytes (entry_in list.0 index) (entry_of_view view)) }
+        ensures entry { (list : Frame) → eptp_list_frame self.old thread ≡ Some list → memory.new ≡ with_bytes memory.old (put_word memory.old.bytes (entry_in list.0 index) (entry_of_view view)) }
     {
         let list = self.list_frame(thread);
         memory.set_word(list.word(u64::from(index)), view.list_entry());

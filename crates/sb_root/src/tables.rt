@@ -5,7 +5,7 @@ ghost use Rattle.sb_abi.specs.declared.layout.TheConstants.{FIRST_REGION_TABLE};
 ghost use Rattle.sb_memory.specs.Physical.{HasSize, frame_count};
 ghost use Rattle.sb_memory.specs.Changes.{SameOutside};
 ghost use Rattle.sb_root.specs.Entry.{link_to};
-ghost use Rattle.sb_root.specs.Tables.{IsPage, upper_entries, directory_entries as directory_entry};
+ghost use Rattle.sb_root.specs.Tables.{IsPage, upper_entries, directory_entries};
 
 use crate::entry::link;
 use crate::page::put_page;
@@ -17,7 +17,7 @@ use sb_memory::{Frame, Memory};
 /// The tables of level 1 for all but the first 2 MiB are the base's, and every EPT leads to them. So a page behind the first
 /// 2 MiB is mapped in all views by one entry.
 #[derive(Clone, Copy, Debug, PartialEq, Eq)]
-pub struct EptTables {
+pub struct ViewTables {
     /// Level 4.
     pub root: Frame,
     /// Level 3.
@@ -29,7 +29,7 @@ pub struct EptTables {
 }
 
 /// The tables of the base.
-pub const BASE: EptTables = EptTables {
+pub const BASE: ViewTables = ViewTables {
     root: Frame(5),
     pointers: Frame(6),
     directory: Frame(7),
@@ -47,14 +47,14 @@ pub fn region_table(region: usize) -> Frame
     Frame(BASE.first.0 + region as u32)
 }
 
-impl EptTables {
+impl ViewTables {
     /// Writes the tables of levels 4, 3 and 2.
     pub fn put_upper(&self, memory: &mut Memory)
         requires inside { (self.now.root.0 < frame_count memory.old) × (self.now.pointers.0 < frame_count memory.old) × (self.now.directory.0 < frame_count memory.old) }
         requires different { (self.now.root.0 ≢ self.now.pointers.0) × (self.now.root.0 ≢ self.now.directory.0) × (self.now.pointers.0 ≢ self.now.directory.0) }
         ensures root { IsPage memory.new self.now.root.0 (upper_entries self.now.pointers.0) }
         ensures pointers { IsPage memory.new self.now.pointers.0 (upper_entries self.now.directory.0) }
-        ensures directory { IsPage memory.new self.now.directory.0 (directory_entry self.now.first.0) }
+        ensures directory { IsPage memory.new self.now.directory.0 (directory_entries self.now.first.0) }
         ensures size { HasSize memory.new }
         ensures same { SameOutside (self.now.root.0 ∷ self.now.pointers.0 ∷ self.now.directory.0 ∷ []) memory.old memory.new }
     {
@@ -65,7 +65,7 @@ impl EptTables {
 
     /// The first entries of the table of level 2, one for each region.
     fn directory_entries(&self) -> [u64; 16]
-        ensures { (index : ℕ) → get_or result index 0 ≡ directory_entry self.now.first.0 index }
+        ensures { (index : ℕ) → get_or result index 0 ≡ directory_entries self.now.first.0 index }
     {
         let mut entries = [link(self.first); REGIONS];
         for region in 1..REGIONS {

@@ -6,7 +6,7 @@ ghost use Rattle.sb_frames.specs.Book.{free_count};
 ghost use Rattle.sb_root.specs.Root.{AreDifferent, view_frames};
 ghost use Rattle.sb_root.specs.Calls.{IsFree, with_parts};
 
-use crate::tables::EptTables;
+use crate::tables::ViewTables;
 use crate::view::View;
 use sb_frames::{FrameBook, Kind};
 use sb_memory::Frame;
@@ -37,7 +37,7 @@ pub fn take_view(
     let record_page = book.take_free(Kind::RecordPage, owner);
     let scratch_page = book.take_free(Kind::ScratchPage, owner);
     View {
-        tables: EptTables {
+        tables: ViewTables {
             root,
             pointers,
             directory,

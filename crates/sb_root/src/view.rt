@@ -4,13 +4,13 @@ ghost use Rattle.std.specs.Prelude.{ℕ, ◌≡◌, ◌≢◌, ◌<◌, ◌≤�
 ghost use Rattle.sb_memory.specs.Physical.{HasSize, HoldsBytes, frame_count};
 ghost use Rattle.sb_memory.specs.Changes.{SameOutside};
 ghost use Rattle.sb_tramp.specs.Record.{record_bytes, words_of};
-ghost use Rattle.sb_root.specs.Tables.{HasTables, IsPage, base_entries as base_page, from_start, view_entries};
+ghost use Rattle.sb_root.specs.Tables.{HasTables, IsPage, base_entries, from_start, view_entries};
 ghost use Rattle.sb_root.specs.Root.{AreDifferent, entry_of_view, view_frames};
 ghost use Rattle.sb_root.specs.Calls.{IsZeroed};
 
 use crate::entry::{RIGHT_EXECUTE, RIGHT_READ, RIGHT_READ_WRITE, eptp, leaf};
 use crate::page::put_page;
-use crate::tables::EptTables;
+use crate::tables::ViewTables;
 use sb_abi::{FIRST_ROOT, HOME_TRAMPOLINE_FRAME, LAST_ROOT, SERVER_TRAMPOLINE_FRAME};
 use sb_memory::{Frame, Memory};
 use sb_tramp::RecordWords;
@@ -28,7 +28,7 @@ const SCRATCH_GUEST_PAGE: u32 = 3;
 /// A view of a thread, by its frames and by what it shows.
 #[derive(Clone, Copy, Debug, PartialEq, Eq)]
 pub struct View {
-    pub tables: EptTables,
+    pub tables: ViewTables,
     /// Read at guest-physical 2000.
     pub record_page: Frame,
     /// Read and written at guest-physical 3000.
@@ -107,7 +107,7 @@ impl View {
 
 /// The lowest entries of the pages that the base maps by entries of its own.
 pub fn base_entries() -> [u64; 32]
-    ensures { (page : ℕ) → get_or result page 0 ≡ base_page page }
+    ensures { (page : ℕ) → get_or result page 0 ≡ base_entries page }
 {
     let mut entries = [0; LOW_PAGES];
     for page in 0..LOW_PAGES {
@@ -119,7 +119,7 @@ pub fn base_entries() -> [u64; 32]
 /// The lowest entry of a page of the base: the home trampoline page, and the roots of page tables.
 #[tactic(auto, unfolding(crate::specs::Tables::base_entries))]
 fn base_entry(page: u32) -> u64
-    ensures { result ≡ base_page page }
+    ensures { result ≡ base_entries page }
 {
     match page {
         TRAMPOLINE_GUEST_PAGE => leaf(Frame(HOME_TRAMPOLINE_FRAME), RIGHT_EXECUTE),

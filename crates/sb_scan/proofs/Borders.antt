@@ -11,7 +11,8 @@ use Rattle.sb_scan.proofs.Places.{read_within, apart}
 ends_within : (bytes : List ℕ) (place : ℕ) → HasPatternAt bytes place → place + 2 < length bytes
 ends_within bytes place stands = read_within bytes (place + 2) (omega (arith, stands.2))
 
-in_front : (bytes others : List ℕ) (place : ℕ) → place + 2 < length bytes → HasPatternAt (bytes ++ others) place → HasPatternAt bytes place
+in_front : (bytes others : List ℕ) (place : ℕ) → place + 2 < length bytes → HasPatternAt (bytes ++ others) place
+    → HasPatternAt bytes place
 in_front bytes others place within stands = (
   sym (get_or_append_left bytes others 0 place (omega arith)) ∙ stands.0,
   sym (get_or_append_left bytes others 0 (place + 1) (omega arith)) ∙ stands.1,
@@ -27,19 +28,22 @@ with_others bytes others place stands =
     )
 
 -- a byte behind others
-one_behind : (others bytes : List ℕ) (place count : ℕ) → get_or (others ++ bytes) (length others + place + count) 0 ≡ get_or bytes (place + count) 0
+one_behind : (others bytes : List ℕ) (place count : ℕ)
+    → get_or (others ++ bytes) (length others + place + count) 0 ≡ get_or bytes (place + count) 0
 one_behind others bytes place count =
     let moved : length others + place + count ≡ length others + (place + count) = omega arith in
     ap (λ (k : ℕ). get_or (others ++ bytes) k 0) moved ∙ get_or-append-add others bytes (place + count) 0
 
-behind_others : (others bytes : List ℕ) (place : ℕ) → HasPatternAt bytes place → HasPatternAt (others ++ bytes) (length others + place)
+behind_others : (others bytes : List ℕ) (place : ℕ) → HasPatternAt bytes place
+    → HasPatternAt (others ++ bytes) (length others + place)
 behind_others others bytes place stands = (
   get_or-append-add others bytes place 0 ∙ stands.0,
   one_behind others bytes place 1 ∙ stands.1,
   one_behind others bytes place 2 ∙ stands.2,
 )
 
-from_behind : (others bytes : List ℕ) (place : ℕ) → HasPatternAt (others ++ bytes) (length others + place) → HasPatternAt bytes place
+from_behind : (others bytes : List ℕ) (place : ℕ) → HasPatternAt (others ++ bytes) (length others + place)
+    → HasPatternAt bytes place
 from_behind others bytes place stands = (
   sym (get_or-append-add others bytes place 0) ∙ stands.0,
   sym (one_behind others bytes place 1) ∙ stands.1,
@@ -58,7 +62,9 @@ spans_front before bytes behind place few some early stands =
     let all : (before ++ bytes) ++ behind ≡ before ++ (bytes ++ behind) = append_assoc before bytes behind in
     let size = length-append before bytes in
     let inside : place + 2 < length (before ++ bytes) = omega arith in
-    let there = in_front (before ++ bytes) behind place inside (subst (λ (whole : List ℕ). HasPatternAt whole place) (sym all) stands) in
+    let there =
+    in_front (before ++ bytes) behind place inside
+    (subst (λ (whole : List ℕ). HasPatternAt whole place) (sym all) stands) in
     record {
       some = omega arith;
       ends_behind = omega arith;
@@ -67,7 +73,8 @@ spans_front before bytes behind place few some early stands =
     }
 
 -- a place in the bytes that does not end in them is one across their end
-spans_end : (bytes behind : List ℕ) (place : ℕ) → place < length bytes → length bytes ≤ place + 2 → HasPatternAt (bytes ++ behind) place
+spans_end : (bytes behind : List ℕ) (place : ℕ) → place < length bytes → length bytes ≤ place + 2
+    → HasPatternAt (bytes ++ behind) place
     → SpansBy bytes behind (length bytes - place)
 spans_end bytes behind place inside late stands = record {
   some = omega arith;
@@ -78,11 +85,16 @@ spans_end bytes behind place inside late stands = record {
 
 -- where the pattern does not stand across the front, each place is in the bytes or behind them
 past_front : (before bytes behind : List ℕ) (place : ℕ) → length before ≤ 2 → 2 ≤ length bytes → IsSpan before bytes None
-    → HasPatternAt (before ++ (bytes ++ behind)) place → (length before ≤ place) × HasPatternAt (bytes ++ behind) (place - length before)
+    → HasPatternAt (before ++ (bytes ++ behind)) place
+    → (length before ≤ place) × HasPatternAt (bytes ++ behind) (place - length before)
 past_front before bytes behind place few some none stands =
-    let not_early : place < length before → ⊥ = λ early. none (length before - place) (spans_front before bytes behind place few some early stands) in
-    let late : length before ≤ place = omega arith in
-    (late, from_behind before (bytes ++ behind) (place - length before) (at_place (before ++ (bytes ++ behind)) place (length before + (place - length before)) (omega arith) stands))
+    let not_early : place < length before → ⊥ =
+    λ early. none (length before - place) (spans_front before bytes behind place few some early stands) in
+    let late : length before ≤ place = omega arith in (
+      late,
+      from_behind before (bytes ++ behind) (place - length before)
+          (at_place (before ++ (bytes ++ behind)) place (length before + (place - length before)) (omega arith) stands),
+    )
 
 -- ---- the first place
 
@@ -91,8 +103,13 @@ pub front_first : (before bytes behind : List ℕ) (count : ℕ) → length befo
     → HasFirstPatternAt (before ++ (bytes ++ behind)) (length before - count)
 front_first before bytes behind count few some spans =
     let all : (before ++ bytes) ++ behind ≡ before ++ (bytes ++ behind) = append_assoc before bytes behind in
-    let stands = subst (λ (whole : List ℕ). HasPatternAt whole (length before - count)) all (with_others (before ++ bytes) behind (length before - count) spans.stands) in
-    (stands, λ earlier early there. let far = apart (before ++ (bytes ++ behind)) earlier (length before - count) there stands (omega arith) in omega arith)
+    let stands =
+    subst (λ (whole : List ℕ). HasPatternAt whole (length before - count)) all
+    (with_others (before ++ bytes) behind (length before - count) spans.stands) in (
+      stands,
+      λ earlier early there.
+          let far = apart (before ++ (bytes ++ behind)) earlier (length before - count) there stands (omega arith) in omega arith,
+    )
 
 -- in the bytes
 pub inside_first : (before bytes behind : List ℕ) (place : ℕ) → length before ≤ 2 → 2 ≤ length bytes → IsSpan before bytes None
@@ -102,16 +119,19 @@ inside_first before bytes behind place few some none first =
       behind_others before (bytes ++ behind) place (with_others bytes behind place first.0),
       λ earlier early there.
           let past = past_front before bytes behind earlier few some none there in
-          first.1 (earlier - length before) (omega (arith, past.0)) (in_front bytes behind (earlier - length before) (omega (arith, past.0)) past.1),
+          first.1 (earlier - length before) (omega (arith, past.0))
+          (in_front bytes behind (earlier - length before) (omega (arith, past.0)) past.1),
     )
 
 -- across the end
-pub end_first : (before bytes behind : List ℕ) (count : ℕ) → length before ≤ 2 → 2 ≤ length bytes → IsSpan before bytes None → HasNoPattern bytes
+pub end_first : (before bytes behind : List ℕ) (count : ℕ) → length before ≤ 2 → 2 ≤ length bytes → IsSpan before bytes None
+    → HasNoPattern bytes
     → SpansBy bytes behind count → HasFirstPatternAt (before ++ (bytes ++ behind)) (length before + length bytes - count)
 end_first before bytes behind count few some none nowhere spans =
     let within = spans.within in
     let place : length before + (length bytes - count) ≡ length before + length bytes - count = omega arith in (
-      at_place (before ++ (bytes ++ behind)) _ _ place (behind_others before (bytes ++ behind) (length bytes - count) spans.stands),
+      at_place (before ++ (bytes ++ behind)) _ _ place
+          (behind_others before (bytes ++ behind) (length bytes - count) spans.stands),
       λ earlier early there.
           let past = past_front before bytes behind earlier few some none there in
           let sooner : earlier - length before < length bytes - count = omega (arith, past.0) in
@@ -120,7 +140,8 @@ end_first before bytes behind count few some none nowhere spans =
     )
 
 -- where it ends in the bytes or not
-early_or_late : (bytes behind : List ℕ) (place : ℕ) → length behind ≤ 2 → HasNoPattern bytes → IsSpan bytes behind None → ¬ HasPatternAt (bytes ++ behind) place
+early_or_late : (bytes behind : List ℕ) (place : ℕ) → length behind ≤ 2 → HasNoPattern bytes → IsSpan bytes behind None
+    → ¬ HasPatternAt (bytes ++ behind) place
 early_or_late bytes behind place few nowhere none stands =
     let end = ends_within (bytes ++ behind) place stands in
     let size = length-append bytes behind in
@@ -129,7 +150,8 @@ early_or_late bytes behind place few nowhere none stands =
     none (length bytes - place) (spans_end bytes behind place inside (omega arith) stands)
 
 -- nowhere
-pub none_first : (before bytes behind : List ℕ) → length before ≤ 2 → 2 ≤ length bytes → length behind ≤ 2 → IsSpan before bytes None → HasNoPattern bytes
+pub none_first : (before bytes behind : List ℕ) → length before ≤ 2 → 2 ≤ length bytes → length behind ≤ 2
+    → IsSpan before bytes None → HasNoPattern bytes
     → IsSpan bytes behind None → HasNoPattern (before ++ (bytes ++ behind))
 none_first before bytes behind few some few_behind front nowhere end = λ place stands.
     let past = past_front before bytes behind place few some front stands in

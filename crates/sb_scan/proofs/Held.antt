@@ -27,19 +27,23 @@ at_begins (a ∷ b ∷ c ∷ rest) stands = rw (eq-eqb a 0x0F stands.0, eq-eqb b
 
 -- a place of the pattern, one byte on
 pub behind : (byte : ℕ) (bytes : List ℕ) (place : ℕ) → HasPatternAt bytes place → HasPatternAt (byte ∷ bytes) (suc place)
-behind byte bytes place stands = let next : suc place + 1 ≡ suc (place + 1) = omega arith in let last : suc place + 2 ≡ suc (place + 2) = omega arith in
+behind byte bytes place stands = let next : suc place + 1 ≡ suc (place + 1) = omega arith in
+    let last : suc place + 2 ≡ suc (place + 2) = omega arith in
     (stands.0, ap (λ k. get_or (byte ∷ bytes) k 0) next ∙ stands.1, ap (λ k. get_or (byte ∷ bytes) k 0) last ∙ stands.2)
 
 pub before : (byte : ℕ) (bytes : List ℕ) (place : ℕ) → HasPatternAt (byte ∷ bytes) (suc place) → HasPatternAt bytes place
-before byte bytes place stands = let next : suc (place + 1) ≡ suc place + 1 = omega arith in let last : suc (place + 2) ≡ suc place + 2 = omega arith in
+before byte bytes place stands = let next : suc (place + 1) ≡ suc place + 1 = omega arith in
+    let last : suc (place + 2) ≡ suc place + 2 = omega arith in
     (stands.0, ap (λ k. get_or (byte ∷ bytes) k 0) next ∙ stands.1, ap (λ k. get_or (byte ∷ bytes) k 0) last ∙ stands.2)
 
 -- where the pattern stands, the test is true
 pub at_holds : (bytes : List ℕ) (place : ℕ) → HasPatternAt bytes place → holds_pattern bytes ≡ true
 unfolding holds_pattern
 at_holds [] place stands = absurd (omega (arith, stands.0))
-at_holds (byte ∷ bytes) zero stands = or_left (begins_with pattern (byte ∷ bytes)) (holds_pattern bytes) (at_begins (byte ∷ bytes) stands)
-at_holds (byte ∷ bytes) (suc place) stands = or_right (begins_with pattern (byte ∷ bytes)) (holds_pattern bytes) (at_holds bytes place (before byte bytes place stands))
+at_holds (byte ∷ bytes) zero stands =
+    or_left (begins_with pattern (byte ∷ bytes)) (holds_pattern bytes) (at_begins (byte ∷ bytes) stands)
+at_holds (byte ∷ bytes) (suc place) stands =
+    or_right (begins_with pattern (byte ∷ bytes)) (holds_pattern bytes) (at_holds bytes place (before byte bytes place stands))
 
 -- where the test is true, the pattern stands
 pub holds_at : (bytes : List ℕ) → holds_pattern bytes ≡ true → (place : ℕ) × HasPatternAt bytes place

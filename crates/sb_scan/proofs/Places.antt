@@ -20,7 +20,8 @@ stands_there bytes place occurs =
       occurs.reads 2 (omega arith),
     )
 
-byte_of : (bytes : List ℕ) (place : ℕ) → HasPatternAt bytes place → (k : ℕ) → k < 3 → get_or bytes (place + k) 0 ≡ get_or pattern k 0
+byte_of : (bytes : List ℕ) (place : ℕ) → HasPatternAt bytes place → (k : ℕ) → k < 3
+    → get_or bytes (place + k) 0 ≡ get_or pattern k 0
 byte_of bytes place stands zero small =
     let here : place + 0 ≡ place = omega arith in
     ap (λ k. get_or bytes k 0) here ∙ stands.0
@@ -75,27 +76,34 @@ here_or_later : (low place : ℕ) → low ≤ place → (place ≡ low) ⊎ (low
 here_or_later low place from = ⊎_elim (λ same. inl same) (λ other. inr (omega arith)) (cases_eq place low)
 
 -- none stands at a place, so all are behind it
-none_here : (bytes : List ℕ) (low : ℕ) (places : List ℕ) → ¬ HasPatternAt bytes low → ArePatternsFrom bytes (low + 1) places → ArePatternsFrom bytes low places
+none_here : (bytes : List ℕ) (low : ℕ) (places : List ℕ) → ¬ HasPatternAt bytes low → ArePatternsFrom bytes (low + 1) places
+    → ArePatternsFrom bytes low places
 none_here bytes low places not_here later = record {
   rising = later.rising;
   only = λ place held. (omega (arith, (later.only place held).0), (later.only place held).1);
   all = λ place from stands.
-      ⊎_elim (λ same. absurd (not_here (subst (λ k. HasPatternAt bytes k) same stands))) (λ behind. later.all place behind stands) (here_or_later low place from);
+      ⊎_elim (λ same. absurd (not_here (subst (λ k. HasPatternAt bytes k) same stands))) (λ behind. later.all place behind stands)
+      (here_or_later low place from);
 }
 
 -- the pattern does not overlap itself
-pub apart : (bytes : List ℕ) (low place : ℕ) → HasPatternAt bytes low → HasPatternAt bytes place → low + 1 ≤ place → low + 1 + 2 ≤ place
+pub apart : (bytes : List ℕ) (low place : ℕ) → HasPatternAt bytes low → HasPatternAt bytes place → low + 1 ≤ place
+    → low + 1 + 2 ≤ place
 apart bytes low place here there behind =
     let not_next : place ≡ low + 1 → ⊥ = λ same. omega (arith, sym there.0 ∙ ap (λ (k : ℕ). get_or bytes k 0) same ∙ here.1) in
     let not_last : place ≡ low + 2 → ⊥ = λ same. omega (arith, sym there.0 ∙ ap (λ (k : ℕ). get_or bytes k 0) same ∙ here.2) in
     omega arith
 
-rising_behind : (low : ℕ) (places : List ℕ) → ((place : ℕ) → Contains places place → low < place) → IsStrictlyIncreasing places → IsStrictlyIncreasing (low ∷ places)
+rising_behind : (low : ℕ) (places : List ℕ) → ((place : ℕ) → Contains places place → low < place)
+    → IsStrictlyIncreasing places → IsStrictlyIncreasing (low ∷ places)
 rising_behind low places above rising zero less = above (get_or places 0 0) (Contains-get_or places 0 0 (omega arith))
-rising_behind low places above rising (suc k) less = let next : get_or places k 0 < get_or places (k + 1) 0 = rising k (omega arith) in simp unary_clauses (simp unary_clauses at next)
+rising_behind low places above rising (suc k) less =
+    let next : get_or places k 0 < get_or places (k + 1) 0 = rising k (omega arith) in
+    simp unary_clauses (simp unary_clauses at next)
 
 -- one stands at a place, and the others are behind all of it
-one_here : (bytes : List ℕ) (low : ℕ) (places : List ℕ) → HasPatternAt bytes low → ArePatternsFrom bytes (low + 1 + 2) places → ArePatternsFrom bytes low (low ∷ places)
+one_here : (bytes : List ℕ) (low : ℕ) (places : List ℕ) → HasPatternAt bytes low → ArePatternsFrom bytes (low + 1 + 2) places
+    → ArePatternsFrom bytes low (low ∷ places)
 one_here bytes low places here later = record {
   rising = rising_behind low places (λ place held. omega (arith, (later.only place held).0)) later.rising;
   only = λ place held.
@@ -105,25 +113,31 @@ one_here bytes low places here later = record {
       (Contains-append_cases (low ∷ []) places place held);
   all = λ place from stands.
       ⊎_elim
-      (λ same. Contains-append_left (low ∷ []) places place (subst (λ k. Contains (low ∷ []) k) (sym same) (Contains-push [] low)))
-      (λ behind. Contains-append_right (low ∷ []) places place (later.all place (apart bytes low place here stands behind) stands))
+      (λ same. Contains-append_left (low ∷ []) places place
+      (subst (λ k. Contains (low ∷ []) k) (sym same) (Contains-push [] low)))
+      (λ behind. Contains-append_right (low ∷ []) places place
+      (later.all place (apart bytes low place here stands behind) stands))
       (here_or_later low place from);
 }
 
-one_or_none : (bytes : List ℕ) (low : ℕ) (behind next : List ℕ) → ArePatternsFrom bytes (low + 1 + 2) behind → ArePatternsFrom bytes (low + 1) next
+one_or_none : (bytes : List ℕ) (low : ℕ) (behind next : List ℕ) → ArePatternsFrom bytes (low + 1 + 2) behind
+    → ArePatternsFrom bytes (low + 1) next
     → ArePatternsFrom bytes low (if occurs_at bytes pattern low then low ∷ behind else next)
 one_or_none bytes low behind next further later =
     ⊎_elim
-    (λ is. subst (λ places. ArePatternsFrom bytes low places) (sym (cond-true _ _ _ is)) (one_here bytes low behind (stands_there bytes low (OccursAt-true bytes pattern low is)) further))
+    (λ is. subst (λ places. ArePatternsFrom bytes low places) (sym (cond-true _ _ _ is))
+    (one_here bytes low behind (stands_there bytes low (OccursAt-true bytes pattern low is)) further))
     (λ not_is.
     subst
     (λ places. ArePatternsFrom bytes low places)
     (sym (cond-false _ _ _ not_is))
-    (none_here bytes low next (λ stands. true≢false (sym (occurs_at-true bytes pattern low (occurs_there bytes low stands)) ∙ not_is)) later))
+    (none_here bytes low next (λ stands. true≢false (sym (occurs_at-true bytes pattern low (occurs_there bytes low stands))
+    ∙ not_is)) later))
     (cases_Bool (occurs_at bytes pattern low))
 
 -- the matches from a place on, after some places that are passed over
-matched : (bytes : List ℕ) (skip low count : ℕ) → length bytes ≤ low + count → ArePatternsFrom bytes (low + skip) (matches_from bytes pattern skip low count)
+matched : (bytes : List ℕ) (skip low count : ℕ) → length bytes ≤ low + count
+    → ArePatternsFrom bytes (low + skip) (matches_from bytes pattern skip low count)
 unfolding matches_from
 matched bytes skip low zero past = none_left bytes (low + skip) (omega arith)
 matched bytes zero low (suc count) past =
@@ -131,16 +145,20 @@ matched bytes zero low (suc count) past =
     subst
     (λ k. ArePatternsFrom bytes k (matches_from bytes pattern 0 low (suc count)))
     place
-    (one_or_none bytes low _ _ (matched bytes 2 (low + 1) count (omega arith)) (subst (λ k. ArePatternsFrom bytes k (matches_from bytes pattern 0 (low + 1) count)) (omega arith) (matched bytes 0 (low + 1) count (omega arith))))
+    (one_or_none bytes low _ _ (matched bytes 2 (low + 1) count (omega arith))
+    (subst (λ k. ArePatternsFrom bytes k (matches_from bytes pattern 0 (low + 1) count)) (omega arith)
+    (matched bytes 0 (low + 1) count (omega arith))))
 matched bytes (suc skip) low (suc count) past =
     let place : low + 1 + skip ≡ low + suc skip = omega arith in
-    subst (λ k. ArePatternsFrom bytes k (matches_from bytes pattern skip (low + 1) count)) place (matched bytes skip (low + 1) count (omega arith))
+    subst (λ k. ArePatternsFrom bytes k (matches_from bytes pattern skip (low + 1) count)) place
+    (matched bytes skip (low + 1) count (omega arith))
 
 -- what the search for all gives
 pub all_patterns : (bytes places : List ℕ) → places ≡ matches bytes pattern 0 → ArePatterns bytes places
 all_patterns bytes places same =
     let found : ArePatternsFrom bytes 0 (matches bytes pattern 0) =
-    subst (λ count. ArePatternsFrom bytes 0 (matches_from bytes pattern 0 0 count)) (omega arith) (matched bytes 0 0 (length bytes + 1) (omega arith)) in
+    subst (λ count. ArePatternsFrom bytes 0 (matches_from bytes pattern 0 0 count)) (omega arith)
+    (matched bytes 0 0 (length bytes + 1) (omega arith)) in
     let whole : ArePatterns bytes (matches bytes pattern 0) = record {
       rising = found.rising;
       only = λ place held. (found.only place held).1;

@@ -13,12 +13,12 @@ use Rattle.sb_walks.specs.declared.stop.WalkStop.{WalkStop}
 use Rattle.sb_walks.specs.declared.stop.WalkStop.TheVariants as guest
 use Rattle.sb_walks.specs.declared.stop.NestedStop.{NestedStop}
 use Rattle.sb_walks.specs.declared.stop.NestedStop.TheVariants as nested
-use Rattle.sb_walks.specs.Ept.{ept_walked, phys_in}
-use Rattle.sb_walks.specs.Guest.{entry_judged, address_in}
-use Rattle.sb_walks.specs.Nested.{mapped, page_behind}
+use Rattle.sb_walks.specs.Ept.{ept_walk, phys_in}
+use Rattle.sb_walks.specs.Guest.{guest_entry_answer, address_in}
+use Rattle.sb_walks.specs.Nested.{mapped_answer, page_behind}
 use Rattle.sb_pagewalk.specs.TableSet.{page_walked}
 use Rattle.sb_nested.specs.Stop.{stop_at, memory_fault}
-use Rattle.sb_root.specs.Entry.{reached}
+use Rattle.sb_root.specs.Entry.{entry_reached}
 use Rattle.sb_state.specs.declared.page.Mode.{Mode}
 use Rattle.sb_state.specs.declared.page.Mode.TheVariants as mode
 use Rattle.sb_trace.specs.PageName.{permits}
@@ -47,8 +47,9 @@ guest_permits mode.Read _ = false
 guest_permits mode.ReadWrite access.Fetch = false
 guest_permits mode.ReadWrite _ = true
 
-pub leaf_judged : (how : Mode) (one : Access) (page : ℕ) → page < 2 ^ 32 → entry_judged one 1 (leaf_for page how) ≡ (if guest_permits how one then Ok page else Err (guest.Denied 1))
-unfolding entry_judged leaf_for guest_permits
+pub leaf_judged : (how : Mode) (one : Access) (page : ℕ) → page < 2 ^ 32
+    → guest_entry_answer one 1 (leaf_for page how) ≡ (if guest_permits how one then Ok page else Err (guest.Denied 1))
+unfolding guest_entry_answer leaf_for guest_permits
 leaf_judged mode.Fetch access.Read page small = grind (arith, common_steps)
 leaf_judged mode.Fetch access.Write page small = grind (arith, common_steps)
 leaf_judged mode.Fetch access.Fetch page small = grind (arith, common_steps)
@@ -63,11 +64,12 @@ leaf_judged mode.ReadWrite access.Fetch page small = grind (arith, common_steps)
 
 -- a guest-physical page leads to a frame in the mode
 pub record IsBehind (memory : Physical) (eptp page frame : ℕ) (how : Mode) : Type 0 where
-  pub answer : (at : ℕ) (one : Access) → at / 4096 ≡ page → ept_walked memory eptp at one ≡ reached frame (rights_for how) at one
+  pub answer : (at : ℕ) (one : Access) → at / 4096 ≡ page
+      → ept_walk memory eptp at one ≡ entry_reached frame (rights_for how) at one
 
 module _ (memory : Physical) (eptp page frame linear : ℕ) where
   abbrev after : Access → Result GuestPhys WalkStop → Result PhysAddr NestedStop
-  after one answer = page_behind (mapped memory eptp) one answer
+  after one answer = page_behind (mapped_answer memory eptp) one answer
 
   same_offset : phys_in (4096 * page + linear % 4096) frame ≡ phys_in linear frame
   same_offset = ap (λ (offset : ℕ). record { 0 = 4096 * frame + offset }) (omega arith)
@@ -75,20 +77,31 @@ module _ (memory : Physical) (eptp page frame linear : ℕ) where
   here : (4096 * page + linear % 4096) / 4096 ≡ page
   here = omega arith
 
-  by_rights : (how : Mode) (one : Access) → guest_permits how one ≡ true → IsBehind memory eptp page frame how → IsLedIf frame (permits how one) linear (after one (Ok (address_in linear page)))
-  unfolding reached guest_permits
-  by_rights mode.Fetch access.Read may behind = record { stop = nested.Page (ept.Denied 1); is = rw (behind.answer (4096 * page + linear % 4096) access.Read here) refl; fault = refl }
+  by_rights : (how : Mode) (one : Access) → guest_permits how one ≡ true → IsBehind memory eptp page frame how
+      → IsLedIf frame (permits how one) linear (after one (Ok (address_in linear page)))
+  unfolding entry_reached guest_permits
+  by_rights mode.Fetch access.Read may behind =
+      record {
+        stop = nested.Page (ept.Denied 1);
+        is = rw (behind.answer (4096 * page + linear % 4096) access.Read here) refl;
+        fault = refl;
+      }
   by_rights mode.Fetch access.Write may behind = cc
-  by_rights mode.Fetch access.Fetch may behind = rw (behind.answer (4096 * page + linear % 4096) access.Fetch here) (ap Ok same_offset)
-  by_rights mode.Read access.Read may behind = rw (behind.answer (4096 * page + linear % 4096) access.Read here) (ap Ok same_offset)
+  by_rights mode.Fetch access.Fetch may behind =
+      rw (behind.answer (4096 * page + linear % 4096) access.Fetch here) (ap Ok same_offset)
+  by_rights mode.Read access.Read may behind =
+      rw (behind.answer (4096 * page + linear % 4096) access.Read here) (ap Ok same_offset)
   by_rights mode.Read access.Write may behind = cc
   by_rights mode.Read access.Fetch may behind = cc
-  by_rights mode.ReadWrite access.Read may behind = rw (behind.answer (4096 * page + linear % 4096) access.Read here) (ap Ok same_offset)
-  by_rights mode.ReadWrite access.Write may behind = rw (behind.answer (4096 * page + linear % 4096) access.Write here) (ap Ok same_offset)
+  by_rights mode.ReadWrite access.Read may behind =
+      rw (behind.answer (4096 * page + linear % 4096) access.Read here) (ap Ok same_offset)
+  by_rights mode.ReadWrite access.Write may behind =
+      rw (behind.answer (4096 * page + linear % 4096) access.Write here) (ap Ok same_offset)
   by_rights mode.ReadWrite access.Fetch may behind = cc
 
   -- what the guest refuses, the mode does not permit
-  by_refusal : (how : Mode) (one : Access) → guest_permits how one ≡ false → IsLedIf frame (permits how one) linear (after one (Err (guest.Denied 1)))
+  by_refusal : (how : Mode) (one : Access) → guest_permits how one ≡ false
+      → IsLedIf frame (permits how one) linear (after one (Err (guest.Denied 1)))
   unfolding guest_permits
   by_refusal mode.Fetch access.Read may = cc
   by_refusal mode.Fetch access.Write may = record { stop = nested.Walk (guest.Denied 1); is = refl; fault = refl }
@@ -105,7 +118,9 @@ module _ (memory : Physical) (eptp page frame linear : ℕ) where
   led_by true how one is behind = by_rights how one is behind
   led_by false how one is behind = by_refusal how one is
 
-  on_judged : (may : Bool) → and_then (if may then Ok page else Err (guest.Denied 1)) (λ (led : ℕ). Ok (address_in linear led)) ≡ (if may then Ok (address_in linear page) else Err (guest.Denied 1))
+  on_judged : (may : Bool)
+      → and_then (if may then Ok page else Err (guest.Denied 1)) (λ (led : ℕ). Ok (address_in linear led))
+      ≡ (if may then Ok (address_in linear page) else Err (guest.Denied 1))
   on_judged true = refl
   on_judged false = refl
 
@@ -114,5 +129,6 @@ module _ (memory : Physical) (eptp page frame linear : ℕ) where
       → IsLedIf frame (permits how one) linear (after one (page_walked (leaf_for page how) linear one))
   leaf_led how one small behind =
       subst (λ (answer : Result GuestPhys WalkStop). IsLedIf frame (permits how one) linear (after one answer))
-      (sym (ap (λ (judged : Result ℕ WalkStop). and_then judged (λ (led : ℕ). Ok (address_in linear led))) (leaf_judged how one page small) ∙ on_judged (guest_permits how one)))
+      (sym (ap (λ (judged : Result ℕ WalkStop). and_then judged (λ (led : ℕ). Ok (address_in linear led)))
+      (leaf_judged how one page small) ∙ on_judged (guest_permits how one)))
       (led_by (guest_permits how one) how one refl behind)

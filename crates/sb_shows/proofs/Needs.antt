@@ -5,7 +5,7 @@ use Rattle.sb_state.specs.declared.page.PageName.{PageName}
 use Rattle.sb_state.specs.declared.page.PageName.TheVariants.{Heap, Pool, ServerStack, Buffer, Record, Scratch}
 use Rattle.sb_state.specs.declared.page.Page.{Page}
 use Rattle.sb_trace.specs.State.{State, Process, find_page, process_at, registration_at}
-use Rattle.sb_trace.specs.Windows.{shown}
+use Rattle.sb_trace.specs.Windows.{process_shown}
 use Rattle.sb_trace.specs.SyscallProtect.{heap_count}
 use Rattle.sb_trace.specs.Whole.{IsViewThere, stack_count, IsWhole}
 use Rattle.sb_shows.specs.Placement.{IsThere}
@@ -18,22 +18,27 @@ absent : (pages : List Page) (name : PageName) → (IsThere pages name → ⊥) 
 absent pages name none = absent_by (find_page pages name) none
 
 -- register: the pool page is there, and no stack of a process that is no server
-pub pool_there : (state : State) (process : ℕ) → IsWhole state → process < length state.processes → IsThere state.pages (Pool process)
+pub pool_there : (state : State) (process : ℕ) → IsWhole state → process < length state.processes
+    → IsThere state.pages (Pool process)
 pool_there state process whole below = whole.present (Pool process) tt below
 
 no_page : (count page : ℕ) → count ≡ 0 → page < 4 * count → ⊥
 no_page count page none below = omega (arith, none, below)
 
-pub no_stacks : (state : State) (process page : ℕ) → IsWhole state → registration_at state process ≡ None → find_page state.pages (ServerStack process page) ≡ None
+pub no_stacks : (state : State) (process page : ℕ) → IsWhole state → registration_at state process ≡ None
+    → find_page state.pages (ServerStack process page) ≡ None
 no_stacks state process page whole none =
     absent state.pages (ServerStack process page)
-    (λ there. no_page (stack_count (registration_at state process)) page (ap stack_count none) (whole.belongs (ServerStack process page) there))
+    (λ there. no_page (stack_count (registration_at state process)) page (ap stack_count none)
+    (whole.belongs (ServerStack process page) there))
 
 -- protect: a page of the heap is there, in its window
-process_below : (processes : List Process) (number page : ℕ) → page < heap_count (slice_get processes number) → number < length processes
+process_below : (processes : List Process) (number page : ℕ) → page < heap_count (slice_get processes number)
+    → number < length processes
 process_below [] number page below = absurd (omega (arith, below))
 process_below (process ∷ processes) zero page below = omega arith
-process_below (process ∷ processes) (suc number) page below = let behind = process_below processes number page below in omega (arith, behind)
+process_below (process ∷ processes) (suc number) page below = let behind = process_below processes number page below in
+    omega (arith, behind)
 
 pub heap_there : (state : State) (process page : ℕ) → IsWhole state → page < heap_count (process_at state process)
     → (process < length state.processes) × (page < 512) × IsThere state.pages (Heap process page)
@@ -48,14 +53,19 @@ heap_there state process page whole below = (
 clash : (found : Option ℕ) → found ≡ None → ((process : ℕ) × (found ≡ Some process)) → ⊥
 clash found none some = let is = some.1 in cc
 
-pub none_of_view : (state : State) (thread view : ℕ) → IsWhole state → shown state.threads thread view ≡ None
-    → (find_page state.pages (Record thread view) ≡ None) × (find_page state.pages (Scratch thread view) ≡ None) × ((page : ℕ) → find_page state.pages (Buffer thread view page) ≡ None)
+pub none_of_view : (state : State) (thread view : ℕ) → IsWhole state → process_shown state.threads thread view ≡ None
+    → (find_page state.pages (Record thread view) ≡ None) × (find_page state.pages (Scratch thread view) ≡ None)
+    × ((page : ℕ) → find_page state.pages (Buffer thread view page) ≡ None)
 none_of_view state thread view whole none = (
-  absent state.pages (Record thread view) (λ there. clash (shown state.threads thread view) none (whole.belongs (Record thread view) there)),
-  absent state.pages (Scratch thread view) (λ there. clash (shown state.threads thread view) none (whole.belongs (Scratch thread view) there)),
-  λ page. absent state.pages (Buffer thread view page) (λ there. clash (shown state.threads thread view) none (whole.belongs (Buffer thread view page) there).1),
+  absent state.pages (Record thread view)
+      (λ there. clash (process_shown state.threads thread view) none (whole.belongs (Record thread view) there)),
+  absent state.pages (Scratch thread view)
+      (λ there. clash (process_shown state.threads thread view) none (whole.belongs (Scratch thread view) there)),
+  λ page. absent state.pages (Buffer thread view page)
+      (λ there. clash (process_shown state.threads thread view) none (whole.belongs (Buffer thread view page) there).1),
 )
 
 pub own_of_view : (state : State) (thread view : ℕ) → IsWhole state → IsViewThere state thread view
     → IsThere state.pages (Record thread view) × IsThere state.pages (Scratch thread view)
-own_of_view state thread view whole there = (whole.present (Record thread view) tt there, whole.present (Scratch thread view) tt there)
+own_of_view state thread view whole there =
+    (whole.present (Record thread view) tt there, whole.present (Scratch thread view) tt there)

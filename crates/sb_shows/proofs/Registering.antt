@@ -17,7 +17,7 @@ use Rattle.sb_state.specs.declared.page.Page.{Page}
 use Rattle.sb_state.specs.declared.state.Thread.{Thread}
 use Rattle.sb_state.specs.declared.state.Registration.{Registration}
 use Rattle.sb_trace.specs.PageWords.{zeros, with_word}
-use Rattle.sb_trace.specs.State.{State, Process, find_page, replaced, contents, with_contents, bytes_of, thread_at, process_at}
+use Rattle.sb_trace.specs.State.{State, Process, find_page, with_page_bytes, contents, with_contents, bytes_of, thread_at, process_at}
 use Rattle.sb_trace.specs.Start.{pages_from}
 use Rattle.sb_trace.specs.SyscallRegister.{stack_bytes, server_stack_page, with_registration, with_server}
 use Rattle.sb_trace.specs.Windows.{name_at, is_within}
@@ -38,24 +38,35 @@ use Rattle.sb_shows.proofs.Threads.{keeps_moved}
 -- ---- a word of a page
 
 -- a word is put into a page and into its frame
-pub word_kept : (placement : Placement) (state : State) (memory : Physical) (name : PageName) (page : Page) (at word : ℕ) → Keeps placement state memory → find_page state.pages name ≡ Some page
+pub word_kept : (placement : Placement) (state : State) (memory : Physical) (name : PageName) (page : Page) (at word : ℕ)
+    → Keeps placement state memory → find_page state.pages name ≡ Some page
     → at % 8 ≡ 0 → at + 8 ≤ 4096
-    → Keeps placement (with_word state name at word) (with_bytes memory (put_word memory.bytes (4096 * placement.frame name + at) word))
+    → Keeps placement (with_word state name at word)
+    (with_bytes memory (put_word memory.bytes (4096 * placement.frame name + at) word))
 unfolding with_word with_contents contents
 word_kept placement state memory name page at word keeps found aligned few =
     let held = keeps.contents.page name page found in
     let inside = held.inside in
     let whole = keeps.leads.stands.whole.size.bytes in
     let place : frame_of (4096 * placement.frame name + at) ≡ placement.frame name = omega arith in
-    subst (λ (one : Option Page). Keeps placement (record state { pages = replaced state.pages name (put_word (bytes_of one) at word) }) (with_bytes memory (put_word memory.bytes (4096 * placement.frame name + at) word))) (sym found)
-    (keeps_replaced placement state memory keeps name page found (put_word page.bytes at word) (length_put_word page.bytes at word ∙ held.size)
+    subst (λ (one : Option Page). Keeps placement
+    (record state { pages = with_page_bytes state.pages name (put_word (bytes_of one) at word) })
+    (with_bytes memory (put_word memory.bytes (4096 * placement.frame name + at) word))) (sym found)
+    (keeps_replaced placement state memory keeps name page found (put_word page.bytes at word) (length_put_word page.bytes at word
+    ∙ held.size)
     (with_bytes memory (put_word memory.bytes (4096 * placement.frame name + at) word))
-    (same_outside_word (placement.frame name ∷ []) memory (4096 * placement.frame name + at) word (omega arith) (zero, lit< tt, sym place))
-    (λ offset within. word_held memory.bytes page.bytes (4096 * placement.frame name) at word offset few (omega arith) held.size (held.byte offset within)))
+    (same_outside_word (placement.frame name ∷ []) memory (4096 * placement.frame name + at) word (omega arith) (
+      zero,
+      lit< tt,
+      sym place,
+    ))
+    (λ offset within. word_held memory.bytes page.bytes (4096 * placement.frame name) at word offset few (omega arith) held.size
+    (held.byte offset within)))
 
 -- ---- the window of server stacks
 
-pub stack_named : (threads : List Thread) (thread view page process : ℕ) → page < 512 → name_at threads thread view (0x4000 + page) process ≡ Some (ServerStack process page)
+pub stack_named : (threads : List Thread) (thread view page process : ℕ) → page < 512
+    → name_at threads thread view (0x4000 + page) process ≡ Some (ServerStack process page)
 unfolding name_at
 stack_named threads thread view page process few =
     let area : (nat_le 1 (0x4000 + page) && nat_lt (0x4000 + page) 17) ≡ false = grind (arith, common_steps) in
@@ -75,44 +86,60 @@ or_false : (test : Bool) → test ≡ true → (test || false) ≡ true
 or_false true is = refl
 or_false false is = is
 
-pub stack_seen : (threads : List Thread) (count process page : ℕ) → process < count → page < 512 → IsSeenIn threads count (ServerStack process page) (process ∷ [])
+pub stack_seen : (threads : List Thread) (count process page : ℕ) → process < count → page < 512
+    → IsSeenIn threads count (ServerStack process page) (process ∷ [])
 unfolding page_number
 stack_seen threads count process page there few = record {
   sees = λ one. one == process;
   window = stack_window page few;
-  seen = λ one thread view within is. subst (λ n. name_at threads thread view (0x4000 + page) n ≡ Some (ServerStack process page)) (sym (eqb-true one process is)) (stack_named threads thread view page process few);
-  unseen = λ one thread view at within is named. eqb-false one process is (sym (name_number threads thread view at one (ServerStack process page) named).1);
+  seen = λ one thread view within is. subst (λ n. name_at threads thread view (0x4000 + page) n ≡ Some (ServerStack process page))
+      (sym (eqb-true one process is)) (stack_named threads thread view page process few);
+  unseen =
+      λ one thread view at within is named. eqb-false one process is
+      (sym (name_number threads thread view at one (ServerStack process page) named).1);
   each = ((there, (Decides-eqb process process).1 refl), tt);
   all = λ one within is. or_false (one == process) is;
 }
 
 -- ---- the pages of the stacks
 
-size_if : (test : Bool) (one other : List ℕ) → length one ≡ 4096 → length other ≡ 4096 → length (if test then one else other) ≡ 4096
+size_if : (test : Bool) (one other : List ℕ) → length one ≡ 4096 → length other ≡ 4096
+    → length (if test then one else other) ≡ 4096
 size_if true one other first second = first
 size_if false one other first second = second
 
 pub stack_size : (page : ℕ) → length (stack_bytes page) ≡ 4096
 unfolding stack_bytes
-stack_size page = size_if (page % 4 == 3) (put_word zeros 0xFF8 0x70000000) zeros (length_put_word zeros 0xFF8 0x70000000 ∙ zeros_size) zeros_size
+stack_size page =
+    size_if (page % 4 == 3) (put_word zeros 0xFF8 0x70000000) zeros (length_put_word zeros 0xFF8 0x70000000
+    ∙ zeros_size) zeros_size
 
 pub stacks_differ : (process page other : ℕ) → page ≢ other → ServerStack process page ≢ ServerStack process other
 stacks_differ process page other differ same = let e : page ≡ other = cc in differ e
 
-new_stacks : (count first : ℕ) (threads : List Thread) (processes : ℕ) (pages : List Page) (process : ℕ) → process < processes → first + count ≤ 512
-    → ((page : ℕ) → first ≤ page → find_page pages (ServerStack process page) ≡ None) → AreNewPages threads processes pages (process ∷ []) (pages_from (server_stack_page process) first count)
+new_stacks : (count first : ℕ) (threads : List Thread) (processes : ℕ) (pages : List Page) (process : ℕ) → process < processes
+    → first + count ≤ 512
+    → ((page : ℕ) → first ≤ page → find_page pages (ServerStack process page) ≡ None)
+    → AreNewPages threads processes pages (process ∷ []) (pages_from (server_stack_page process) first count)
 unfolding is_own
 new_stacks zero first threads processes pages process there few none = tt
 new_stacks (suc count) first threads processes pages process there few none = (
-  record { absent = none first (omega arith); shared_page = refl; size = stack_size first; seen = stack_seen threads processes process first there (omega arith) },
+  record {
+    absent = none first (omega arith);
+    shared_page = refl;
+    size = stack_size first;
+    seen = stack_seen threads processes process first there (omega arith);
+  },
   new_stacks count (first + 1) threads processes (pages ++ server_stack_page process first ∷ []) process there (omega arith)
-      (λ page above. added_other pages (server_stack_page process first) (ServerStack process page) (name_other (ServerStack process first) (ServerStack process page) (stacks_differ process first page (omega arith)))
+      (λ page above. added_other pages (server_stack_page process first) (ServerStack process page)
+      (name_other (ServerStack process first) (ServerStack process page) (stacks_differ process first page (omega arith)))
       ∙ none page (omega arith)),
 )
 
 -- ---- the call
 
-registered_count : (found : Option Process) (processes : List Process) (number : ℕ) (registration : Registration) → length (with_registration found processes number registration) ≡ length processes
+registered_count : (found : Option Process) (processes : List Process) (number : ℕ) (registration : Registration)
+    → length (with_registration found processes number registration) ≡ length processes
 registered_count None processes number registration = refl
 registered_count (Some process) processes number registration = length-set processes number _
 
@@ -120,18 +147,36 @@ pools_differ : (process page : ℕ) → Pool process ≢ ServerStack process pag
 pools_differ process page same = cc
 
 -- the pool word is set, then the pages of the stacks are added in their order
-pub registered_keeps : (placement : Placement) (state : State) (memory mid new : Physical) (process handler stacks : ℕ) (pool : Page) → Keeps placement state memory → process < length state.processes → stacks ≤ 16
+pub registered_keeps : (placement : Placement) (state : State) (memory mid new : Physical) (process handler stacks : ℕ)
+    (pool : Page)
+    → Keeps placement state memory → process < length state.processes → stacks ≤ 16
     → find_page state.pages (Pool process) ≡ Some pool → ((page : ℕ) → find_page state.pages (ServerStack process page) ≡ None)
     → mid ≡ with_bytes memory (put_word memory.bytes (4096 * placement.frame (Pool process) + 0) (2 ^ stacks - 1))
     → (adds : AddsPages placement (process ∷ []) (pages_from (server_stack_page process) 0 (4 * stacks)) mid new)
-    → Keeps (placed_all placement (process ∷ []) (pages_from (server_stack_page process) 0 (4 * stacks)) mid new adds) (with_server state process handler stacks) new
+    → Keeps (placed_all placement (process ∷ []) (pages_from (server_stack_page process) 0 (4 * stacks)) mid new adds)
+    (with_server state process handler stacks) new
 unfolding with_server with_word with_contents thread_at
 registered_keeps placement state memory mid new process handler stacks pool keeps there few found none written adds =
     let word = 2 ^ stacks - 1 in
-    let pooled = subst (Keeps placement (with_word state (Pool process) 0 (2 ^ stacks - 1))) (sym written) (word_kept placement state memory (Pool process) pool 0 (2 ^ stacks - 1) keeps found refl (lit≤ tt)) in
+    let pooled =
+    subst (Keeps placement (with_word state (Pool process) 0 (2 ^ stacks - 1))) (sym written)
+    (word_kept placement state memory (Pool process) pool 0 (2 ^ stacks - 1) keeps found refl (lit≤ tt)) in
     let bytes = put_word (contents state (Pool process)) 0 (2 ^ stacks - 1) in
-    let still = λ (page : ℕ). found_other state.pages (Pool process) (ServerStack process page) (put_word (contents state (Pool process)) 0 (2 ^ stacks - 1)) (name_other (Pool process) (ServerStack process page) (pools_differ process page)) ∙ none page in
-    let added = pages_added (pages_from (server_stack_page process) 0 (4 * stacks)) placement (with_word state (Pool process) 0 (2 ^ stacks - 1)) mid new (process ∷ []) pooled
-    (new_stacks (4 * stacks) 0 state.threads (length state.processes) (replaced state.pages (Pool process) (put_word (contents state (Pool process)) 0 (2 ^ stacks - 1))) process there (omega arith) (λ page above. still page)) adds in
+    let still =
+    λ (page : ℕ). found_other state.pages (Pool process) (ServerStack process page)
+    (put_word (contents state (Pool process)) 0 (2 ^ stacks - 1))
+    (name_other (Pool process) (ServerStack process page) (pools_differ process page)) ∙ none page in
+    let added =
+    pages_added (pages_from (server_stack_page process) 0 (4 * stacks)) placement
+    (with_word state (Pool process) 0 (2 ^ stacks - 1)) mid new (process ∷ []) pooled
+    (new_stacks (4 * stacks) 0 state.threads (length state.processes)
+    (with_page_bytes state.pages (Pool process) (put_word (contents state (Pool process)) 0 (2 ^ stacks - 1))) process there
+    (omega arith) (λ page above. still page)) adds in
     keeps_moved _ _ (with_server state process handler stacks) new
-    (record { pages = λ name. refl; processes = registered_count (process_at state process) state.processes process (record { handler = handler; stacks = stacks }); shows = λ thread view. refl; home = λ thread. refl }) added
+    (record {
+      pages = λ name. refl;
+      processes =
+          registered_count (process_at state process) state.processes process (record { handler = handler; stacks = stacks });
+      shows = λ thread view. refl;
+      home = λ thread. refl;
+    }) added

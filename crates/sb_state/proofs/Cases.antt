@@ -3,7 +3,8 @@ use Rattle.std.proofs.Common.{◌≡◌, Bool, true, false, refl}
 use Rattle.std.specs.Prelude.{Option, Some, None, if◌then◌else◌}
 
 -- what is said of both ends of a test is said of its end
-pub claim_if : {A : Type 0} (Claim : A → Type 0) (test : Bool) (one other : A) → (test ≡ true → Claim one) → (test ≡ false → Claim other)
+pub claim_if : {A : Type 0} (Claim : A → Type 0) (test : Bool) (one other : A) → (test ≡ true → Claim one)
+    → (test ≡ false → Claim other)
     → Claim (if test then one else other)
 claim_if Claim true one other first second = first refl
 claim_if Claim false one other first second = second refl

@@ -31,14 +31,16 @@ name_same (Pool process) (Pool process') same = let part = number process proces
 name_same (ServerStack process page) (ServerStack process' page') same = let parts = two process process' page page' same in cc
 name_same (Save thread) (Save thread') same = let part = number thread thread' same in cc
 name_same (Stack thread page) (Stack thread' page') same = let parts = two thread thread' page page' same in cc
-name_same (Buffer thread index page) (Buffer thread' index' page') same = let parts = three thread thread' index index' page page' same in cc
+name_same (Buffer thread index page) (Buffer thread' index' page') same =
+    let parts = three thread thread' index index' page page' same in cc
 name_same (Record thread view) (Record thread' view') same = let parts = two thread thread' view view' same in cc
 name_same (Scratch thread view) (Scratch thread' view') same = let parts = two thread thread' view view' same in cc
 name_same HomeTrampoline HomeTrampoline same = refl
 name_same ServerTrampoline ServerTrampoline same = refl
 name_same _ _ same = cc
 
-other_by : (test : Bool) (first second : PageName) → same_name first second ≡ test → (first ≡ second → ⊥) → same_name first second ≡ false
+other_by : (test : Bool) (first second : PageName) → same_name first second ≡ test → (first ≡ second → ⊥)
+    → same_name first second ≡ false
 other_by true first second same apart = absurd (apart (name_same first second same))
 other_by false first second same apart = same
 

@@ -15,8 +15,10 @@ there_begins : (bytes : List ℕ) → HasPatternAt bytes 0 → begins_pattern by
 there_begins bytes (first, second, third) = rw (eq-eqb _ _ first, eq-eqb _ _ second, eq-eqb _ _ third) refl
 
 -- a byte behind the first one
-one_behind : (byte : ℕ) (bytes : List ℕ) (place count : ℕ) → get_or (byte ∷ bytes) (suc place + count) 0 ≡ get_or bytes (place + count) 0
-one_behind byte bytes place count = let moved : suc place + count ≡ suc (place + count) = omega arith in ap (λ (k : ℕ). get_or (byte ∷ bytes) k 0) moved
+one_behind : (byte : ℕ) (bytes : List ℕ) (place count : ℕ)
+    → get_or (byte ∷ bytes) (suc place + count) 0 ≡ get_or bytes (place + count) 0
+one_behind byte bytes place count = let moved : suc place + count ≡ suc (place + count) = omega arith in
+    ap (λ (k : ℕ). get_or (byte ∷ bytes) k 0) moved
 
 -- a place behind the first byte is one among the others
 behind_first : (byte : ℕ) (bytes : List ℕ) (place : ℕ) → HasPatternAt (byte ∷ bytes) (suc place) → HasPatternAt bytes place
@@ -27,26 +29,36 @@ ahead_of_first : (byte : ℕ) (bytes : List ℕ) (place : ℕ) → HasPatternAt 
 ahead_of_first byte bytes place (first, second, third) =
     (first, one_behind byte bytes place 1 ∙ second, one_behind byte bytes place 2 ∙ third)
 
-at_first : (byte : ℕ) (bytes : List ℕ) (found : Option ℕ) → HasPatternAt (byte ∷ bytes) 0 → IsFirstPattern (byte ∷ bytes) found → found ≡ Some 0
+at_first : (byte : ℕ) (bytes : List ℕ) (found : Option ℕ) → HasPatternAt (byte ∷ bytes) 0
+    → IsFirstPattern (byte ∷ bytes) found → found ≡ Some 0
 at_first byte bytes None here first = absurd (first 0 here)
 at_first byte bytes (Some zero) here first = refl
 at_first byte bytes (Some (suc place)) here first = absurd (first.1 0 (omega arith) here)
 
 -- where the pattern stands not from the first byte on, its first place is one among the others
-among_others : (byte : ℕ) (bytes : List ℕ) (found : Option ℕ) → ¬ HasPatternAt (byte ∷ bytes) 0 → IsFirstPattern (byte ∷ bytes) found
-    → ((inside : Option ℕ) → IsFirstPattern bytes inside → inside ≡ first_pattern bytes) → found ≡ option_map suc (first_pattern bytes)
+among_others : (byte : ℕ) (bytes : List ℕ) (found : Option ℕ) → ¬ HasPatternAt (byte ∷ bytes) 0
+    → IsFirstPattern (byte ∷ bytes) found
+    → ((inside : Option ℕ) → IsFirstPattern bytes inside → inside ≡ first_pattern bytes)
+    → found ≡ option_map suc (first_pattern bytes)
 among_others byte bytes None not_here first rest =
-    ap (λ (inside : Option ℕ). option_map suc inside) (rest None (λ place there. first (suc place) (ahead_of_first byte bytes place there)))
+    ap (λ (inside : Option ℕ). option_map suc inside)
+    (rest None (λ place there. first (suc place) (ahead_of_first byte bytes place there)))
 among_others byte bytes (Some zero) not_here first rest = absurd (not_here first.0)
 among_others byte bytes (Some (suc place)) not_here first rest =
     ap (λ (inside : Option ℕ). option_map suc inside)
-    (rest (Some place) (behind_first byte bytes place first.0, λ earlier before there. first.1 (suc earlier) (omega arith) (ahead_of_first byte bytes earlier there)))
+    (rest (Some place) (
+      behind_first byte bytes place first.0,
+      λ earlier before there. first.1 (suc earlier) (omega arith) (ahead_of_first byte bytes earlier there),
+    ))
 
-by_test : (byte : ℕ) (bytes : List ℕ) (found : Option ℕ) (test : Bool) → begins_pattern (byte ∷ bytes) ≡ test → IsFirstPattern (byte ∷ bytes) found
-    → ((inside : Option ℕ) → IsFirstPattern bytes inside → inside ≡ first_pattern bytes) → found ≡ (if test then Some 0 else option_map suc (first_pattern bytes))
+by_test : (byte : ℕ) (bytes : List ℕ) (found : Option ℕ) (test : Bool) → begins_pattern (byte ∷ bytes) ≡ test
+    → IsFirstPattern (byte ∷ bytes) found
+    → ((inside : Option ℕ) → IsFirstPattern bytes inside → inside ≡ first_pattern bytes)
+    → found ≡ (if test then Some 0 else option_map suc (first_pattern bytes))
 by_test byte bytes found true begins first rest = at_first byte bytes found (begins_there (byte ∷ bytes) begins) first
 by_test byte bytes found false begins first rest =
-    among_others byte bytes found (λ here. let both : true ≡ false = sym (there_begins (byte ∷ bytes) here) ∙ begins in cc) first rest
+    among_others byte bytes found (λ here. let both : true ≡ false = sym (there_begins (byte ∷ bytes) here) ∙ begins in
+    cc) first rest
 
 nowhere : (found : Option ℕ) → IsFirstPattern [] found → found ≡ None
 nowhere None first = refl

@@ -58,7 +58,8 @@ unfolding flight_at
 flight_there state core flight is = there_by (slice_get state.flights core) flight is
 
 -- where a thread is in flight, the flight that is set stands
-pub flight_set_there : (state : State) (number : ℕ) (flight : Flight) (next : Option Flight) → flight_at state number ≡ Some flight
+pub flight_set_there : (state : State) (number : ℕ) (flight : Flight) (next : Option Flight)
+    → flight_at state number ≡ Some flight
     → flight_at (with_flight state number next) number ≡ next
 unfolding flight_at with_flight
 flight_set_there state number flight next is =

@@ -45,4 +45,5 @@ pattern_around before behind (Some page) = first_pattern (before ++ (page.bytes 
 unfoldable pub heap_pattern : State → ℕ → ℕ → Option ℕ
 heap_pattern state process page =
     option_map (heap_address page (length (bytes_before state process page)))
-    (pattern_around (bytes_before state process page) (bytes_behind state process page) (find_page state.pages (Heap process page)))
+    (pattern_around (bytes_before state process page) (bytes_behind state process page)
+    (find_page state.pages (Heap process page)))

@@ -36,10 +36,10 @@ find_page [] name = None
 find_page (page ∷ pages) name = if same_name page.name name then Some page else find_page pages name
 
 -- the pages with the first of this name given these bytes
-abbrev pub replaced : List Page → PageName → List ℕ → List Page
-replaced [] name bytes = []
-replaced (page ∷ pages) name bytes =
-    if same_name page.name name then (record page { bytes = bytes }) ∷ pages else page ∷ replaced pages name bytes
+abbrev pub with_page_bytes : List Page → PageName → List ℕ → List Page
+with_page_bytes [] name bytes = []
+with_page_bytes (page ∷ pages) name bytes =
+    if same_name page.name name then (record page { bytes = bytes }) ∷ pages else page ∷ with_page_bytes pages name bytes
 
 abbrev pub bytes_of : Option Page → List ℕ
 bytes_of None = []
@@ -50,7 +50,7 @@ unfoldable pub contents : State → PageName → List ℕ
 contents state name = bytes_of (find_page state.pages name)
 
 unfoldable pub with_contents : State → PageName → List ℕ → State
-with_contents state name bytes = record state { pages = replaced state.pages name bytes }
+with_contents state name bytes = record state { pages = with_page_bytes state.pages name bytes }
 
 -- ---- threads by number
 

@@ -18,15 +18,15 @@ server_of [] index = None
 server_of (binding ∷ bindings) index = if binding.index == index then Some binding.server else server_of bindings index
 
 -- view 0 shows a thread's home, each other view the server of that binding
-abbrev pub shown_by : ℕ → Thread → Option ℕ
-shown_by view thread = if view == 0 then Some thread.home else server_of thread.bindings view
+abbrev pub process_of_view : ℕ → Thread → Option ℕ
+process_of_view view thread = if view == 0 then Some thread.home else server_of thread.bindings view
 
 -- the process that a thread's present view shows: each view of a thread is its home or a binding
-abbrev pub present_of : Thread → ℕ
-present_of thread = unwrap_or (shown_by thread.view thread) thread.home
+abbrev pub process_now : Thread → ℕ
+process_now thread = unwrap_or (process_of_view thread.view thread) thread.home
 
-unfoldable pub shown : List Thread → ℕ → ℕ → Option ℕ
-shown threads thread view = option_and_then (shown_by view) (slice_get threads thread)
+unfoldable pub process_shown : List Thread → ℕ → ℕ → Option ℕ
+process_shown threads thread view = option_and_then (process_of_view view) (slice_get threads thread)
 
 abbrev pub is_process : Option ℕ → ℕ → Bool
 is_process None process = false
@@ -42,16 +42,19 @@ name_if test name = if test then Some name else None
 abbrev pub is_within : ℕ → ℕ → Bool
 is_within first page = nat_le first page && nat_lt page (first + 512)
 
--- Eight pages a thread, of which the first is its save page and the last four are its stack; of the threads at home in the process.
+-- Eight pages a thread, of which the first is its save page and the last four are its stack; of the threads at home in the
+-- process.
 abbrev pub stack_name : List Thread → ℕ → ℕ → Option PageName
 stack_name threads process page =
-    if page % 8 == 0 then name_if (is_process (shown threads (page / 8) 0) process) (Save (page / 8))
-    else name_if (is_process (shown threads (page / 8) 0) process && nat_le 4 (page % 8)) (Stack (page / 8) (page % 8 - 4))
+    if page % 8 == 0 then name_if (is_process (process_shown threads (page / 8) 0) process) (Save (page / 8))
+    else name_if (is_process (process_shown threads (page / 8) 0) process && nat_le 4 (page % 8))
+    (Stack (page / 8) (page % 8 - 4))
 
 -- Four pages a binding, sixteen bindings a thread; of those whose thread is at home in the process, or whose server it is.
 abbrev pub buffer_name : List Thread → ℕ → ℕ → Option PageName
 buffer_name threads process page =
-    name_if (is_process (shown threads (page / 64) 0) process || is_process (shown threads (page / 64) (page / 4 % 16)) process)
+    name_if (is_process (process_shown threads (page / 64) 0) process || is_process
+    (process_shown threads (page / 64) (page / 4 % 16)) process)
     (Buffer (page / 64) (page / 4 % 16) (page % 4))
 
 -- the trampoline, record and scratch page of the view, and the pool page of the process
@@ -76,14 +79,15 @@ name_at threads thread view page process =
 
 -- ---- what is seen
 
-abbrev pub seen_as : PageName → Page → Seen
-seen_as name page = record { name = name; mode = mode_of name page.executable }
+abbrev pub page_and_mode : PageName → Page → Seen
+page_and_mode name page = record { name = name; mode = mode_of name page.executable }
 
 -- the page of this name, if it is there
-abbrev pub seen : List Page → PageName → Option Seen
-seen pages name = option_map (seen_as name) (find_page pages name)
+abbrev pub page_by_name : List Page → PageName → Option Seen
+page_by_name pages name = option_map (page_and_mode name) (find_page pages name)
 
 -- The page that a thread sees at a page number in a view, and how it may be accessed: the table of plain memory.
-unfoldable pub page_seen : State → ℕ → ℕ → ℕ → Option Seen
-page_seen state thread view page =
-    option_and_then (seen state.pages) (option_and_then (name_at state.threads thread view page) (shown state.threads thread view))
+unfoldable pub page_for : State → ℕ → ℕ → ℕ → Option Seen
+page_for state thread view page =
+    option_and_then (page_by_name state.pages)
+    (option_and_then (name_at state.threads thread view page) (process_shown state.threads thread view))

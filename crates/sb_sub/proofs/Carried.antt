@@ -17,7 +17,7 @@ use Rattle.sb_state.specs.declared.page.Mode.{Mode}
 use Rattle.sb_state.specs.declared.page.Mode.TheVariants.{ReadWrite}
 use Rattle.sb_trace.specs.PageName.{same_name, mode_of}
 use Rattle.sb_trace.specs.State.{State, find_page}
-use Rattle.sb_trace.specs.Start.{named}
+use Rattle.sb_trace.specs.Start.{page_with}
 use Rattle.sb_state.proofs.Names.{name_same}
 use Rattle.sb_shows.specs.Placement.{Placement, Unused, GuestTable, Holds, IsThere, leaf_for, rights_for}
 use Rattle.sb_shows.specs.Calls.{SetsPage, ExposesFrame, AddsPage, placed_with, IsNewPage}
@@ -28,18 +28,26 @@ use Rattle.sb_sub.specs.Taking.{CanTake, TakesPage, top_bytes}
 use Rattle.sb_sub.specs.Carries.{Carries, StaysPlaced}
 use Rattle.sb_sub.proofs.Taken.{free_before, can_new}
 
-module _ (placement : Placement) (root : RootKernel) (book : Book) (memory : Physical) (state : State) (carries : Carries placement root book memory state)
+module _ (placement : Placement) (root : RootKernel) (book : Book) (memory : Physical) (state : State)
+    (carries : Carries placement root book memory state)
     (process : ℕ) (there : process < length state.processes) where
   -- ---- before
 
   set_clear : (frame : ℕ) → IsFree book frame → IsSetApart (placement.sets process) (frame ∷ [])
   set_clear frame free one few changed =
-      let e : GuestTable process one ≡ Unused = sym (carries.keeps.apart.guest process one there few) ∙ (ap placement.purpose (only_one _ _ changed) ∙ carries.unused frame free) in cc
+      let e : GuestTable process one ≡ Unused =
+      sym (carries.keeps.apart.guest process one there few)
+      ∙ (ap placement.purpose (only_one _ _ changed) ∙ carries.unused frame free) in cc
 
   root_clear : (frame : ℕ) → IsFree book frame → IsRootApart placement.root (frame ∷ [])
   root_clear frame free = record {
-    base = λ one among changed. let e = sym (carries.keeps.apart.base one among) ∙ (ap placement.purpose (only_one _ one changed) ∙ carries.unused frame free) in cc;
-    tables = λ part one table used changed. let e = sym (carries.keeps.apart.root part one table used) ∙ (ap placement.purpose (only_one _ one changed) ∙ carries.unused frame free) in cc;
+    base = λ one among changed.
+        let e = sym (carries.keeps.apart.base one among)
+        ∙ (ap placement.purpose (only_one _ one changed) ∙ carries.unused frame free) in cc;
+    tables =
+        λ part one table used changed.
+        let e = sym (carries.keeps.apart.root part one table used)
+        ∙ (ap placement.purpose (only_one _ one changed) ∙ carries.unused frame free) in cc;
   }
 
   -- the code may take a frame for a page of the process
@@ -51,25 +59,34 @@ module _ (placement : Placement) (root : RootKernel) (book : Book) (memory : Phy
     set_apart = set_clear;
     root_apart = λ frame free. subst (λ (one : RootKernel). IsRootApart one (frame ∷ [])) carries.rooted (root_clear frame free);
     base_apart = λ frame among. base_sets_apart placement state carries.keeps.apart frame among process there;
-    table_apart = λ table few. subst (λ (one : RootKernel). IsRootApart one (table_frame (placement.sets process) table ∷ [])) carries.rooted
+    table_apart =
+        λ table few. subst (λ (one : RootKernel). IsRootApart one (table_frame (placement.sets process) table ∷ []))
+        carries.rooted
         (guest_root_apart placement state carries.keeps.apart process table there few);
   }
 
   -- ---- afterwards
 
-  module _ (name : PageName) (owner top : ℕ) (book' : Book) (new : Physical) (takes : TakesPage (placement.sets process) root book book' memory new owner (4096 * page_number name) top)
-      (is : IsNewPage state.threads (length state.processes) state.pages (process ∷ []) (named name (top_bytes top))) (writable : mode_of name false ≡ ReadWrite) where
+  module _ (name : PageName) (owner top : ℕ) (book' : Book) (new : Physical)
+      (takes : TakesPage (placement.sets process) root book book' memory new owner (4096 * page_number name) top)
+      (is : IsNewPage state.threads (length state.processes) state.pages (process ∷ []) (page_with name (top_bytes top)))
+      (writable : mode_of name false ≡ ReadWrite) where
     abbrev page : Page
-    page = named name (top_bytes top)
+    page = page_with name (top_bytes top)
 
     abbrev frame : ℕ
     frame = takes.frame.0
 
-    entry_set : SetsPage (placement.sets process) takes.filled takes.mapped (4096 * page_number name) (leaf_for frame (mode_of name false))
-    entry_set = subst (λ (mode : Mode). SetsPage (placement.sets process) takes.filled takes.mapped (4096 * page_number name) (leaf_for frame mode)) (sym writable) takes.set_page
+    entry_set : SetsPage (placement.sets process) takes.filled takes.mapped (4096 * page_number name)
+        (leaf_for frame (mode_of name false))
+    entry_set =
+        subst (λ (mode : Mode). SetsPage (placement.sets process) takes.filled takes.mapped (4096 * page_number name)
+        (leaf_for frame mode)) (sym writable) takes.set_page
 
     frame_exposed : ExposesFrame placement.root takes.mapped new frame (rights_for (mode_of name false))
-    frame_exposed = subst (λ (one : RootKernel). ExposesFrame one takes.mapped new frame (rights_for (mode_of name false))) (sym carries.rooted)
+    frame_exposed =
+        subst (λ (one : RootKernel). ExposesFrame one takes.mapped new frame (rights_for (mode_of name false)))
+        (sym carries.rooted)
         (subst (λ (mode : Mode). ExposesFrame root takes.mapped new frame (rights_for mode)) (sym writable) takes.exposed)
 
     pub adds : AddsPage placement (process ∷ []) page memory new
@@ -87,16 +104,24 @@ module _ (placement : Placement) (root : RootKernel) (book : Book) (memory : Phy
     }
 
     booked : IsBooked root book' new
-    booked = (can_new (placement.sets process) root book memory takes.filled frame can_take takes.free takes.same takes.mapped (4096 * page_number name) _ takes.set_page.written
+    booked =
+        (can_new (placement.sets process) root book memory takes.filled frame can_take takes.free takes.same takes.mapped
+        (4096 * page_number name) _ takes.set_page.written
         new book' 3 (Writable, owner) takes.set_page.tables takes.exposed.written takes.exposed.stands takes.taken).booked
 
     unused_now : (other : ℕ) → IsFree book' other → (if other == frame then Holds name else placement.purpose other) ≡ Unused
     unused_now other free =
-        let before = free_before book frame other (Writable, owner) takes.free.0 (subst (λ (one : Book). IsFree one other) takes.taken free) in
-        ap (λ (test : Bool). if test then Holds name else placement.purpose other) (ne_eqb other frame before.1) ∙ carries.unused other before.0
+        let before =
+        free_before book frame other (
+          Writable,
+          owner,
+        ) takes.free.0 (subst (λ (one : Book). IsFree one other) takes.taken free) in
+        ap (λ (test : Bool). if test then Holds name else placement.purpose other) (ne_eqb other frame before.1)
+        ∙ carries.unused other before.0
 
     -- the page is one of the state, in the frame that was taken
-    pub page_carried : Carries (placed_with placement name frame) root book' new (record state { pages = state.pages ++ page ∷ [] })
+    pub page_carried : Carries (placed_with placement name frame) root book' new
+        (record state { pages = state.pages ++ page ∷ [] })
     unfolding adds
     page_carried = record {
       keeps = page_added placement state memory new (process ∷ []) page carries.keeps is adds;
@@ -105,8 +130,10 @@ module _ (placement : Placement) (root : RootKernel) (book : Book) (memory : Phy
       unused = unused_now;
     }
 
-    stays_by : (test : Bool) (other : PageName) → same_name name other ≡ test → IsThere state.pages other → (if test then frame else placement.frame other) ≡ placement.frame other
-    stays_by true other same (one, found) = absurd (let e = sym is.absent ∙ (ap (find_page state.pages) (name_same name other same) ∙ found) in cc)
+    stays_by : (test : Bool) (other : PageName) → same_name name other ≡ test → IsThere state.pages other
+        → (if test then frame else placement.frame other) ≡ placement.frame other
+    stays_by true other same (one, found) =
+        absurd (let e = sym is.absent ∙ (ap (find_page state.pages) (name_same name other same) ∙ found) in cc)
     stays_by false other same found = refl
 
     pub page_stays : StaysPlaced placement (placed_with placement name frame) state

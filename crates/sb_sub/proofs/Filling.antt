@@ -27,13 +27,16 @@ module _ (memory : Physical) (frame : ℕ) (inside : frame < frame_count memory)
       let fits = size.bytes in
       byte_of_cleared memory.bytes frame (4096 * frame + offset) (omega arith) (omega arith) ∙ sym (zero_at offset below)
 
-  pub same_topped : (top : ℕ) → SameOutside (frame ∷ []) memory (with_bytes cleared (put_word cleared.bytes (4096 * frame + 0xFF8) top))
+  pub same_topped : (top : ℕ)
+      → SameOutside (frame ∷ []) memory (with_bytes cleared (put_word cleared.bytes (4096 * frame + 0xFF8) top))
   same_topped top =
       let place : frame_of (4096 * frame + 0xFF8) ≡ frame = omega arith in
       same_outside_then (frame ∷ []) memory cleared _ same_cleared
       (same_outside_word (frame ∷ []) cleared (4096 * frame + 0xFF8) top (omega arith) (zero, lit< tt, sym place))
 
-  pub held_topped : (top offset : ℕ) → offset < 4096 → get_or (put_word cleared.bytes (4096 * frame + 0xFF8) top) (4096 * frame + offset) 0 ≡ get_or (put_word zeros 0xFF8 top) offset 0
+  pub held_topped : (top offset : ℕ) → offset < 4096
+      → get_or (put_word cleared.bytes (4096 * frame + 0xFF8) top) (4096 * frame + offset) 0
+      ≡ get_or (put_word zeros 0xFF8 top) offset 0
   held_topped top offset below =
       let fits = size.bytes in
       let count = length_clear_frame memory.bytes frame in

@@ -29,13 +29,16 @@ absent_by : (found : Option Page) → ((page : Page) → found ≡ Some page →
 absent_by None none = refl
 absent_by (Some page) none = absurd (none page refl)
 
-module _ (kernel : Kernel) (root : RootKernel) (book : Book) (memory : Physical) (state : State) (stands : StandsFor kernel root book memory state)
+module _ (kernel : Kernel) (root : RootKernel) (book : Book) (memory : Physical) (state : State)
+    (stands : StandsFor kernel root book memory state)
     (process : ℕ) (entry : Entry) (kept : slice_get kernel.processes process ≡ Some entry) where
   abbrev count : ℕ
   count = entry.process.heap_pages
 
   pub process_found : slice_get state.processes process ≡ Some entry.process
-  process_found = ap (λ (list : List Process). slice_get list process) (sym stands.processes) ∙ (slice_get-map process_of kernel.processes process ∙ ap (option_map process_of) kept)
+  process_found =
+      ap (λ (list : List Process). slice_get list process) (sym stands.processes)
+      ∙ (slice_get-map process_of kernel.processes process ∙ ap (option_map process_of) kept)
 
   pub process_there : process < length state.processes
   process_there = slice_get_within state.processes process entry.process process_found
@@ -48,12 +51,16 @@ module _ (kernel : Kernel) (root : RootKernel) (book : Book) (memory : Physical)
 
   pub page_there : (page : ℕ) → page < count → IsThere state.pages (Heap process page)
   unfolding Belongs
-  page_there page below = (stands.whole.pages (Heap process page)).1 (subst (λ (found : Option Process). page < heap_count found) (sym process_found) below)
+  page_there page below =
+      (stands.whole.pages (Heap process page)).1
+      (subst (λ (found : Option Process). page < heap_count found) (sym process_found) below)
 
   page_absent : (page : ℕ) → count ≤ page → (one : Page) → find_page state.pages (Heap process page) ≡ Some one → ⊥
   unfolding Belongs
   page_absent page beyond one found =
-      let below = subst (λ (found : Option Process). page < heap_count found) process_found ((stands.whole.pages (Heap process page)).0 (one, found)) in
+      let below =
+      subst (λ (found : Option Process). page < heap_count found) process_found
+      ((stands.whole.pages (Heap process page)).0 (one, found)) in
       omega (arith, below)
 
   -- ---- walks
@@ -65,12 +72,17 @@ module _ (kernel : Kernel) (root : RootKernel) (book : Book) (memory : Physical)
     abbrev there : IsThere state.pages (Heap process page)
     there = page_there page below
 
-    pub frame_read : heap_frame memory entry.set page access.Read ≡ Some (record { 0 = stands.placement.frame (Heap process page) })
-    frame_read = subst (λ (set : TableSet). heap_frame memory set page access.Read ≡ Some (record { 0 = stands.placement.frame (Heap process page) })) set_is
+    pub frame_read : heap_frame memory entry.set page access.Read
+        ≡ Some (record { 0 = stands.placement.frame (Heap process page) })
+    frame_read =
+        subst (λ (set : TableSet). heap_frame memory set page access.Read
+        ≡ Some (record { 0 = stands.placement.frame (Heap process page) })) set_is
         (read_frame stands.placement state memory process page there.0 stands.keeps process_there page_low there.1)
 
-    fact : (Claim : ℕ → Type 0) (how : Access) → Claim (stands.placement.frame (Heap process page)) → IfOk (walked_in memory entry.set (heap_at page) how) (λ led. Claim (led.0 / 4096))
-    fact Claim how holds = subst (λ (set : TableSet). IfOk (walked_in memory set (heap_at page) how) (λ led. Claim (led.0 / 4096))) set_is
+    fact : (Claim : ℕ → Type 0) (how : Access) → Claim (stands.placement.frame (Heap process page))
+        → IfOk (walked_in memory entry.set (heap_at page) how) (λ led. Claim (led.0 / 4096))
+    fact Claim how holds =
+        subst (λ (set : TableSet). IfOk (walked_in memory set (heap_at page) how) (λ led. Claim (led.0 / 4096))) set_is
         (walk_fact stands.placement state memory process page there.0 stands.keeps process_there page_low there.1 Claim how holds)
 
     frame_inside : stands.placement.frame (Heap process page) < frame_count memory
@@ -79,8 +91,11 @@ module _ (kernel : Kernel) (root : RootKernel) (book : Book) (memory : Physical)
     frame_above : 512 ≤ stands.placement.frame (Heap process page)
     frame_above = above stands.placement state memory process page there.0 stands.keeps process_there page_low there.1
 
-    pub executed : frame_bytes memory (heap_frame memory entry.set page access.Fetch) ≡ executable_bytes (find_page state.pages (Heap process page))
-    executed = subst (λ (set : TableSet). frame_bytes memory (heap_frame memory set page access.Fetch) ≡ executable_bytes (find_page state.pages (Heap process page))) set_is
+    pub executed : frame_bytes memory (heap_frame memory entry.set page access.Fetch)
+        ≡ executable_bytes (find_page state.pages (Heap process page))
+    executed =
+        subst (λ (set : TableSet). frame_bytes memory (heap_frame memory set page access.Fetch)
+        ≡ executable_bytes (find_page state.pages (Heap process page))) set_is
         (executed_are stands.placement state memory process page there.0 stands.keeps process_there page_low there.1)
 
     pub page_bytes : frame_bytes memory (Some (record { 0 = stands.placement.frame (Heap process page) })) ≡ there.0.bytes
@@ -99,7 +114,8 @@ module _ (kernel : Kernel) (root : RootKernel) (book : Book) (memory : Physical)
   -- ---- the pattern
 
   module _ (page : ℕ) (below : page < count) where
-    before_by : (first : Bool) → (page == 0) ≡ first → drop 4094 (frame_bytes memory (if first then None else heap_frame memory entry.set (page - 1) access.Fetch))
+    before_by : (first : Bool) → (page == 0) ≡ first
+        → drop 4094 (frame_bytes memory (if first then None else heap_frame memory entry.set (page - 1) access.Fetch))
         ≡ (if first then [] else drop 4094 (executable_bytes (find_page state.pages (Heap process (page - 1)))))
     before_by true is = refl
     before_by false is = ap (drop 4094) (executed (page - 1) (omega arith))
@@ -107,7 +123,8 @@ module _ (kernel : Kernel) (root : RootKernel) (book : Book) (memory : Physical)
     before_same : drop 4094 (frame_bytes memory (frame_before memory entry.set page)) ≡ bytes_before state process page
     before_same = before_by (page == 0) refl
 
-    behind_by : (more : Bool) → nat_lt (page + 1) count ≡ more → frame_bytes memory (if more then heap_frame memory entry.set (page + 1) access.Fetch else None)
+    behind_by : (more : Bool) → nat_lt (page + 1) count ≡ more
+        → frame_bytes memory (if more then heap_frame memory entry.set (page + 1) access.Fetch else None)
         ≡ executable_bytes (find_page state.pages (Heap process (page + 1)))
     behind_by true is = let next : page + 1 < count = grind (arith, common_steps) in executed (page + 1) next
     behind_by false is =
@@ -121,8 +138,18 @@ module _ (kernel : Kernel) (root : RootKernel) (book : Book) (memory : Physical)
     unfolding heap_pattern
     pattern_same =
         let there = page_there page below in
-        ap (λ (found : Option Frame). pattern_where memory page (frame_before memory entry.set page) found (frame_behind memory entry.set page count)) (frame_read page below)
-        ∙ (ap (λ (front : List ℕ). option_map (heap_address page (length front)) (first_pattern (front ++ (frame_bytes memory (Some (record { 0 = stands.placement.frame (Heap process page) })) ++ take 2 (frame_bytes memory (frame_behind memory entry.set page count)))))) before_same
-        ∙ (ap (λ (bytes : List ℕ). option_map (heap_address page (length (bytes_before state process page))) (first_pattern (bytes_before state process page ++ (bytes ++ take 2 (frame_bytes memory (frame_behind memory entry.set page count)))))) (page_bytes page below)
-        ∙ (ap (λ (end : List ℕ). option_map (heap_address page (length (bytes_before state process page))) (first_pattern (bytes_before state process page ++ (there.0.bytes ++ end)))) behind_same
-        ∙ ap (λ (found : Option Page). option_map (heap_address page (length (bytes_before state process page))) (pattern_around (bytes_before state process page) (bytes_behind state process page) found)) (sym there.1))))
+        ap (λ (found : Option Frame). pattern_where memory page (frame_before memory entry.set page) found
+        (frame_behind memory entry.set page count)) (frame_read page below)
+        ∙ (ap (λ (front : List ℕ). option_map (heap_address page (length front))
+        (first_pattern
+        (front ++
+        (frame_bytes memory (Some (record { 0 = stands.placement.frame (Heap process page) })) ++ take 2
+        (frame_bytes memory (frame_behind memory entry.set page count)))))) before_same
+        ∙ (ap (λ (bytes : List ℕ). option_map (heap_address page (length (bytes_before state process page)))
+        (first_pattern
+        (bytes_before state process page ++
+        (bytes ++ take 2 (frame_bytes memory (frame_behind memory entry.set page count)))))) (page_bytes page below)
+        ∙ (ap (λ (end : List ℕ). option_map (heap_address page (length (bytes_before state process page)))
+        (first_pattern (bytes_before state process page ++ (there.0.bytes ++ end)))) behind_same
+        ∙ ap (λ (found : Option Page). option_map (heap_address page (length (bytes_before state process page)))
+        (pattern_around (bytes_before state process page) (bytes_behind state process page) found)) (sym there.1))))

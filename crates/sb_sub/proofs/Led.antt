@@ -28,21 +28,28 @@ use Rattle.sb_sub.specs.Heap.{heap_at, heap_frame, led_to, frame_bytes}
 
 -- ---- one answer
 
-pub on_judged : (may : Bool) (page linear : ℕ) → and_then (if may then Ok page else Err (Denied 1)) (λ (led : ℕ). Ok (address_in linear led)) ≡ (if may then Ok (address_in linear page) else Err (Denied 1))
+pub on_judged : (may : Bool) (page linear : ℕ)
+    → and_then (if may then Ok page else Err (Denied 1)) (λ (led : ℕ). Ok (address_in linear led))
+    ≡ (if may then Ok (address_in linear page) else Err (Denied 1))
 on_judged true page linear = refl
 on_judged false page linear = refl
 
-pub led_if : (may : Bool) (page linear : ℕ) → led_to (if may then Ok (address_in linear page) else Err (Denied 1)) ≡ (if may then Some (record { 0 = page }) else None)
+pub led_if : (may : Bool) (page linear : ℕ)
+    → led_to (if may then Ok (address_in linear page) else Err (Denied 1)) ≡ (if may then Some (record { 0 = page }) else None)
 led_if true page linear = ap (λ (n : ℕ). Some (record { 0 = n })) (omega arith)
 led_if false page linear = refl
 
 -- an Ok answer of such a form leads to the page
-pub answer_fact : (Claim : ℕ → Type 0) (may : Bool) (page linear : ℕ) → Claim page → IfOk (if may then Ok (address_in linear page) else Err (Denied 1)) (λ at. Claim (at.0 / 4096))
-answer_fact Claim true page linear holds = let same : page ≡ (4096 * page + linear % 4096) / 4096 = omega arith in subst Claim same holds
+pub answer_fact : (Claim : ℕ → Type 0) (may : Bool) (page linear : ℕ) → Claim page
+    → IfOk (if may then Ok (address_in linear page) else Err (Denied 1)) (λ at. Claim (at.0 / 4096))
+answer_fact Claim true page linear holds = let same : page ≡ (4096 * page + linear % 4096) / 4096 = omega arith in
+    subst Claim same holds
 answer_fact Claim false page linear holds = tt
 
-module _ (placement : Placement) (state : State) (memory : Physical) (process page : ℕ) (one : Page) (keeps : Keeps placement state memory)
-    (there : process < length state.processes) (few : page < 512) (found : find_page state.pages (Heap process page) ≡ Some one) where
+module _ (placement : Placement) (state : State) (memory : Physical) (process page : ℕ) (one : Page)
+    (keeps : Keeps placement state memory)
+    (there : process < length state.processes) (few : page < 512) (found : find_page state.pages (Heap process page)
+    ≡ Some one) where
   abbrev name : PageName
   name = Heap process page
 
@@ -53,11 +60,13 @@ module _ (placement : Placement) (state : State) (memory : Physical) (process pa
   unfolding is_own
   heap_own = refl
 
-  entry_is : entries_of placement.frame state 0 0 process (at / 4096) ≡ leaf_for (placement.frame name) (mode_of name one.executable)
+  entry_is : entries_of placement.frame state 0 0 process (at / 4096)
+      ≡ leaf_for (placement.frame name) (mode_of name one.executable)
   entry_is =
       ap (λ (n : ℕ). entry_of placement.frame state.pages (name_at state.threads 0 0 n process)) (omega arith)
       ∙ (ap (entry_of placement.frame state.pages) (heap_named state.threads 0 0 page process few)
-      ∙ (ap (λ (test : Bool). if test then leaf_for (guest_page placement.frame name) (mode_of name false) else leaf_if placement.frame name (find_page state.pages name)) heap_own
+      ∙ (ap (λ (test : Bool). if test then leaf_for (guest_page placement.frame name)
+      (mode_of name false) else leaf_if placement.frame name (find_page state.pages name)) heap_own
       ∙ ap (leaf_if placement.frame name) found))
 
   pub inside : placement.frame name < frame_count memory
@@ -75,7 +84,8 @@ module _ (placement : Placement) (state : State) (memory : Physical) (process pa
       (keeps.leads.guests process there).maps 0 0 at how
       ∙ (set_walked_window (entries_of placement.frame state 0 0 process) at how (heap_window page few)
       ∙ (ap (λ (entry : ℕ). page_walked entry at how) entry_is
-      ∙ (ap (λ (judged : Result ℕ WalkStop). and_then judged (λ (led : ℕ). Ok (address_in at led))) (leaf_judged (mode_of name one.executable) how (placement.frame name) small)
+      ∙ (ap (λ (judged : Result ℕ WalkStop). and_then judged (λ (led : ℕ). Ok (address_in at led)))
+      (leaf_judged (mode_of name one.executable) how (placement.frame name) small)
       ∙ on_judged (guest_permits (mode_of name one.executable) how) (placement.frame name) at)))
 
   frame_is : (how : Access) → heap_frame memory (placement.sets process) page how
@@ -93,12 +103,18 @@ module _ (placement : Placement) (state : State) (memory : Physical) (process pa
   fetch_may false = refl
 
   pub read_frame : heap_frame memory (placement.sets process) page access.Read ≡ Some (record { 0 = placement.frame name })
-  read_frame = frame_is access.Read ∙ ap (λ (may : Bool). if may then Some (record { 0 = placement.frame name }) else None) (read_may one.executable)
+  read_frame =
+      frame_is access.Read
+      ∙ ap (λ (may : Bool). if may then Some (record { 0 = placement.frame name }) else None) (read_may one.executable)
 
-  pub fetch_frame : heap_frame memory (placement.sets process) page access.Fetch ≡ (if one.executable then Some (record { 0 = placement.frame name }) else None)
-  fetch_frame = frame_is access.Fetch ∙ ap (λ (may : Bool). if may then Some (record { 0 = placement.frame name }) else None) (fetch_may one.executable)
+  pub fetch_frame : heap_frame memory (placement.sets process) page access.Fetch
+      ≡ (if one.executable then Some (record { 0 = placement.frame name }) else None)
+  fetch_frame =
+      frame_is access.Fetch
+      ∙ ap (λ (may : Bool). if may then Some (record { 0 = placement.frame name }) else None) (fetch_may one.executable)
 
-  pub walk_fact : (Claim : ℕ → Type 0) (how : Access) → Claim (placement.frame name) → IfOk (walked_in memory (placement.sets process) at how) (λ led. Claim (led.0 / 4096))
+  pub walk_fact : (Claim : ℕ → Type 0) (how : Access) → Claim (placement.frame name)
+      → IfOk (walked_in memory (placement.sets process) at how) (λ led. Claim (led.0 / 4096))
   walk_fact Claim how holds =
       subst (λ (answer : Result GuestPhys WalkStop). IfOk answer (λ led. Claim (led.0 / 4096))) (sym (walked_is how))
       (answer_fact Claim (guest_permits (mode_of name one.executable) how) (placement.frame name) at holds)
@@ -122,9 +138,12 @@ module _ (placement : Placement) (state : State) (memory : Physical) (process pa
       ∙ (get_or-drop (4096 * placement.frame name) memory.bytes i 0
       ∙ holds.byte i low))
 
-  executed_by : (executable : Bool) → frame_bytes memory (if executable then Some (record { 0 = placement.frame name }) else None) ≡ (if executable then one.bytes else [])
+  executed_by : (executable : Bool)
+      → frame_bytes memory (if executable then Some (record { 0 = placement.frame name }) else None)
+      ≡ (if executable then one.bytes else [])
   executed_by true = bytes_are
   executed_by false = refl
 
-  pub executed_are : frame_bytes memory (heap_frame memory (placement.sets process) page access.Fetch) ≡ executable_bytes (find_page state.pages name)
+  pub executed_are : frame_bytes memory (heap_frame memory (placement.sets process) page access.Fetch)
+      ≡ executable_bytes (find_page state.pages name)
   executed_are = ap (frame_bytes memory) fetch_frame ∙ (executed_by one.executable ∙ ap executable_bytes (sym found))

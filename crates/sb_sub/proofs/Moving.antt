@@ -19,11 +19,13 @@ unfolding page_table_of
 heap_table page few = let region : region_of (heap_at page) ≡ 6 = omega arith in rw region refl
 
 -- a word is put into the table of the heap's window
-pub table_word : (set : TableSet) (memory new : Physical) (page count entry : ℕ) → page < count → count ≤ 512 → new ≡ with_bytes memory (put_word memory.bytes (page_place set (heap_at page)) entry)
+pub table_word : (set : TableSet) (memory new : Physical) (page count entry : ℕ) → page < count → count ≤ 512
+    → new ≡ with_bytes memory (put_word memory.bytes (page_place set (heap_at page)) entry)
     → SameOutside (table_frame set 7 ∷ []) memory new
 table_word set memory new page count entry below few written =
     let table = heap_table page (omega arith) in
-    let place : frame_of (page_place set (heap_at page)) ≡ table_frame set (page_table_of (region_of (heap_at page))) = omega arith in
+    let place : frame_of (page_place set (heap_at page)) ≡ table_frame set (page_table_of (region_of (heap_at page))) =
+    omega arith in
     let here : frame_of (page_place set (heap_at page)) ≡ table_frame set 7 = place ∙ ap (table_frame set) table in
     subst (SameOutside (table_frame set 7 ∷ []) memory) (sym written)
     (same_outside_word _ memory (page_place set (heap_at page)) entry (omega arith) (zero, lit< tt, sym here))

@@ -27,7 +27,7 @@ use Rattle.sb_state.specs.declared.state.Registration.{Registration}
 use Rattle.sb_state.specs.declared.state.Thread.{Thread}
 use Rattle.sb_trace.specs.PageName.{mode_of, same_name}
 use Rattle.sb_trace.specs.PageWords.{with_word}
-use Rattle.sb_trace.specs.State.{State, Process, find_page, replaced, contents, with_contents, thread_at, process_at}
+use Rattle.sb_trace.specs.State.{State, Process, find_page, with_page_bytes, contents, with_contents, thread_at, process_at}
 use Rattle.sb_trace.specs.Windows.{name_at}
 use Rattle.sb_trace.specs.SyscallRegister.{with_registration, with_server}
 use Rattle.sb_state.proofs.Names.{name_other, name_same}
@@ -51,20 +51,26 @@ pool_window : IsInWindow pool_at
 unfolding page_table_of
 pool_window = λ e. cc
 
-pub there_put : (test : Bool) (pages : List Page) (name other : PageName) (bytes : List ℕ) → same_name name other ≡ test → IsThere pages other → IsThere (replaced pages name bytes) other
+pub there_put : (test : Bool) (pages : List Page) (name other : PageName) (bytes : List ℕ) → same_name name other ≡ test
+    → IsThere pages other → IsThere (with_page_bytes pages name bytes) other
 there_put true pages name other bytes is (page, found) =
-    let same = name_same name other is in
-    (page_with bytes page, ap (find_page (replaced pages name bytes)) (sym same) ∙ (found_same pages name bytes ∙ ap (option_map (page_with bytes)) (ap (find_page pages) same ∙ found)))
+    let same = name_same name other is in (
+      page_with bytes page,
+      ap (find_page (with_page_bytes pages name bytes)) (sym same)
+          ∙ (found_same pages name bytes ∙ ap (option_map (page_with bytes)) (ap (find_page pages) same ∙ found)),
+    )
 there_put false pages name other bytes is (page, found) = (page, found_other pages name other bytes is ∙ found)
 
-registered_count : (found : Option Process) (processes : List Process) (number : ℕ) (registration : Registration) → length (with_registration found processes number registration) ≡ length processes
+registered_count : (found : Option Process) (processes : List Process) (number : ℕ) (registration : Registration)
+    → length (with_registration found processes number registration) ≡ length processes
 registered_count None processes number registration = refl
 registered_count (Some process) processes number registration = length-set processes number _
 
 pools_differ : (process page : ℕ) → Pool process ≢ ServerStack process page
 pools_differ process page same = cc
 
-module _ (placement : Placement) (root : RootKernel) (book : Book) (memory : Physical) (state : State) (carries : Carries placement root book memory state) (process : ℕ) (one : Page)
+module _ (placement : Placement) (root : RootKernel) (book : Book) (memory : Physical) (state : State)
+    (carries : Carries placement root book memory state) (process : ℕ) (one : Page)
     (there : process < length state.processes) (found : find_page state.pages (Pool process) ≡ Some one) where
   abbrev name : PageName
   name = Pool process
@@ -73,10 +79,12 @@ module _ (placement : Placement) (root : RootKernel) (book : Book) (memory : Phy
   unfolding is_own
   pool_own = refl
 
-  entry_is : entries_of placement.frame state 0 0 process (pool_at / 4096) ≡ leaf_for (placement.frame name) (mode_of name one.executable)
+  entry_is : entries_of placement.frame state 0 0 process (pool_at / 4096)
+      ≡ leaf_for (placement.frame name) (mode_of name one.executable)
   entry_is =
       ap (entry_of placement.frame state.pages) (pool_named state.threads 0 0 process)
-      ∙ (ap (λ (test : Bool). if test then leaf_for (guest_page placement.frame name) (mode_of name false) else leaf_if placement.frame name (find_page state.pages name)) pool_own
+      ∙ (ap (λ (test : Bool). if test then leaf_for (guest_page placement.frame name)
+      (mode_of name false) else leaf_if placement.frame name (find_page state.pages name)) pool_own
       ∙ ap (leaf_if placement.frame name) found)
 
   pool_inside : placement.frame name < frame_count memory
@@ -85,12 +93,15 @@ module _ (placement : Placement) (root : RootKernel) (book : Book) (memory : Phy
   pool_small : placement.frame name < 2 ^ 32
   pool_small = let most = carries.keeps.leads.stands.whole.most in let within = pool_inside in omega arith
 
-  walked_is : walked_in memory (placement.sets process) pool_at access.Read ≡ (if guest_permits (mode_of name one.executable) access.Read then Ok (address_in pool_at (placement.frame name)) else Err (Denied 1))
+  walked_is : walked_in memory (placement.sets process) pool_at access.Read
+      ≡ (if guest_permits (mode_of name one.executable) access.Read then Ok (address_in pool_at (placement.frame name)) else Err
+      (Denied 1))
   walked_is =
       (carries.keeps.leads.guests process there).maps 0 0 pool_at access.Read
       ∙ (set_walked_window (entries_of placement.frame state 0 0 process) pool_at access.Read pool_window
       ∙ (ap (λ (entry : ℕ). page_walked entry pool_at access.Read) entry_is
-      ∙ (ap (λ (judged : Result ℕ WalkStop). and_then judged (λ (led : ℕ). Ok (address_in pool_at led))) (leaf_judged (mode_of name one.executable) access.Read (placement.frame name) pool_small)
+      ∙ (ap (λ (judged : Result ℕ WalkStop). and_then judged (λ (led : ℕ). Ok (address_in pool_at led)))
+      (leaf_judged (mode_of name one.executable) access.Read (placement.frame name) pool_small)
       ∙ on_judged (guest_permits (mode_of name one.executable) access.Read) (placement.frame name) pool_at)))
 
   may : guest_permits (mode_of name one.executable) access.Read ≡ true
@@ -98,7 +109,8 @@ module _ (placement : Placement) (root : RootKernel) (book : Book) (memory : Phy
   may = refl
 
   pool_frame : pool_found memory (placement.sets process) ≡ Some (record { 0 = placement.frame name })
-  pool_frame = ap led_to walked_is ∙ (led_if (guest_permits (mode_of name one.executable) access.Read) (placement.frame name) pool_at
+  pool_frame =
+      ap led_to walked_is ∙ (led_if (guest_permits (mode_of name one.executable) access.Read) (placement.frame name) pool_at
       ∙ ap (λ (test : Bool). if test then Some (record { 0 = placement.frame name }) else None) may)
 
   purpose_is : placement.purpose (placement.frame name) ≡ Holds name
@@ -109,19 +121,29 @@ module _ (placement : Placement) (root : RootKernel) (book : Book) (memory : Phy
   finds_pool = record {
     small = (let most = carries.keeps.leads.stands.whole.most in omega arith);
     inside = subst (λ (answer : Result GuestPhys WalkStop). IfOk answer (λ at. at.0 / 4096 < frame_count memory)) (sym walked_is)
-        (answer_fact (λ (frame : ℕ). frame < frame_count memory) (guest_permits (mode_of name one.executable) access.Read) (placement.frame name) pool_at pool_inside);
+        (answer_fact (λ (frame : ℕ). frame < frame_count memory) (guest_permits (mode_of name one.executable) access.Read)
+        (placement.frame name) pool_at pool_inside);
     frame = record { 0 = placement.frame name };
     found = pool_frame;
-    set_apart = λ table few changed. let e = sym (carries.keeps.apart.guest process table there few) ∙ (ap placement.purpose (only_one _ _ changed) ∙ purpose_is) in cc;
+    set_apart =
+        λ table few changed.
+        let e = sym (carries.keeps.apart.guest process table there few)
+        ∙ (ap placement.purpose (only_one _ _ changed) ∙ purpose_is) in cc;
     root_apart = subst (λ (kernel : RootKernel). IsRootApart kernel (placement.frame name ∷ [])) carries.rooted (record {
-      base = λ frame among changed. let e = sym (carries.keeps.apart.base frame among) ∙ (ap placement.purpose (only_one _ frame changed) ∙ purpose_is) in cc;
-      tables = λ part frame table used changed. let e = sym (carries.keeps.apart.root part frame table used) ∙ (ap placement.purpose (only_one _ frame changed) ∙ purpose_is) in cc;
+      base = λ frame among changed.
+          let e = sym (carries.keeps.apart.base frame among) ∙ (ap placement.purpose (only_one _ frame changed) ∙ purpose_is) in
+          cc;
+      tables =
+          λ part frame table used changed.
+          let e = sym (carries.keeps.apart.root part frame table used)
+          ∙ (ap placement.purpose (only_one _ frame changed) ∙ purpose_is) in cc;
     });
   }
 
   -- ---- afterwards
 
-  module _ (handler stacks : ℕ) (book' : Book) (new : Physical) (few : stacks ≤ 16) (none : (page : ℕ) → find_page state.pages (ServerStack process page) ≡ None)
+  module _ (handler stacks : ℕ) (book' : Book) (new : Physical) (few : stacks ≤ 16) (none : (page : ℕ)
+      → find_page state.pages (ServerStack process page) ≡ None)
       (registers : RegistersPages (placement.sets process) root book book' memory new process stacks) where
     some_frame : (first second : Frame) → Some first ≡ Some second → first.0 ≡ second.0
     some_frame first second same = cc
@@ -140,15 +162,19 @@ module _ (placement : Placement) (root : RootKernel) (book : Book) (memory : Phy
 
     mid_carried : Carries placement root book registers.mid pooled
     mid_carried = record {
-      keeps = subst (Keeps placement pooled) (sym put) (word_kept placement state memory name one 0 word carries.keeps found refl (lit≤ tt));
+      keeps = subst (Keeps placement pooled) (sym put)
+          (word_kept placement state memory name one 0 word carries.keeps found refl (lit≤ tt));
       rooted = carries.rooted;
-      booked = subst (IsBooked root book) (sym registers.written) (record { size = carries.booked.size; held = carries.booked.held });
+      booked =
+          subst (IsBooked root book) (sym registers.written) (record { size = carries.booked.size; held = carries.booked.held });
       unused = carries.unused;
     }
 
     still : (page : ℕ) → find_page pooled.pages (ServerStack process page) ≡ None
     unfolding with_word with_contents
-    still page = found_other state.pages name (ServerStack process page) (put_word (contents state name) 0 word) (name_other name (ServerStack process page) (pools_differ process page)) ∙ none page
+    still page =
+        found_other state.pages name (ServerStack process page) (put_word (contents state name) 0 word)
+        (name_other name (ServerStack process page) (pools_differ process page)) ∙ none page
 
     there_pooled : process < length pooled.processes
     unfolding with_word with_contents
@@ -159,17 +185,32 @@ module _ (placement : Placement) (root : RootKernel) (book : Book) (memory : Phy
     put_there other is = there_put (same_name name other) state.pages name other (put_word (contents state name) 0 word) refl is
 
     stacked : StacksCarried placement root book' new pooled process (4 * stacks)
-    stacked = stacks_carried placement root registers.mid pooled process process there_pooled (4 * stacks) book book' new mid_carried (omega arith) still registers.stacks_taken
+    stacked =
+        stacks_carried placement root registers.mid pooled process process there_pooled (4 * stacks) book book' new mid_carried
+        (omega arith) still registers.stacks_taken
 
     served_keeps : Keeps stacked.after (with_server state process handler stacks) new
     unfolding with_server with_word with_contents thread_at
     served_keeps = keeps_moved stacked.after _ (with_server state process handler stacks) new
-        (record { pages = λ other. refl; processes = registered_count (process_at state process) state.processes process (record { handler = handler; stacks = stacks }); shows = λ thread view. refl; home = λ thread. refl })
+        (record {
+          pages = λ other. refl;
+          processes =
+              registered_count (process_at state process) state.processes process
+              (record { handler = handler; stacks = stacks });
+          shows = λ thread view. refl;
+          home = λ thread. refl;
+        })
         stacked.carries.keeps
 
     pub registered_carried : Registered placement root book' new state process handler stacks
     registered_carried = record {
       after = stacked.after;
-      carries = record { keeps = served_keeps; rooted = stacked.carries.rooted; booked = stacked.carries.booked; unused = stacked.carries.unused };
+      carries =
+          record {
+            keeps = served_keeps;
+            rooted = stacked.carries.rooted;
+            booked = stacked.carries.booked;
+            unused = stacked.carries.unused;
+          };
       stays = record { frames = λ other is. stacked.stays.frames other (put_there other is); sets = stacked.stays.sets };
     }

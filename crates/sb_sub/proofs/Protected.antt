@@ -18,7 +18,7 @@ use Rattle.sb_state.specs.declared.page.Page.{Page}
 use Rattle.sb_trace.specs.PageName.{same_name, mode_of}
 use Rattle.sb_trace.specs.State.{State, Process, find_page, process_at}
 use Rattle.sb_trace.specs.Pattern.{heap_pattern}
-use Rattle.sb_trace.specs.SyscallProtect.{heap_count, with_mode, protected}
+use Rattle.sb_trace.specs.SyscallProtect.{heap_count, with_mode, with_heap_mode}
 use Rattle.sb_state.proofs.Names.{name_same}
 use Rattle.sb_state.proofs.Pages.{with_executable}
 use Rattle.sb_trace.proofs.Modes.{mode_same, mode_other}
@@ -43,18 +43,22 @@ mode_is : (process page : ℕ) (executable : Bool) → mode_of (Heap process pag
 unfolding mode_of
 mode_is process page executable = refl
 
-there_from : (was : Option Page) (pages : List Page) (other : PageName) (page : Page) (executable : Bool) → option_map (with_executable executable) was ≡ Some page → was ≡ find_page pages other → IsThere pages other
+there_from : (was : Option Page) (pages : List Page) (other : PageName) (page : Page) (executable : Bool)
+    → option_map (with_executable executable) was ≡ Some page → was ≡ find_page pages other → IsThere pages other
 there_from None pages other page executable e here = absurd (let f = e in cc)
 there_from (Some one) pages other page executable e here = (one, sym here)
 
-there_before : (test : Bool) (pages : List Page) (name other : PageName) (executable : Bool) → same_name name other ≡ test → IsThere (with_mode pages name executable) other → IsThere pages other
+there_before : (test : Bool) (pages : List Page) (name other : PageName) (executable : Bool) → same_name name other ≡ test
+    → IsThere (with_mode pages name executable) other → IsThere pages other
 there_before true pages name other executable is (page, found) =
     let same = name_same name other is in
     there_from (find_page pages name) pages other page executable
-    (sym (mode_same pages name executable) ∙ (ap (find_page (with_mode pages name executable)) same ∙ found)) (ap (find_page pages) same)
+    (sym (mode_same pages name executable) ∙ (ap (find_page (with_mode pages name executable)) same ∙ found))
+    (ap (find_page pages) same)
 there_before false pages name other executable is (page, found) = (page, sym (mode_other pages name other executable is) ∙ found)
 
-module _ (kernel : Kernel) (root : RootKernel) (book : Book) (memory : Physical) (state : State) (stands : StandsFor kernel root book memory state)
+module _ (kernel : Kernel) (root : RootKernel) (book : Book) (memory : Physical) (state : State)
+    (stands : StandsFor kernel root book memory state)
     (process : ℕ) (entry : Entry) (kept : slice_get kernel.processes process ≡ Some entry) where
   pub tables_stand : HasTables entry.set memory
   tables_stand = subst (λ (set : TableSet). HasTables set memory) (set_is kernel root book memory state stands process entry kept)
@@ -65,13 +69,18 @@ module _ (kernel : Kernel) (root : RootKernel) (book : Book) (memory : Physical)
 
   pub table_apart : IsApart root (table_frame entry.set 7 ∷ [])
   table_apart =
-      let first = guest_root_apart stands.placement state stands.keeps.apart process 7 (process_there kernel root book memory state stands process entry kept) (lit< tt) in
-      let second = subst (λ (set : TableSet). IsApart stands.placement.root (table_frame set 7 ∷ [])) (set_is kernel root book memory state stands process entry kept) first in
+      let first =
+      guest_root_apart stands.placement state stands.keeps.apart process 7
+      (process_there kernel root book memory state stands process entry kept) (lit< tt) in
+      let second =
+      subst (λ (set : TableSet). IsApart stands.placement.root (table_frame set 7 ∷ []))
+      (set_is kernel root book memory state stands process entry kept) first in
       subst (λ (one : RootKernel). IsApart one (table_frame entry.set 7 ∷ [])) stands.rooted second
 
   -- ---- a page got a mode
 
-  module _ (page : ℕ) (executable : Bool) (new : Physical) (below : page < entry.process.heap_pages) (sets : SetsMode entry.set root memory new page executable) where
+  module _ (page : ℕ) (executable : Bool) (new : Physical) (below : page < entry.process.heap_pages)
+      (sets : SetsMode entry.set root memory new page executable) where
     abbrev name : PageName
     name = Heap process page
 
@@ -79,19 +88,32 @@ module _ (kernel : Kernel) (root : RootKernel) (book : Book) (memory : Physical)
     frame_is = some_frame sets.frame (record { 0 = stands.placement.frame name })
         (sym sets.found ∙ frame_read kernel root book memory state stands process entry kept page below)
 
-    page_set : SetsPage (stands.placement.sets process) memory sets.mid (heap_at page) (leaf_for (stands.placement.frame name) (mode_of name executable))
+    page_set : SetsPage (stands.placement.sets process) memory sets.mid (heap_at page)
+        (leaf_for (stands.placement.frame name) (mode_of name executable))
     page_set =
-        let first = subst (λ (frame : ℕ). SetsPage entry.set memory sets.mid (heap_at page) (leaf_for frame (heap_mode executable))) frame_is sets.set_page in
-        let second = subst (λ mode. SetsPage entry.set memory sets.mid (heap_at page) (leaf_for (stands.placement.frame name) mode)) (sym (mode_is process page executable)) first in
-        subst (λ (set : TableSet). SetsPage set memory sets.mid (heap_at page) (leaf_for (stands.placement.frame name) (mode_of name executable))) (sym (set_is kernel root book memory state stands process entry kept)) second
+        let first =
+        subst (λ (frame : ℕ). SetsPage entry.set memory sets.mid (heap_at page) (leaf_for frame (heap_mode executable)))
+        frame_is sets.set_page in
+        let second =
+        subst (λ mode. SetsPage entry.set memory sets.mid (heap_at page) (leaf_for (stands.placement.frame name) mode))
+        (sym (mode_is process page executable)) first in
+        subst (λ (set : TableSet). SetsPage set memory sets.mid (heap_at page)
+        (leaf_for (stands.placement.frame name) (mode_of name executable)))
+        (sym (set_is kernel root book memory state stands process entry kept)) second
 
-    page_exposed : ExposesFrame stands.placement.root sets.mid new (stands.placement.frame name) (rights_for (mode_of name executable))
+    page_exposed : ExposesFrame stands.placement.root sets.mid new (stands.placement.frame name)
+        (rights_for (mode_of name executable))
     page_exposed =
-        let first = subst (λ (frame : ℕ). ExposesFrame root sets.mid new frame (rights_for (heap_mode executable))) frame_is sets.exposed in
-        let second = subst (λ mode. ExposesFrame root sets.mid new (stands.placement.frame name) (rights_for mode)) (sym (mode_is process page executable)) first in
-        subst (λ (one : RootKernel). ExposesFrame one sets.mid new (stands.placement.frame name) (rights_for (mode_of name executable))) (sym stands.rooted) second
+        let first =
+        subst (λ (frame : ℕ). ExposesFrame root sets.mid new frame (rights_for (heap_mode executable))) frame_is
+        sets.exposed in
+        let second =
+        subst (λ mode. ExposesFrame root sets.mid new (stands.placement.frame name) (rights_for mode))
+        (sym (mode_is process page executable)) first in
+        subst (λ (one : RootKernel). ExposesFrame one sets.mid new (stands.placement.frame name)
+        (rights_for (mode_of name executable))) (sym stands.rooted) second
 
-    kept_now : Keeps stands.placement (protected state process page executable) new
+    kept_now : Keeps stands.placement (with_heap_mode state process page executable) new
     kept_now =
         let few = heap_few kernel root book memory state stands process entry kept in
         protected_keeps stands.placement state memory sets.mid new process page executable stands.keeps
@@ -100,11 +122,13 @@ module _ (kernel : Kernel) (root : RootKernel) (book : Book) (memory : Physical)
 
     booked_now : IsBooked root book new
     booked_now =
-        let mid : IsBooked root book sets.mid = subst (IsBooked root book) (sym sets.set_page.written) (record { size = stands.booked.size; held = stands.booked.held }) in
+        let mid : IsBooked root book sets.mid =
+        subst (IsBooked root book) (sym sets.set_page.written)
+        (record { size = stands.booked.size; held = stands.booked.held }) in
         subst (IsBooked root book) (sym sets.exposed.written) (record { size = mid.size; held = mid.held })
 
-    pub protected_stands : StandsFor kernel root book new (protected state process page executable)
-    unfolding protected
+    pub protected_stands : StandsFor kernel root book new (with_heap_mode state process page executable)
+    unfolding with_heap_mode
     protected_stands = record {
       placement = stands.placement;
       images = stands.images;
@@ -141,7 +165,8 @@ module _ (kernel : Kernel) (root : RootKernel) (book : Book) (memory : Physical)
       ap (with_pattern (if (mode == 0) || (mode == 1) then None else Some BadMode) (mode == 1))
       (pattern_same kernel root book memory state stands process entry kept page below)
 
-  pub refusal_same : (page mode : ℕ) → page_refusal entry.process.heap_pages page mode (pattern_at memory entry.set page entry.process.heap_pages)
+  pub refusal_same : (page mode : ℕ)
+      → page_refusal entry.process.heap_pages page mode (pattern_at memory entry.set page entry.process.heap_pages)
       ≡ page_refusal (heap_count (process_at state process)) page mode (heap_pattern state process page)
   unfolding process_at protect_refusal
   refusal_same page mode =
@@ -150,14 +175,17 @@ module _ (kernel : Kernel) (root : RootKernel) (book : Book) (memory : Physical)
       (sym (process_found kernel root book memory state stands process entry kept))
 
   after_by : (refusal : Option (CallRefusal × ℕ)) (page mode : ℕ) (new : Physical)
-      → ((answer : CallRefusal × ℕ) → refusal ≡ Some answer → new ≡ memory) → IfNone refusal (page < entry.process.heap_pages) → IfNone refusal (SetsMode entry.set root memory new page (mode == 1))
+      → ((answer : CallRefusal × ℕ) → refusal ≡ Some answer → new ≡ memory) → IfNone refusal (page < entry.process.heap_pages)
+      → IfNone refusal (SetsMode entry.set root memory new page (mode == 1))
       → StandsFor kernel root book new (after_protect state process page mode refusal)
   after_by None page mode new same below sets = protected_stands page (mode == 1) new below sets
-  after_by (Some answer) page mode new same below sets = subst (λ (one : Physical). StandsFor kernel root book one state) (sym (same answer refl)) stands
+  after_by (Some answer) page mode new same below sets =
+      subst (λ (one : Physical). StandsFor kernel root book one state) (sym (same answer refl)) stands
 
   pub protects_by : (refusal : Option (CallRefusal × ℕ)) (page mode : ℕ) (new : Physical)
       → refusal ≡ page_refusal entry.process.heap_pages page mode (pattern_at memory entry.set page entry.process.heap_pages)
-      → ((answer : CallRefusal × ℕ) → refusal ≡ Some answer → new ≡ memory) → IfNone refusal (page < entry.process.heap_pages) → IfNone refusal (SetsMode entry.set root memory new page (mode == 1))
+      → ((answer : CallRefusal × ℕ) → refusal ≡ Some answer → new ≡ memory) → IfNone refusal (page < entry.process.heap_pages)
+      → IfNone refusal (SetsMode entry.set root memory new page (mode == 1))
       → ProtectsBy kernel root book new state process page mode refusal
   protects_by refusal page mode new is same below sets = record {
     is = is ∙ refusal_same page mode;
@@ -165,17 +193,23 @@ module _ (kernel : Kernel) (root : RootKernel) (book : Book) (memory : Physical)
   }
 
 -- a process that is not there has no heap
-pub absent_protects : (kernel : Kernel) (root : RootKernel) (book : Book) (memory : Physical) (state : State) → StandsFor kernel root book memory state
-    → (process page mode : ℕ) → slice_get kernel.processes process ≡ None → ProtectsBy kernel root book memory state process page mode (Some (BadPage, 0))
+pub absent_protects : (kernel : Kernel) (root : RootKernel) (book : Book) (memory : Physical) (state : State)
+    → StandsFor kernel root book memory state
+    → (process page mode : ℕ) → slice_get kernel.processes process ≡ None
+    → ProtectsBy kernel root book memory state process page mode (Some (BadPage, 0))
 unfolding process_at protect_refusal
 absent_protects kernel root book memory state stands process page mode none =
     let absent : slice_get state.processes process ≡ None =
-    ap (λ (list : List Process). slice_get list process) (sym stands.processes) ∙ (slice_get-map process_of kernel.processes process ∙ ap (option_map process_of) none) in
+    ap (λ (list : List Process). slice_get list process) (sym stands.processes)
+    ∙ (slice_get-map process_of kernel.processes process ∙ ap (option_map process_of) none) in
     let beyond : nat_le 0 page ≡ true = grind (arith, common_steps) in
     let is : page_refusal 0 page mode (heap_pattern state process page) ≡ Some (BadPage, 0) =
-    ap (λ (test : Bool). with_pattern (if test then Some BadPage else if (mode == 0) || (mode == 1) then None else Some BadMode) (mode == 1)
+    ap (λ (test : Bool). with_pattern (if test then Some BadPage else if (mode == 0) || (mode == 1) then None else Some BadMode)
+    (mode == 1)
     (heap_pattern state process page)) beyond in
     record {
-      is = sym (ap (λ (found : Option Process). page_refusal (heap_count found) page mode (heap_pattern state process page)) absent ∙ is);
+      is = sym
+          (ap (λ (found : Option Process). page_refusal (heap_count found) page mode (heap_pattern state process page)) absent
+          ∙ is);
       stands = stands;
     }

@@ -22,7 +22,8 @@ use Rattle.sb_sub.proofs.Finding.{process_found, process_there, set_is}
 use Rattle.sb_sub.proofs.Pooled.{registered_carried}
 use Rattle.sb_sub.proofs.WholeServer.{set_here, set_there, server_whole}
 
-map_set : (list : List Entry) (index : ℕ) (entry : Entry) → map process_of (slice_set list index entry) ≡ slice_set (map process_of list) index (process_of entry)
+map_set : (list : List Entry) (index : ℕ) (entry : Entry)
+    → map process_of (slice_set list index entry) ≡ slice_set (map process_of list) index (process_of entry)
 map_set [] index entry = refl
 map_set (first ∷ list) zero entry = refl
 map_set (first ∷ list) (suc index) entry = ap (λ (rest : List Process). process_of first ∷ rest) (map_set list index entry)
@@ -31,9 +32,12 @@ none_by : (found : Option Page) → ((page : Page) → found ≡ Some page → �
 none_by None no_page = refl
 none_by (Some page) no_page = absurd (no_page page refl)
 
-module _ (kernel : Kernel) (root : RootKernel) (book : Book) (memory : Physical) (state : State) (stands : StandsFor kernel root book memory state)
-    (process : ℕ) (entry : Entry) (kept : slice_get kernel.processes process ≡ Some entry) (unregistered : entry.process.registration ≡ None)
-    (handler stacks : ℕ) (book' : Book) (new : Physical) (few : stacks ≤ 16) (registers : RegistersPages entry.set root book book' memory new process stacks)
+module _ (kernel : Kernel) (root : RootKernel) (book : Book) (memory : Physical) (state : State)
+    (stands : StandsFor kernel root book memory state)
+    (process : ℕ) (entry : Entry) (kept : slice_get kernel.processes process ≡ Some entry)
+    (unregistered : entry.process.registration ≡ None)
+    (handler stacks : ℕ) (book' : Book) (new : Physical) (few : stacks ≤ 16)
+    (registers : RegistersPages entry.set root book book' memory new process stacks)
     (fewer : free_count book' + 4 * stacks ≡ free_count book) where
   there : process < length state.processes
   there = process_there kernel root book memory state stands process entry kept
@@ -59,7 +63,8 @@ module _ (kernel : Kernel) (root : RootKernel) (book : Book) (memory : Physical)
   carries = record { keeps = stands.keeps; rooted = stands.rooted; booked = stands.booked; unused = stands.unused }
 
   done : Registered stands.placement root book' new state process handler stacks
-  done = registered_carried stands.placement root book memory state carries process pool.0 there pool.1 handler stacks book' new few no_stack
+  done = registered_carried stands.placement root book memory state carries process pool.0 there pool.1 handler stacks book' new
+      few no_stack
       (subst (λ (set : TableSet). RegistersPages set root book book' memory new process stacks) (sym set_same) registers)
 
   abbrev after : Entry
@@ -68,21 +73,25 @@ module _ (kernel : Kernel) (root : RootKernel) (book : Book) (memory : Physical)
   some_entry : (first second : Entry) → Some first ≡ Some second → first.set ≡ second.set
   some_entry first second same = cc
 
-  sets_by : (same : Bool) (other : ℕ) (one : Entry) → (other == process) ≡ same → slice_get (slice_set kernel.processes process after) other ≡ Some one → done.after.sets other ≡ one.set
+  sets_by : (same : Bool) (other : ℕ) (one : Entry) → (other == process) ≡ same
+      → slice_get (slice_set kernel.processes process after) other ≡ Some one → done.after.sets other ≡ one.set
   sets_by true other one is found =
       let at = eqb-true other process is in
       let here = set_here kernel.processes process after (slice_get_within kernel.processes process entry kept) in
       let same = some_entry after one (sym here ∙ (ap (slice_get (slice_set kernel.processes process after)) (sym at) ∙ found)) in
       ap done.after.sets at ∙ (done.stays.sets process ∙ (set_same ∙ same))
   sets_by false other one is found =
-      done.stays.sets other ∙ stands.sets other one (sym (set_there kernel.processes process other after (eqb-false other process is)) ∙ found)
+      done.stays.sets other
+      ∙ stands.sets other one (sym (set_there kernel.processes process other after (eqb-false other process is)) ∙ found)
 
   processes_now : map process_of (slice_set kernel.processes process after) ≡ (with_server state process handler stacks).processes
   unfolding with_server with_word with_contents process_at
   processes_now =
       map_set kernel.processes process after
       ∙ (ap (λ (list : List Process). slice_set list process (process_of after)) stands.processes
-      ∙ sym (ap (λ (p : Option Process). with_registration p state.processes process (record { handler = handler; stacks = stacks })) is_found))
+      ∙ sym (ap
+      (λ (p : Option Process). with_registration p state.processes process (record { handler = handler; stacks = stacks }))
+      is_found))
 
   threads_now : (with_server state process handler stacks).threads ≡ state.threads
   unfolding with_server with_word with_contents
@@ -100,7 +109,8 @@ module _ (kernel : Kernel) (root : RootKernel) (book : Book) (memory : Physical)
   unfolding process_at
   found_at = is_found
 
-  pub registered_stands : StandsFor (record kernel { processes = slice_set kernel.processes process after }) root book' new (with_server state process handler stacks)
+  pub registered_stands : StandsFor (record kernel { processes = slice_set kernel.processes process after }) root book' new
+      (with_server state process handler stacks)
   registered_stands = record {
     placement = done.after;
     images = stands.images;

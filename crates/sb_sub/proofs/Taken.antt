@@ -30,31 +30,42 @@ use Rattle.sb_sub.specs.Taking.{CanTake}
 
 -- ---- the book
 
-free_by : (book : Book) (frame other : ℕ) (held : Kind × ℕ) → IsInBook book frame → IsFree (with_holder book frame (Some held)) other → (same : Bool) → (other == frame) ≡ same → IsFree book other × (other ≢ frame)
+free_by : (book : Book) (frame other : ℕ) (held : Kind × ℕ) → IsInBook book frame
+    → IsFree (with_holder book frame (Some held)) other → (same : Bool) → (other == frame) ≡ same
+    → IsFree book other × (other ≢ frame)
 free_by book frame other held inside free true is =
     let here : other ≡ frame = eqb-true other frame is in
-    let e = sym (get_or-set_same book (frame - 512) (Some held) None (omega arith)) ∙ (ap (λ (n : ℕ). get_or (slice_set book (frame - 512) (Some held)) (n - 512) None) (sym here) ∙ free.1) in
+    let e = sym (get_or-set_same book (frame - 512) (Some held) None (omega arith))
+    ∙ (ap (λ (n : ℕ). get_or (slice_set book (frame - 512) (Some held)) (n - 512) None) (sym here) ∙ free.1) in
     absurd (let f = e in cc)
 free_by book frame other held inside free false is =
     let apart = eqb-false other frame is in
     let few = length-set book (frame - 512) (Some held) in
-    let places : other - 512 ≢ frame - 512 = λ same. apart (omega (arith, same)) in
-    (((free.0.0, subst (λ (n : ℕ). other < 512 + n) few free.0.1), sym (get_or-set_other book (frame - 512) (other - 512) (Some held) None places) ∙ free.1), apart)
+    let places : other - 512 ≢ frame - 512 = λ same. apart (omega (arith, same)) in (
+      (
+        (free.0.0, subst (λ (n : ℕ). other < 512 + n) few free.0.1),
+        sym (get_or-set_other book (frame - 512) (other - 512) (Some held) None places) ∙ free.1,
+      ),
+      apart,
+    )
 
 -- what is free after a frame was taken was free before, and is another frame
-pub free_before : (book : Book) (frame other : ℕ) (held : Kind × ℕ) → IsInBook book frame → IsFree (with_holder book frame (Some held)) other → IsFree book other × (other ≢ frame)
+pub free_before : (book : Book) (frame other : ℕ) (held : Kind × ℕ) → IsInBook book frame
+    → IsFree (with_holder book frame (Some held)) other → IsFree book other × (other ≢ frame)
 free_before book frame other held inside free = free_by book frame other held inside free (other == frame) refl
 
 -- ---- the memories between
 
-set_word : (set : TableSet) (memory new : Physical) (at entry : ℕ) → new ≡ with_bytes memory (put_word memory.bytes (page_place set at) entry)
+set_word : (set : TableSet) (memory new : Physical) (at entry : ℕ)
+    → new ≡ with_bytes memory (put_word memory.bytes (page_place set at) entry)
     → SameOutside (table_frame set (page_table_of (region_of at)) ∷ []) memory new
 set_word set memory new at entry written =
     let place : frame_of (page_place set at) ≡ table_frame set (page_table_of (region_of at)) = omega arith in
     subst (SameOutside (table_frame set (page_table_of (region_of at)) ∷ []) memory) (sym written)
     (same_outside_word _ memory (page_place set at) entry (omega arith) (zero, lit< tt, sym place))
 
-module _ (set : TableSet) (root : RootKernel) (book : Book) (memory filled : Physical) (frame : ℕ) (can : CanTake set root book memory) (free : IsFree book frame)
+module _ (set : TableSet) (root : RootKernel) (book : Book) (memory filled : Physical) (frame : ℕ)
+    (can : CanTake set root book memory) (free : IsFree book frame)
     (same : SameOutside (frame ∷ []) memory filled) where
   pub tables_filled : HasTables set filled
   tables_filled = tables_stay set (frame ∷ []) memory filled can.tables can.stands.whole.size same (can.set_apart frame free)
@@ -62,11 +73,16 @@ module _ (set : TableSet) (root : RootKernel) (book : Book) (memory filled : Phy
   pub stands_filled : Stands root filled
   stands_filled = stands_kept root (frame ∷ []) memory filled can.stands same (can.root_apart frame free)
 
-  module _ (mapped : Physical) (at entry : ℕ) (written : mapped ≡ with_bytes filled (put_word filled.bytes (page_place set at) entry)) where
+  module _ (mapped : Physical) (at entry : ℕ)
+      (written : mapped ≡ with_bytes filled (put_word filled.bytes (page_place set at) entry)) where
     pub stands_mapped : Stands root mapped
-    stands_mapped = stands_kept root _ filled mapped stands_filled (set_word set filled mapped at entry written) (can.table_apart (page_table_of (region_of at)) (page_table_small (region_of at)))
+    stands_mapped =
+        stands_kept root _ filled mapped stands_filled (set_word set filled mapped at entry written)
+        (can.table_apart (page_table_of (region_of at)) (page_table_small (region_of at)))
 
-    module _ (new : Physical) (book' : Book) (rights : ℕ) (held : Kind × ℕ) (tables : HasTables set mapped) (exposed : new ≡ with_bytes mapped (put_word mapped.bytes (shared_place frame) (leaf_to frame rights)))
+    module _ (new : Physical) (book' : Book) (rights : ℕ) (held : Kind
+        × ℕ) (tables : HasTables set mapped)
+        (exposed : new ≡ with_bytes mapped (put_word mapped.bytes (shared_place frame) (leaf_to frame rights)))
         (stands : Stands root new) (taken : book' ≡ with_holder book frame (Some held)) where
       same_exposed : SameOutside (shared_table (frame / 512) ∷ []) mapped new
       same_exposed = base_word mapped new frame _ exposed
@@ -79,7 +95,9 @@ module _ (set : TableSet) (root : RootKernel) (book : Book) (memory filled : Phy
 
       booked_new : IsBooked root book' new
       booked_new =
-          let first = subst (λ (one : Book). IsBooked root one memory) (sym taken) (booked_beside root memory book frame (Some held) can.stands can.booked free.0.0 unused) in
+          let first =
+          subst (λ (one : Book). IsBooked root one memory) (sym taken)
+          (booked_beside root memory book frame (Some held) can.stands can.booked free.0.0 unused) in
           booked_kept root _ mapped new book' same_exposed
           (booked_kept root _ filled mapped book' (set_word set filled mapped at entry written)
           (booked_kept root _ memory filled book' same first))
@@ -90,7 +108,8 @@ module _ (set : TableSet) (root : RootKernel) (book : Book) (memory filled : Phy
       pub can_new : CanTake set root book' new
       can_new = record {
         tables = (let above = free.0.0 in let below = inside in
-            tables_stay set _ mapped new tables stands_mapped.whole.size same_exposed (can.base_apart _ (shared_in_base (frame / 512) (omega arith) (omega arith))));
+            tables_stay set _ mapped new tables stands_mapped.whole.size same_exposed
+            (can.base_apart _ (shared_in_base (frame / 512) (omega arith) (omega arith))));
         stands = stands;
         booked = booked_new;
         set_apart = λ other is. can.set_apart other (free_old other is);
@@ -100,10 +119,13 @@ module _ (set : TableSet) (root : RootKernel) (book : Book) (memory filled : Phy
       }
 
 -- a word of a page that holds no table was put
-pub can_put : (set : TableSet) (root : RootKernel) (book : Book) (memory mid : Physical) (frame at word : ℕ) → CanTake set root book memory → IsSetApart set (frame ∷ []) → IsRootApart root (frame ∷ [])
+pub can_put : (set : TableSet) (root : RootKernel) (book : Book) (memory mid : Physical) (frame at word : ℕ)
+    → CanTake set root book memory → IsSetApart set (frame ∷ []) → IsRootApart root (frame ∷ [])
     → at % 8 ≡ 0 → frame_of at ≡ frame → mid ≡ with_bytes memory (put_word memory.bytes at word) → CanTake set root book mid
 can_put set root book memory mid frame at word can set_apart root_apart aligned here written =
-    let same = subst (SameOutside (frame ∷ []) memory) (sym written) (same_outside_word (frame ∷ []) memory at word aligned (zero, lit< tt, sym here)) in
+    let same =
+    subst (SameOutside (frame ∷ []) memory) (sym written)
+    (same_outside_word (frame ∷ []) memory at word aligned (zero, lit< tt, sym here)) in
     record {
       tables = tables_stay set (frame ∷ []) memory mid can.tables can.stands.whole.size same set_apart;
       stands = stands_kept root (frame ∷ []) memory mid can.stands same root_apart;

@@ -46,7 +46,8 @@ frame_behind memory set page count = if nat_lt (page + 1) count then heap_frame 
 abbrev pub pattern_by : Physical → ℕ → Option Frame → Frame → Option Frame → Option ℕ
 pattern_by memory page before found behind =
     option_map (heap_address page (length (drop 4094 (frame_bytes memory before))))
-    (first_pattern (drop 4094 (frame_bytes memory before) ++ (frame_bytes memory (Some found) ++ take 2 (frame_bytes memory behind))))
+    (first_pattern
+    (drop 4094 (frame_bytes memory before) ++ (frame_bytes memory (Some found) ++ take 2 (frame_bytes memory behind))))
 
 abbrev pub pattern_where : Physical → ℕ → Option Frame → Option Frame → Option Frame → Option ℕ
 pattern_where memory page before None behind = None
@@ -55,15 +56,18 @@ pattern_where memory page before (Some found) behind = pattern_by memory page be
 -- the lowest address at which the pattern stands in a heap page or across its border with an executable one
 abbrev pub pattern_at : Physical → TableSet → ℕ → ℕ → Option ℕ
 pattern_at memory set page count =
-    pattern_where memory page (frame_before memory set page) (heap_frame memory set page Read) (frame_behind memory set page count)
+    pattern_where memory page (frame_before memory set page) (heap_frame memory set page Read)
+    (frame_behind memory set page count)
 
 -- Each page of a heap of so many pages is there, in a frame from 512 on.
 pub record FindsHeap (memory : Physical) (set : TableSet) (count : ℕ) : Type 0 where
   pub few : count ≤ 512
   pub small : frame_count memory < 2 ^ 32
   pub size : length memory.bytes ≡ 4096 * frame_count memory
-  pub inside : (page : ℕ) (access : Access) → page < count → IfOk (walked_in memory set (heap_at page) access) (λ at. at.0 / 4096 < frame_count memory)
-  pub above : (page : ℕ) (access : Access) → page < count → IfOk (walked_in memory set (heap_at page) access) (λ at. 512 ≤ at.0 / 4096)
+  pub inside : (page : ℕ) (access : Access) → page < count
+      → IfOk (walked_in memory set (heap_at page) access) (λ at. at.0 / 4096 < frame_count memory)
+  pub above : (page : ℕ) (access : Access) → page < count
+      → IfOk (walked_in memory set (heap_at page) access) (λ at. 512 ≤ at.0 / 4096)
   pub there : (page : ℕ) → page < count → (frame : Frame) × (heap_frame memory set page Read ≡ Some frame)
 
 -- how a heap page may be accessed in its two modes

@@ -8,7 +8,7 @@ use Rattle.sb_state.specs.declared.page.Page.{Page}
 use Rattle.sb_state.specs.declared.page.PageName.{PageName}
 use Rattle.sb_state.specs.declared.page.PageName.TheVariants.{Pool, ServerStack}
 use Rattle.sb_trace.specs.PageName.{mode_of}
-use Rattle.sb_trace.specs.Start.{named}
+use Rattle.sb_trace.specs.Start.{page_with}
 use Rattle.sb_trace.specs.State.{State, Process, find_page, process_at}
 use Rattle.sb_shows.specs.Calls.{IsNewPage, placed_with}
 use Rattle.sb_shows.specs.Placement.{Placement}
@@ -30,39 +30,52 @@ StandsShows = (kernel : Kernel) (root : RootKernel) (book : Book) (memory : Phys
 
 -- code may take frames for pages of a process of a state that is carried
 abbrev pub CarriedCanTake : Type 0
-CarriedCanTake = (placement : Placement) (root : RootKernel) (book : Book) (memory : Physical) (state : State) → Carries placement root book memory state
+CarriedCanTake = (placement : Placement) (root : RootKernel) (book : Book) (memory : Physical) (state : State)
+    → Carries placement root book memory state
     → (process : ℕ) → process < length state.processes → CanTake (placement.sets process) root book memory
 
 -- a page that was taken, filled, mapped and exposed is a page of the state, and all others stay where they were
 abbrev pub PagesCarried : Type 0
-PagesCarried = (placement : Placement) (root : RootKernel) (book : Book) (memory : Physical) (state : State) → Carries placement root book memory state
+PagesCarried = (placement : Placement) (root : RootKernel) (book : Book) (memory : Physical) (state : State)
+    → Carries placement root book memory state
     → (process : ℕ) → process < length state.processes
     → (name : PageName) (owner top : ℕ) (book' : Book) (new : Physical)
     → (takes : TakesPage (placement.sets process) root book book' memory new owner (4096 * page_number name) top)
-    → IsNewPage state.threads (length state.processes) state.pages (process ∷ []) (named name (top_bytes top)) → mode_of name false ≡ ReadWrite
-    → Carries (placed_with placement name takes.frame.0) root book' new (record state { pages = state.pages ++ named name (top_bytes top) ∷ [] })
+    → IsNewPage state.threads (length state.processes) state.pages (process ∷ []) (page_with name (top_bytes top))
+    → mode_of name false ≡ ReadWrite
+    → Carries (placed_with placement name takes.frame.0) root book' new
+    (record state { pages = state.pages ++ page_with name (top_bytes top) ∷ [] })
 
 -- the pool page is found where a state is carried
 abbrev pub CarriedFindsPool : Type 0
-CarriedFindsPool = (placement : Placement) (root : RootKernel) (book : Book) (memory : Physical) (state : State) → Carries placement root book memory state
-    → (process : ℕ) (pool : Page) → process < length state.processes → find_page state.pages (Pool process) ≡ Some pool → FindsPool memory (placement.sets process) root
+CarriedFindsPool = (placement : Placement) (root : RootKernel) (book : Book) (memory : Physical) (state : State)
+    → Carries placement root book memory state
+    → (process : ℕ) (pool : Page) → process < length state.processes → find_page state.pages (Pool process) ≡ Some pool
+    → FindsPool memory (placement.sets process) root
 
 -- what register does to bytes makes the process a server of the state, and all that was there stays where it was
 abbrev pub RegistersCarried : Type 0
-RegistersCarried = (placement : Placement) (root : RootKernel) (book : Book) (memory : Physical) (state : State) → Carries placement root book memory state
+RegistersCarried = (placement : Placement) (root : RootKernel) (book : Book) (memory : Physical) (state : State)
+    → Carries placement root book memory state
     → (process : ℕ) (pool : Page) → process < length state.processes → find_page state.pages (Pool process) ≡ Some pool
-    → (handler stacks : ℕ) (book' : Book) (new : Physical) → stacks ≤ 16 → ((page : ℕ) → find_page state.pages (ServerStack process page) ≡ None)
-    → RegistersPages (placement.sets process) root book book' memory new process stacks → Registered placement root book' new state process handler stacks
+    → (handler stacks : ℕ) (book' : Book) (new : Physical) → stacks ≤ 16
+    → ((page : ℕ) → find_page state.pages (ServerStack process page) ≡ None)
+    → RegistersPages (placement.sets process) root book book' memory new process stacks
+    → Registered placement root book' new state process handler stacks
 
 -- Register of a process that is no server keeps the pages exactly those of the state.
 abbrev pub ServersWhole : Type 0
-ServersWhole = (images : ℕ → ImagePages) (state : State) (process handler stacks : ℕ) (one : Process) → process_at state process ≡ Some one
+ServersWhole = (images : ℕ → ImagePages) (state : State) (process handler stacks : ℕ) (one : Process)
+    → process_at state process ≡ Some one
     → one.registration ≡ None → IsWhole images state → IsWhole images (with_server state process handler stacks)
 
 -- What register does to bytes, and the registration of the process: the state with the server is stood for.
 abbrev pub ServersStand : Type 0
-ServersStand = (kernel : Kernel) (root : RootKernel) (book : Book) (memory : Physical) (state : State) → StandsFor kernel root book memory state
+ServersStand = (kernel : Kernel) (root : RootKernel) (book : Book) (memory : Physical) (state : State)
+    → StandsFor kernel root book memory state
     → (process : ℕ) (entry : Entry) → slice_get kernel.processes process ≡ Some entry → entry.process.registration ≡ None
-    → (handler stacks : ℕ) (book' : Book) (new : Physical) → stacks ≤ 16 → RegistersPages entry.set root book book' memory new process stacks
+    → (handler stacks : ℕ) (book' : Book) (new : Physical) → stacks ≤ 16
+    → RegistersPages entry.set root book book' memory new process stacks
     → free_count book' + 4 * stacks ≡ free_count book
-    → StandsFor (record kernel { processes = slice_set kernel.processes process (with_entry entry handler stacks) }) root book' new (with_server state process handler stacks)
+    → StandsFor (record kernel { processes = slice_set kernel.processes process (with_entry entry handler stacks) }) root book'
+    new (with_server state process handler stacks)

@@ -8,23 +8,25 @@ use Rattle.sb_root.specs.declared.root_kernel.RootKernel.{RootKernel}
 use Rattle.sb_trace.specs.State.{State, process_at}
 use Rattle.sb_trace.specs.Home.{Outcome}
 use Rattle.sb_trace.specs.Pattern.{heap_pattern}
-use Rattle.sb_trace.specs.SyscallAnswer.{declined, accepted}
-use Rattle.sb_trace.specs.SyscallProtect.{heap_count, protected}
+use Rattle.sb_trace.specs.SyscallAnswer.{syscall_refusal, syscall_acceptance}
+use Rattle.sb_trace.specs.SyscallProtect.{heap_count, with_heap_mode}
 use Rattle.sb_sub.specs.Kernel.{Kernel}
 use Rattle.sb_sub.specs.Refusals.{page_refusal}
 use Rattle.sb_sub.specs.StandsFor.{StandsFor}
 
 -- the state after protect, but for the thread's registers
 abbrev pub after_protect : State → ℕ → ℕ → ℕ → Option (CallRefusal × ℕ) → State
-after_protect state process page mode None = protected state process page (mode == 1)
+after_protect state process page mode None = with_heap_mode state process page (mode == 1)
 after_protect state process page mode (Some refusal) = state
 
 -- protect by its refusal
 abbrev pub protect_by : State → ℕ → Regs → ℕ → ℕ → ℕ → Option (CallRefusal × ℕ) → Outcome
-protect_by state number next process page mode None = accepted (protected state process page (mode == 1)) number next
-protect_by state number next process page mode (Some refusal) = declined state number next refusal.0 refusal.1
+protect_by state number next process page mode None =
+    syscall_acceptance (with_heap_mode state process page (mode == 1)) number next
+protect_by state number next process page mode (Some refusal) = syscall_refusal state number next refusal.0 refusal.1
 
 -- what protect answers and leaves
-pub record ProtectsBy (kernel : Kernel) (root : RootKernel) (book : Book) (memory : Physical) (state : State) (process page mode : ℕ) (refusal : Option (CallRefusal × ℕ)) : Type 0 where
+pub record ProtectsBy (kernel : Kernel) (root : RootKernel) (book : Book) (memory : Physical) (state : State)
+    (process page mode : ℕ) (refusal : Option (CallRefusal × ℕ)) : Type 0 where
   pub is : refusal ≡ page_refusal (heap_count (process_at state process)) page mode (heap_pattern state process page)
   pub stands : StandsFor kernel root book memory (after_protect state process page mode refusal)

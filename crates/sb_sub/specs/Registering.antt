@@ -35,7 +35,8 @@ pub record FindsPool (memory : Physical) (set : TableSet) (root : RootKernel) : 
   pub set_apart : IsSetApart set (frame.0 ∷ [])
   pub root_apart : IsRootApart root (frame.0 ∷ [])
 
-pub record RegistersPages (set : TableSet) (root : RootKernel) (book book' : Book) (old new : Physical) (owner stacks : ℕ) : Type 0 where
+pub record RegistersPages (set : TableSet) (root : RootKernel) (book book' : Book) (old new : Physical)
+    (owner stacks : ℕ) : Type 0 where
   pub frame : Frame
   pub found : pool_found old set ≡ Some frame
   pub mid : Physical
@@ -43,7 +44,8 @@ pub record RegistersPages (set : TableSet) (root : RootKernel) (book book' : Boo
   pub stacks_taken : TakesStacks set root book book' mid new owner (4 * stacks)
 
 -- what is carried after register: the state with the server, and each page and table where it was
-pub record Registered (placement : Placement) (root : RootKernel) (book : Book) (memory : Physical) (state : State) (process handler stacks : ℕ) : Type 0 where
+pub record Registered (placement : Placement) (root : RootKernel) (book : Book) (memory : Physical) (state : State)
+    (process handler stacks : ℕ) : Type 0 where
   pub after : Placement
   pub carries : Carries after root book memory (with_server state process handler stacks)
   pub stays : StaysPlaced placement after state

@@ -1,7 +1,7 @@
 -- What a system call answers and leaves, beside the outcome of the definitions.
 use Rattle.std.specs.Prelude.{ℕ, ◌≡◌, ◌≢◌, ◌==◌, if◌then◌else◌}
 use Rattle.sb_insn.specs.declared.registers.Regs.{Regs}
-use Rattle.sb_calls.specs.SyscallRegisters.{after_syscall, faulted_home}
+use Rattle.sb_calls.specs.SyscallRegisters.{after_syscall, server_fault_regs}
 use Rattle.sb_memory.specs.Physical.{Physical}
 use Rattle.sb_frames.specs.Book.{Book}
 use Rattle.sb_root.specs.declared.root_kernel.RootKernel.{RootKernel}
@@ -34,7 +34,8 @@ IsRefused (Back number answer) = answer ≢ 0
 IsRefused _ = ⊥
 
 -- The line is the outcome's, the thread's registers are those of the state after it, and that state is what is stood for.
-pub record Serves (kernel : Kernel) (root : RootKernel) (book : Book) (memory : Physical) (thread : ℕ) (answer : Answer) (regs : Regs) (outcome : Outcome) : Type 0 where
+pub record Serves (kernel : Kernel) (root : RootKernel) (book : Book) (memory : Physical) (thread : ℕ) (answer : Answer)
+    (regs : Regs) (outcome : Outcome) : Type 0 where
   pub line : line_of answer ≡ outcome.0
   pub registers : regs ≡ (thread_at outcome.1 thread).regs
   pub stands : StandsFor kernel root book memory outcome.1
@@ -52,4 +53,4 @@ abbrev pub exit_answer : ℕ → ℕ → Answer
 exit_answer view status = if view == 0 then Ended status else GoHome status
 
 abbrev pub exit_regs : ℕ → Regs → Regs
-exit_regs view regs = if view == 0 then entered regs else faulted_home
+exit_regs view regs = if view == 0 then entered regs else server_fault_regs

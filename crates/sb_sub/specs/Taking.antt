@@ -34,7 +34,8 @@ pub record CanTake (set : TableSet) (root : RootKernel) (book : Book) (memory : 
   pub table_apart : (table : ℕ) → table < 12 → IsRootApart root (table_frame set table ∷ [])
 
 -- a writable page of zeros, and a word at its top, was added at an address
-pub record TakesPage (set : TableSet) (root : RootKernel) (book book' : Book) (old new : Physical) (owner at top : ℕ) : Type 0 where
+pub record TakesPage (set : TableSet) (root : RootKernel) (book book' : Book) (old new : Physical)
+    (owner at top : ℕ) : Type 0 where
   pub frame : Frame
   pub free : IsFree book frame.0
   pub taken : book' ≡ with_holder book frame.0 (Some (Writable, owner))

@@ -5,7 +5,7 @@ use Rattle.sb_state.specs.declared.page.PageName.TheVariants.{Text, Area, Data, 
 use Rattle.sb_state.specs.declared.state.Registration.{Registration}
 use Rattle.sb_state.specs.declared.state.Thread.{Thread}
 use Rattle.sb_trace.specs.State.{State, Process, registration_of}
-use Rattle.sb_trace.specs.Windows.{shown}
+use Rattle.sb_trace.specs.Windows.{process_shown}
 use Rattle.sb_trace.specs.SyscallProtect.{heap_count}
 use Rattle.sb_shows.specs.Placement.{IsThere}
 
@@ -21,7 +21,7 @@ stacks_in (Some registration) = registration.stacks
 
 -- a view of a thread, of these threads
 abbrev pub HasView : List Thread → ℕ → ℕ → Type 0
-HasView threads thread view = (process : ℕ) × (shown threads thread view ≡ Some process)
+HasView threads thread view = (process : ℕ) × (process_shown threads thread view ≡ Some process)
 
 -- a page of this name belongs to a state with these processes and threads
 unfoldable pub Belongs : (ℕ → ImagePages) → List Process → List Thread → PageName → Type 0

@@ -5,7 +5,7 @@ ghost use Rattle.sb_memory.specs.Physical.{frame_count};
 ghost use Rattle.sb_memory.specs.declared.address.Frame.{Frame};
 ghost use Rattle.sb_memory.specs.declared.address.Access.TheVariants.{Read};
 ghost use Rattle.sb_pagewalk.specs.TableSet.{walked_in};
-ghost use Rattle.sb_sub.specs.Heap.{FindsHeap, frame_before as frame_in_front, frame_behind as frame_after, frame_bytes as bytes_of_frame, heap_at, heap_frame as frame_by_walk, pattern_at, pattern_by};
+ghost use Rattle.sb_sub.specs.Heap.{FindsHeap, frame_before, frame_behind, frame_bytes, heap_at, heap_frame, pattern_at, pattern_by};
 
 use sb_abi::HEAP_ADDRESS;
 use sb_memory::{Access, Frame, Linear, Memory};
@@ -27,7 +27,7 @@ pub fn heap_frame(memory: &mut Memory, set: &TableSet, page: u32, access: Access
     requires small { frame_count memory.old < 2 ^ 32 }
     requires inside { IfOk (walked_in memory.old set.now (heap_at page) access) (λ at. at.0 / 4096 < frame_count memory.old) }
     ensures same { memory.new ≡ memory.old }
-    ensures frame { result ≡ frame_by_walk memory.old set.now page access }
+    ensures frame { result ≡ heap_frame memory.old set.now page access }
 {
     let root = 4096 * u64::from(set.root.0);
     match walk(&mut Direct::new(memory), root, heap_address(page), access) {
@@ -39,7 +39,7 @@ pub fn heap_frame(memory: &mut Memory, set: &TableSet, page: u32, access: Access
 /// The bytes of a frame; none of no frame.
 fn frame_bytes(memory: &Memory, frame: Option<Frame>) -> &[u8]
     requires { IfSome frame (λ frame. 4096 * frame.0 + 4096 ≤ length memory.now.bytes) }
-    ensures bytes { result.now ≡ bytes_of_frame memory.now frame }
+    ensures bytes { result.now ≡ frame_bytes memory.now frame }
     ensures size { length result.now ≤ 4096 }
     ensures full { IfSome frame (λ _. 2 ≤ length result.now) }
 {
@@ -75,7 +75,7 @@ fn frame_before(memory: &mut Memory, set: &TableSet, page: u32, count: u32) -> O
     requires finds { FindsHeap memory.old set.now count }
     requires page { page < count }
     ensures same { memory.new ≡ memory.old }
-    ensures frame { result ≡ frame_in_front memory.old set.now page }
+    ensures frame { result ≡ frame_before memory.old set.now page }
     ensures inside { IfSome result (λ frame. frame.0 < frame_count memory.old) }
 {
     if page == 0 {
@@ -89,7 +89,7 @@ fn frame_behind(memory: &mut Memory, set: &TableSet, page: u32, count: u32) -> O
     requires finds { FindsHeap memory.old set.now count }
     requires page { page < count }
     ensures same { memory.new ≡ memory.old }
-    ensures frame { result ≡ frame_after memory.old set.now page count }
+    ensures frame { result ≡ frame_behind memory.old set.now page count }
     ensures inside { IfSome result (λ frame. frame.0 < frame_count memory.old) }
 {
     let next = page + 1;
@@ -105,7 +105,7 @@ pub fn page_frame(memory: &mut Memory, set: &TableSet, page: u32, count: u32) ->
     requires finds { FindsHeap memory.old set.now count }
     requires page { page < count }
     ensures same { memory.new ≡ memory.old }
-    ensures frame { frame_by_walk memory.old set.now page Read ≡ Some result }
+    ensures frame { heap_frame memory.old set.now page Read ≡ Some result }
     ensures inside { result.0 < frame_count memory.old }
     ensures above { 512 ≤ result.0 }
 {

@@ -7,7 +7,7 @@ ghost use Rattle.sb_pagewalk.specs.TableSet.{table_frame};
 ghost use Rattle.sb_root.specs.Standing.{IsApart, Stands};
 ghost use Rattle.sb_shows.specs.Placement.{leaf_for, rights_for};
 ghost use Rattle.sb_sub.specs.Heap.{FindsHeap, SetsMode, heap_mode, pattern_at};
-ghost use Rattle.sb_sub.specs.Refusals.{pattern_refusal as refused_pattern, page_refusal};
+ghost use Rattle.sb_sub.specs.Refusals.{pattern_refusal, page_refusal};
 
 use crate::heap::{heap_address, heap_pattern, page_frame};
 use crate::process::Process;
@@ -55,7 +55,7 @@ fn pattern_refusal(process: &Process, memory: &mut Memory, page: u32) -> Option<
     requires finds { FindsHeap memory.old process.now.set process.now.process.heap_pages }
     requires page { page < process.now.process.heap_pages }
     ensures same { memory.new ≡ memory.old }
-    ensures refusal { result ≡ refused_pattern (pattern_at memory.old process.now.set page process.now.process.heap_pages) }
+    ensures refusal { result ≡ pattern_refusal (pattern_at memory.old process.now.set page process.now.process.heap_pages) }
 {
     let address = heap_pattern(memory, &process.set, page, process.heap_pages)?;
     Some((CallRefusal::Pattern, address))

@@ -3,8 +3,8 @@
 ghost use Rattle.std.specs.Prelude.{◌≡◌, ◌≢◌, ◌<◌, IfSome, Some, length, nat_lt, slice_get};
 ghost use Rattle.sb_trace.specs.State.{State};
 ghost use Rattle.sb_trace.specs.Registers.{rax, rdi};
-ghost use Rattle.sb_trace.specs.Windows.{server_of as server_from};
-ghost use Rattle.sb_trace.specs.Syscall.{called};
+ghost use Rattle.sb_trace.specs.Windows.{server_of};
+ghost use Rattle.sb_trace.specs.Syscall.{syscall_outcome};
 ghost use Rattle.sb_frames.specs.Book.{Book};
 ghost use Rattle.sb_sub.specs.Kernel.{shown_in};
 ghost use Rattle.sb_sub.specs.StandsFor.{StandsFor};
@@ -17,7 +17,7 @@ use crate::process::Process;
 use crate::protect::protect;
 use crate::registers::{entered, go_on};
 use sb_abi::CallRefusal;
-use sb_calls::faulted_home;
+use sb_calls::server_fault_regs;
 use sb_frames::FrameBook;
 use sb_insn::Regs;
 use sb_insn::registers::{RAX, RDI, RSI};
@@ -60,7 +60,7 @@ impl Model for SubKernel {
 
 /// The server of the binding with this index.
 fn server_of(bindings: &[Binding], index: u16) -> Option<u32>
-    ensures { result ≡ server_from bindings.now index }
+    ensures { result ≡ server_of bindings.now index }
 {
     let (first, others) = bindings.split_first()?;
     if first.index == index {
@@ -80,7 +80,7 @@ fn exit(view: u16, regs: &mut Regs) -> Answer
         *regs = entered(regs);
         return Answer::Ended(status);
     }
-    *regs = faulted_home();
+    *regs = server_fault_regs();
     Answer::GoHome(status)
 }
 
@@ -157,7 +157,7 @@ impl SubKernel {
         requires stands { (state : State) × StandsFor self.old root.old book.old memory.old state }
         requires thread { thread < length self.old.seats }
         requires built { (rax regs.old ≢ 2) × (rax regs.old ≢ 3) }
-        ensures served { ServesBy called self.old root.old book.old memory.old self.new root.new book.new memory.new thread view result regs.old regs.new }
+        ensures served { ServesBy syscall_outcome self.old root.old book.old memory.old self.new root.new book.new memory.new thread view result regs.old regs.new }
         ensures refused { IsRefused result → (self.new ≡ self.old) × (root.new ≡ root.old) × (book.new ≡ book.old) × (memory.new ≡ memory.old) }
         ensures tables { rax regs.old ≢ 4 → memory.new ≡ memory.old }
     {

@@ -11,9 +11,8 @@ ghost use Rattle.sb_sub.specs.Carries.{TakesStacks, stack_at, stack_top};
 ghost use Rattle.sb_sub.specs.Taking.{CanTake, TakesPage, top_bytes};
 
 use sb_abi::{EXIT_STUB, SERVER_STACKS_ADDRESS, TOP_WORD};
-use sb_memory::PAGE_SIZE;
 use sb_frames::{FrameBook, Kind};
-use sb_memory::{Frame, Linear, Memory, PhysAddr};
+use sb_memory::{Frame, Linear, Memory, PAGE_SIZE, PhysAddr};
 use sb_pagewalk::TableSet;
 use sb_root::RootKernel;
 

@@ -12,8 +12,8 @@ use Rattle.sb_state.specs.declared.page.Mode.TheVariants as mode
 use Rattle.sb_state.specs.declared.page.Page.{Page}
 use Rattle.sb_state.specs.declared.page.Seen.{Seen}
 use Rattle.sb_state.specs.PageName.{same_name, mode_of, permits}
-use Rattle.sb_state.specs.State.{State, find_page, replaced, bytes_of, contents}
-use Rattle.sb_state.specs.Windows.{page_seen, seen, seen_as, name_at, shown}
+use Rattle.sb_state.specs.State.{State, find_page, with_page_bytes, bytes_of, contents}
+use Rattle.sb_state.specs.Windows.{page_for, page_by_name, page_and_mode, name_at, process_shown}
 use Rattle.sb_trace.specs.Code.{fetched_byte, code_byte, HasNoCodePattern}
 use Rattle.sb_trace.specs.Sound.{HasPage, ArePagesSound}
 use Rattle.sb_trace.specs.Changes.{IsClosed, Shape, shape_of, WritesOpen, with_first_word}
@@ -27,14 +27,17 @@ use Rattle.sb_state.proofs.Pages.{with_bytes, found_other, found_same, either, f
 abbrev pub SameCode : List Page → List Page → (ℕ → PageName) → Type 0
 SameCode old new name = (place : ℕ) → code_byte new name place ≡ code_byte old name place
 
-pub no_pattern_kept : (old new : List Page) (name : ℕ → PageName) → SameCode old new name → HasNoCodePattern (code_byte old name) → HasNoCodePattern (code_byte new name)
+pub no_pattern_kept : (old new : List Page) (name : ℕ → PageName) → SameCode old new name
+    → HasNoCodePattern (code_byte old name) → HasNoCodePattern (code_byte new name)
 no_pattern_kept old new name same none place stands =
     none place (sym (same place) ∙ stands.0, sym (same (place + 1)) ∙ stands.1, sym (same (place + 2)) ∙ stands.2)
 
 -- where the pages themselves are found as before
-pub code_where_found : (old new : List Page) (name : ℕ → PageName) → ((page : ℕ) → find_page new (name page) ≡ find_page old (name page)) → SameCode old new name
+pub code_where_found : (old new : List Page) (name : ℕ → PageName)
+    → ((page : ℕ) → find_page new (name page) ≡ find_page old (name page)) → SameCode old new name
 unfolding code_byte
-code_where_found old new name same place = ap (λ found. fetched_byte (name (place / 4096)) found (place % 4096)) (same (place / 4096))
+code_where_found old new name same place =
+    ap (λ found. fetched_byte (name (place / 4096)) found (place % 4096)) (same (place / 4096))
 
 -- ---- pages that an instruction writes
 
@@ -44,12 +47,12 @@ fetch_or_write mode.Fetch is = refl
 fetch_or_write mode.Read is = refl
 fetch_or_write mode.ReadWrite is = absurd cc
 
-seen_there : (name : PageName) (found : Option Page) (one : Seen) → option_map (seen_as name) found ≡ Some one
-    → (page : Page) × (found ≡ Some page) × (seen_as name page ≡ one)
+seen_there : (name : PageName) (found : Option Page) (one : Seen) → option_map (page_and_mode name) found ≡ Some one
+    → (page : Page) × (found ≡ Some page) × (page_and_mode name page ≡ one)
 seen_there name None one is = absurd cc
 seen_there name (Some page) one is = (page, refl, cc)
 
-seen_named : (pages : List Page) (name : Option PageName) (one : Seen) → option_and_then (seen pages) name ≡ Some one
+seen_named : (pages : List Page) (name : Option PageName) (one : Seen) → option_and_then (page_by_name pages) name ≡ Some one
     → (page : Page) × (find_page pages one.name ≡ Some page) × (one.mode ≡ mode_of one.name page.executable)
 seen_named pages None one is = absurd cc
 seen_named pages (Some name) one is =
@@ -60,30 +63,37 @@ seen_named pages (Some name) one is =
     )
 
 -- a page that is seen is found by its name
-pub seen_found : (state : State) (thread view page : ℕ) (one : Seen) → page_seen state thread view page ≡ Some one
+pub seen_found : (state : State) (thread view page : ℕ) (one : Seen) → page_for state thread view page ≡ Some one
     → (found : Page) × (find_page state.pages one.name ≡ Some found) × (one.mode ≡ mode_of one.name found.executable)
-unfolding page_seen
+unfolding page_for
 seen_found state thread view page one is =
-    seen_named state.pages (option_and_then (name_at state.threads thread view page) (shown state.threads thread view)) one is
+    seen_named state.pages (option_and_then (name_at state.threads thread view page) (process_shown state.threads thread view))
+    one is
 
 -- a page that may be fetched is closed to every thread in every view
 code_closed : (state : State) (thread view : ℕ) (name : PageName) (page : Page) → find_page state.pages name ≡ Some page
     → permits (mode_of name page.executable) Fetch ≡ true → IsClosed state thread view name
 code_closed state thread view name page there fetched number one is writes named =
     let found = seen_found state thread view number one is in
-    let same : found.0 ≡ page = same_found found.0 page (find_page state.pages name) (subst (λ n. find_page state.pages n ≡ Some found.0) named found.1) there in
+    let same : found.0 ≡ page =
+    same_found found.0 page (find_page state.pages name)
+    (subst (λ n. find_page state.pages n ≡ Some found.0) named found.1) there in
     let mode : one.mode ≡ mode_of name page.executable =
     found.2 ∙ ap (λ n. mode_of n found.0.executable) named ∙ ap (λ (p : Page). mode_of name p.executable) same in
-    clash (permits one.mode Write) writes (ap (λ how. permits how Write) mode ∙ fetch_or_write (mode_of name page.executable) fetched)
+    clash (permits one.mode Write) writes (ap (λ how. permits how Write) mode
+    ∙ fetch_or_write (mode_of name page.executable) fetched)
 
-same_fetched : (test : Bool) (name : PageName) (page page' : Page) (offset : ℕ) → permits (mode_of name page.executable) Fetch ≡ test → page'.executable ≡ page.executable
+same_fetched : (test : Bool) (name : PageName) (page page' : Page) (offset : ℕ)
+    → permits (mode_of name page.executable) Fetch ≡ test → page'.executable ≡ page.executable
     → (test ≡ true → Some page' ≡ Some page) → fetched_byte name (Some page') offset ≡ fetched_byte name (Some page) offset
 same_fetched true name page page' offset is mode closed = ap (λ found. fetched_byte name found offset) (closed refl)
 same_fetched false name page page' offset is mode closed =
-    let other : permits (mode_of name page'.executable) Fetch ≡ false = ap (λ executable. permits (mode_of name executable) Fetch) mode ∙ is in
+    let other : permits (mode_of name page'.executable) Fetch ≡ false =
+    ap (λ executable. permits (mode_of name executable) Fetch) mode ∙ is in
     rw (is, other) refl
 
-written_byte : (name : PageName) (found found' : Option Page) (offset : ℕ) → option_map shape_of found' ≡ option_map shape_of found
+written_byte : (name : PageName) (found found' : Option Page) (offset : ℕ)
+    → option_map shape_of found' ≡ option_map shape_of found
     → ((page : Page) → found ≡ Some page → permits (mode_of name page.executable) Fetch ≡ true → found' ≡ found)
     → fetched_byte name found' offset ≡ fetched_byte name found offset
 written_byte name None None offset shapes closed = refl
@@ -91,16 +101,20 @@ written_byte name (Some page) None offset shapes closed = absurd cc
 written_byte name None (Some page') offset shapes closed = absurd cc
 written_byte name (Some page) (Some page') offset shapes closed =
     let same : shape_of page' ≡ shape_of page = cc in
-    same_fetched (permits (mode_of name page.executable) Fetch) name page page' offset refl (ap (λ (shape : Shape). shape.executable) same) (closed page refl)
+    same_fetched (permits (mode_of name page.executable) Fetch) name page page' offset refl
+    (ap (λ (shape : Shape). shape.executable) same) (closed page refl)
 
-written_code : (old : State) (thread view : ℕ) (new : State) (name : ℕ → PageName) → WritesOpen old thread view new → SameCode old.pages new.pages name
+written_code : (old : State) (thread view : ℕ) (new : State) (name : ℕ → PageName) → WritesOpen old thread view new
+    → SameCode old.pages new.pages name
 unfolding code_byte
 written_code old thread view new name writes place =
-    written_byte (name (place / 4096)) (find_page old.pages (name (place / 4096))) (find_page new.pages (name (place / 4096))) (place % 4096)
+    written_byte (name (place / 4096)) (find_page old.pages (name (place / 4096))) (find_page new.pages (name (place / 4096)))
+    (place % 4096)
     (writes.shapes (name (place / 4096)))
     (λ page is fetched. writes.closed (name (place / 4096)) (code_closed old thread view (name (place / 4096)) page is fetched))
 
-same_shape : (found found' : Option Page) (page' : Page) → option_map shape_of found' ≡ option_map shape_of found → found' ≡ Some page'
+same_shape : (found found' : Option Page) (page' : Page) → option_map shape_of found' ≡ option_map shape_of found
+    → found' ≡ Some page'
     → (page : Page) × (found ≡ Some page) × (shape_of page' ≡ shape_of page)
 same_shape None None page' shapes is = absurd cc
 same_shape (Some page) None page' shapes is = absurd cc
@@ -111,11 +125,13 @@ same_shape (Some page) (Some other) page' shapes is =
     (page, refl, subst (λ (p : Page). shape_of p ≡ shape_of page) here same)
 
 written_page : (old : State) (thread view : ℕ) (new : State) (name : PageName) (bytes : List ℕ) → WritesOpen old thread view new
-    → ((executable : Bool) → permits (mode_of name executable) Fetch ≡ true) → HasPage old.pages name bytes → HasPage new.pages name bytes
+    → ((executable : Bool) → permits (mode_of name executable) Fetch ≡ true) → HasPage old.pages name bytes
+    → HasPage new.pages name bytes
 written_page old thread view new name bytes writes fetched (page, there, has) =
     (page, writes.closed name (code_closed old thread view name page there (fetched page.executable)) ∙ there, has)
 
-pub written_sound : (old : State) (thread view : ℕ) (new : State) → WritesOpen old thread view new → ArePagesSound old.pages → ArePagesSound new.pages
+pub written_sound : (old : State) (thread view : ℕ) (new : State) → WritesOpen old thread view new → ArePagesSound old.pages
+    → ArePagesSound new.pages
 unfolding mode_of
 written_sound old thread view new writes sound = record {
   sizes = λ name page' is.
@@ -123,36 +139,45 @@ written_sound old thread view new writes sound = record {
       ap (λ (shape : Shape). shape.size) before.2 ∙ sound.sizes name before.0 before.1;
   home = written_page old thread view new HomeTrampoline _ writes (λ executable. refl) sound.home;
   server = written_page old thread view new ServerTrampoline _ writes (λ executable. refl) sound.server;
-  text = λ process. no_pattern_kept old.pages new.pages (Text process) (written_code old thread view new (Text process) writes) (sound.text process);
-  area = λ process. no_pattern_kept old.pages new.pages (Area process) (written_code old thread view new (Area process) writes) (sound.area process);
-  heap = λ process. no_pattern_kept old.pages new.pages (Heap process) (written_code old thread view new (Heap process) writes) (sound.heap process);
+  text = λ process. no_pattern_kept old.pages new.pages (Text process) (written_code old thread view new (Text process) writes)
+      (sound.text process);
+  area = λ process. no_pattern_kept old.pages new.pages (Area process) (written_code old thread view new (Area process) writes)
+      (sound.area process);
+  heap = λ process. no_pattern_kept old.pages new.pages (Heap process) (written_code old thread view new (Heap process) writes)
+      (sound.heap process);
 }
 
 -- ---- a pool word
 
 -- the bytes of a page are replaced by as many
-sized : (found : Option Page) (page' : Page) (bytes : List ℕ) → length bytes ≡ length (bytes_of found) → option_map (with_bytes bytes) found ≡ Some page'
+sized : (found : Option Page) (page' : Page) (bytes : List ℕ) → length bytes ≡ length (bytes_of found)
+    → option_map (with_bytes bytes) found ≡ Some page'
     → (page : Page) × (found ≡ Some page) × (length page'.bytes ≡ length page.bytes)
 sized None page' bytes same is = absurd cc
 sized (Some page) page' bytes same is =
     let here : with_bytes bytes page ≡ page' = cc in
     (page, refl, subst (λ (p : Page). length p.bytes ≡ length page.bytes) here same)
 
-replaced_size : (test : Bool) (pages : List Page) (name other : PageName) (bytes : List ℕ) (page' : Page) → same_name name other ≡ test
-    → length bytes ≡ length (bytes_of (find_page pages name)) → find_page (replaced pages name bytes) other ≡ Some page'
+replaced_size : (test : Bool) (pages : List Page) (name other : PageName) (bytes : List ℕ) (page' : Page)
+    → same_name name other ≡ test
+    → length bytes ≡ length (bytes_of (find_page pages name)) → find_page (with_page_bytes pages name bytes) other ≡ Some page'
     → (page : Page) × (find_page pages other ≡ Some page) × (length page'.bytes ≡ length page.bytes)
 replaced_size true pages name other bytes page' is same found =
     let one : name ≡ other = name_same name other is in
     subst (λ (n : PageName). (page : Page) × (find_page pages n ≡ Some page) × (length page'.bytes ≡ length page.bytes)) one
     (sized (find_page pages name) page' bytes same
-    (sym (found_same pages name bytes) ∙ subst (λ (n : PageName). find_page (replaced pages name bytes) n ≡ Some page') (sym one) found))
-replaced_size false pages name other bytes page' is same found = (page', sym (found_other pages name other bytes is) ∙ found, refl)
+    (sym (found_same pages name bytes)
+    ∙ subst (λ (n : PageName). find_page (with_page_bytes pages name bytes) n ≡ Some page') (sym one) found))
+replaced_size false pages name other bytes page' is same found =
+    (page', sym (found_other pages name other bytes is) ∙ found, refl)
 
-replaced_page : (pages : List Page) (name other : PageName) (bytes held : List ℕ) → same_name name other ≡ false → HasPage pages other held
-    → HasPage (replaced pages name bytes) other held
+replaced_page : (pages : List Page) (name other : PageName) (bytes held : List ℕ) → same_name name other ≡ false
+    → HasPage pages other held
+    → HasPage (with_page_bytes pages name bytes) other held
 replaced_page pages name other bytes held apart (page, there, has) = (page, found_other pages name other bytes apart ∙ there, has)
 
-pub pool_sound : (state : State) (process word : ℕ) → ArePagesSound state.pages → ArePagesSound (with_first_word state (Pool process) word)
+pub pool_sound : (state : State) (process word : ℕ) → ArePagesSound state.pages
+    → ArePagesSound (with_first_word state (Pool process) word)
 unfolding same_name contents
 pool_sound state process word sound =
     let bytes = put_word (bytes_of (find_page state.pages (Pool process))) 0 word in
@@ -163,14 +188,17 @@ pool_sound state process word sound =
           before.2 ∙ sound.sizes name before.0 before.1;
       home = replaced_page state.pages (Pool process) HomeTrampoline bytes _ refl sound.home;
       server = replaced_page state.pages (Pool process) ServerTrampoline bytes _ refl sound.server;
-      text = λ other. no_pattern_kept state.pages (replaced state.pages (Pool process) bytes) (Text other)
-          (code_where_found state.pages (replaced state.pages (Pool process) bytes) (Text other) (λ page. found_other state.pages (Pool process) (Text other page) bytes refl))
+      text = λ other. no_pattern_kept state.pages (with_page_bytes state.pages (Pool process) bytes) (Text other)
+          (code_where_found state.pages (with_page_bytes state.pages (Pool process) bytes) (Text other)
+          (λ page. found_other state.pages (Pool process) (Text other page) bytes refl))
           (sound.text other);
-      area = λ other. no_pattern_kept state.pages (replaced state.pages (Pool process) bytes) (Area other)
-          (code_where_found state.pages (replaced state.pages (Pool process) bytes) (Area other) (λ page. found_other state.pages (Pool process) (Area other page) bytes refl))
+      area = λ other. no_pattern_kept state.pages (with_page_bytes state.pages (Pool process) bytes) (Area other)
+          (code_where_found state.pages (with_page_bytes state.pages (Pool process) bytes) (Area other)
+          (λ page. found_other state.pages (Pool process) (Area other page) bytes refl))
           (sound.area other);
-      heap = λ other. no_pattern_kept state.pages (replaced state.pages (Pool process) bytes) (Heap other)
-          (code_where_found state.pages (replaced state.pages (Pool process) bytes) (Heap other) (λ page. found_other state.pages (Pool process) (Heap other page) bytes refl))
+      heap = λ other. no_pattern_kept state.pages (with_page_bytes state.pages (Pool process) bytes) (Heap other)
+          (code_where_found state.pages (with_page_bytes state.pages (Pool process) bytes) (Heap other)
+          (λ page. found_other state.pages (Pool process) (Heap other page) bytes refl))
           (sound.heap other);
     }
 
@@ -181,16 +209,19 @@ abbrev pub EachPage : (Page → Type 0) → List Page → Type 0
 EachPage Claim [] = Unit {0}
 EachPage Claim (page ∷ pages) = Claim page × EachPage Claim pages
 
-found_by : (Claim : Page → Type 0) (test : Bool) (first page : Page) (found : Option Page) → Claim first → (found ≡ Some page → Claim page)
+found_by : (Claim : Page → Type 0) (test : Bool) (first page : Page) (found : Option Page) → Claim first
+    → (found ≡ Some page → Claim page)
     → (if test then Some first else found) ≡ Some page → Claim page
 found_by Claim true first page found one more is = let same : first ≡ page = cc in subst Claim same one
 found_by Claim false first page found one more is = more is
 
 -- what is said of each page is said of the one that is found
-pub found_each : (Claim : Page → Type 0) (pages : List Page) (name : PageName) (page : Page) → EachPage Claim pages → find_page pages name ≡ Some page → Claim page
+pub found_each : (Claim : Page → Type 0) (pages : List Page) (name : PageName) (page : Page) → EachPage Claim pages
+    → find_page pages name ≡ Some page → Claim page
 found_each Claim [] name page each is = absurd cc
 found_each Claim (first ∷ pages) name page each is =
-    found_by Claim (same_name first.name name) first page (find_page pages name) each.0 (found_each Claim pages name page each.1) is
+    found_by Claim (same_name first.name name) first page (find_page pages name) each.0
+    (found_each Claim pages name page each.1) is
 
 -- a name of no code
 abbrev pub IsData : PageName → Type 0
@@ -213,17 +244,22 @@ or_none : (found : Option Page) → either found None ≡ found
 or_none None = refl
 or_none (Some page) = refl
 
-code_added : (pages new : List Page) (name : PageName) → EachPage IsDataPage new → (IsData name → ⊥) → find_page (pages ++ new) name ≡ find_page pages name
+code_added : (pages new : List Page) (name : PageName) → EachPage IsDataPage new → (IsData name → ⊥)
+    → find_page (pages ++ new) name ≡ find_page pages name
 code_added pages new name each code =
-    found_added pages new name ∙ ap (λ found. either (find_page pages name) found) (none_of_code new name each code) ∙ or_none (find_page pages name)
+    found_added pages new name ∙ ap (λ found. either (find_page pages name) found) (none_of_code new name each code)
+    ∙ or_none (find_page pages name)
 
-either_size : (found new : Option Page) (page : Page) → ((one : Page) → found ≡ Some one → length one.bytes ≡ 4096) → ((one : Page) → new ≡ Some one → length one.bytes ≡ 4096)
+either_size : (found new : Option Page) (page : Page) → ((one : Page) → found ≡ Some one → length one.bytes ≡ 4096)
+    → ((one : Page) → new ≡ Some one → length one.bytes ≡ 4096)
     → either found new ≡ Some page → length page.bytes ≡ 4096
 either_size None new page old added is = added page is
 either_size (Some one) new page old added is = old page is
 
-added_page : (pages new : List Page) (name : PageName) (bytes : List ℕ) → HasPage pages name bytes → HasPage (pages ++ new) name bytes
-added_page pages new name bytes (page, there, has) = (page, found_added pages new name ∙ ap (λ found. either found (find_page new name)) there, has)
+added_page : (pages new : List Page) (name : PageName) (bytes : List ℕ) → HasPage pages name bytes
+    → HasPage (pages ++ new) name bytes
+added_page pages new name bytes (page, there, has) =
+    (page, found_added pages new name ∙ ap (λ found. either found (find_page new name)) there, has)
 
 pub added_sound : (pages new : List Page) → EachPage IsDataPage new → ArePagesSound pages → ArePagesSound (pages ++ new)
 added_sound pages new each sound = record {
@@ -233,9 +269,12 @@ added_sound pages new each sound = record {
   home = added_page pages new HomeTrampoline _ sound.home;
   server = added_page pages new ServerTrampoline _ sound.server;
   text = λ process. no_pattern_kept pages (pages ++ new) (Text process)
-      (code_where_found pages (pages ++ new) (Text process) (λ page. code_added pages new (Text process page) each (λ data'. data'))) (sound.text process);
+      (code_where_found pages (pages ++ new) (Text process)
+      (λ page. code_added pages new (Text process page) each (λ data'. data'))) (sound.text process);
   area = λ process. no_pattern_kept pages (pages ++ new) (Area process)
-      (code_where_found pages (pages ++ new) (Area process) (λ page. code_added pages new (Area process page) each (λ data'. data'))) (sound.area process);
+      (code_where_found pages (pages ++ new) (Area process)
+      (λ page. code_added pages new (Area process page) each (λ data'. data'))) (sound.area process);
   heap = λ process. no_pattern_kept pages (pages ++ new) (Heap process)
-      (code_where_found pages (pages ++ new) (Heap process) (λ page. code_added pages new (Heap process page) each (λ data'. data'))) (sound.heap process);
+      (code_where_found pages (pages ++ new) (Heap process)
+      (λ page. code_added pages new (Heap process page) each (λ data'. data'))) (sound.heap process);
 }

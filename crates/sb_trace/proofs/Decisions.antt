@@ -13,8 +13,8 @@ use Rattle.sb_state.specs.declared.state.Thread.{Thread}
 use Rattle.sb_state.specs.State.{State, thread_at, flight_at}
 use Rattle.sb_state.specs.Registers.{eax, ecx, rsi}
 use Rattle.sb_trace.specs.Home.{Outcome}
-use Rattle.sb_trace.specs.KernelCall.{binding_in, pool_word, called_through, switched_by, kernel_call, lowest_bit}
-use Rattle.sb_trace.specs.Flight.{flight_binding, is_key, bound_pool, decided_at, landed, flown}
+use Rattle.sb_trace.specs.KernelCall.{binding_in, pool_word, call_outcome, outcome_by_index, kernel_call, lowest_bit}
+use Rattle.sb_trace.specs.Flight.{flight_binding, is_key, bound_pool, decided_at, phase_outcome, landing_step}
 use Rattle.sb_trace.specs.Step.{GoesOn, StepsBy}
 use Rattle.sb_trace.specs.Sound.{StandsAtSwitch, IsUndecided, IsDecidedSound, IsFlightSound}
 use Rattle.sb_trace.specs.Laws.{IsLineOf, IsFlightLine, FlightLines, decision_at}
@@ -40,31 +40,38 @@ Sees decision.Entered fits word = (fits ≡ true) × (word ≢ 0)
 
 bound_line : (state : State) (core index : ℕ) (binding : Binding) (decided : Decision) → binding.index ≡ index
     → Sees decided (rsi (thread_at state core).regs == binding.key) (pool_word state binding.server)
-    → HasLine decided index (called_through state core (thread_at state core) index (Some binding))
+    → HasLine decided index (call_outcome state core (thread_at state core) index (Some binding))
 bound_line state core index binding decision.WrongKey same sees =
-    claim_if (HasLine decision.WrongKey index) (rsi (thread_at state core).regs == binding.key) _ _ (λ fits. absurd (clash _ fits sees)) (λ wrong. ap (λ n. WrongKey n) same)
+    claim_if (HasLine decision.WrongKey index) (rsi (thread_at state core).regs == binding.key) _ _
+    (λ fits. absurd (clash _ fits sees)) (λ wrong. ap (λ n. WrongKey n) same)
 bound_line state core index binding decision.PoolEmpty same sees =
     claim_if (HasLine decision.PoolEmpty index) (rsi (thread_at state core).regs == binding.key) _ _
-    (λ fits. claim_if (HasLine decision.PoolEmpty index) (pool_word state binding.server == 0) _ _ (λ none. ap (λ n. PoolEmpty n) same)
+    (λ fits. claim_if (HasLine decision.PoolEmpty index) (pool_word state binding.server == 0) _ _
+    (λ none. ap (λ n. PoolEmpty n) same)
     (λ some. absurd (other_number _ 0 some sees.1)))
     (λ wrong. absurd (clash _ sees.0 wrong))
 bound_line state core index binding decision.Entered same sees =
     claim_if (HasLine decision.Entered index) (rsi (thread_at state core).regs == binding.key) _ _
     (λ fits. claim_if (HasLine decision.Entered index) (pool_word state binding.server == 0) _ _
     (λ none. absurd (sees.1 ((Decides-eqb (pool_word state binding.server) 0).0 none)))
-    (λ some. (lowest_bit (pool_word state binding.server), ap (λ n. Entered n (lowest_bit (pool_word state binding.server))) same)))
+    (λ some. (
+      lowest_bit (pool_word state binding.server),
+      ap (λ n. Entered n (lowest_bit (pool_word state binding.server))) same,
+    )))
     (λ wrong. absurd (clash _ sees.0 wrong))
 
-through_line : (state : State) (core index : ℕ) (found : Option Binding) (binding : Binding) (decided : Decision) → found ≡ Some binding → binding.index ≡ index
+through_line : (state : State) (core index : ℕ) (found : Option Binding) (binding : Binding) (decided : Decision)
+    → found ≡ Some binding → binding.index ≡ index
     → Sees decided (rsi (thread_at state core).regs == binding.key) (pool_word state binding.server)
-    → HasLine decided index (called_through state core (thread_at state core) index found)
+    → HasLine decided index (call_outcome state core (thread_at state core) index found)
 through_line state core index found binding decided is same sees =
-    subst (λ one. HasLine decided index (called_through state core (thread_at state core) index one)) (sym is) (bound_line state core index binding decided same sees)
+    subst (λ one. HasLine decided index (call_outcome state core (thread_at state core) index one)) (sym is)
+    (bound_line state core index binding decided same sees)
 
 called_line : (state : State) (core leaf index : ℕ) (binding : Binding) (decided : Decision) → leaf ≡ 0 → index ≢ 0
     → binding_in (thread_at state core).bindings index ≡ Some binding
     → Sees decided (rsi (thread_at state core).regs == binding.key) (pool_word state binding.server)
-    → HasLine decided index (switched_by state core (thread_at state core) leaf index)
+    → HasLine decided index (outcome_by_index state core (thread_at state core) leaf index)
 called_line state core leaf index binding decided none away bound sees =
     claim_if (HasLine decided index) (leaf == 0) _ _
     (λ switches. claim_if (HasLine decided index) (index == 0) _ _ (λ home. absurd (away ((Decides-eqb index 0).0 home)))
@@ -73,10 +80,13 @@ called_line state core leaf index binding decided none away bound sees =
     (λ bad. absurd (other_number leaf 0 bad none))
 
 call_line : (state : State) (core index : ℕ) (stands : StandsAtSwitch (thread_at state core) index) (decided : Decision)
-    → Sees decided (rsi (thread_at state core).regs == stands.binding.key) (pool_word state stands.binding.server) → HasLine decided index (kernel_call state core)
+    → Sees decided (rsi (thread_at state core).regs == stands.binding.key) (pool_word state stands.binding.server)
+    → HasLine decided index (kernel_call state core)
 unfolding kernel_call
 call_line state core index stands decided sees =
-    subst (λ n. HasLine decided n (switched_by state core (thread_at state core) (eax (thread_at state core).regs) (ecx (thread_at state core).regs))) stands.names
+    subst (λ n. HasLine decided n
+    (outcome_by_index state core (thread_at state core) (eax (thread_at state core).regs) (ecx (thread_at state core).regs)))
+    stands.names
     (called_line state core (eax (thread_at state core).regs) (ecx (thread_at state core).regs) stands.binding decided stands.leaf
     (λ zero. stands.away (sym stands.names ∙ zero))
     (subst (λ n. binding_in (thread_at state core).bindings n ≡ Some stands.binding) (sym stands.names) stands.bound) sees)
@@ -84,16 +94,20 @@ call_line state core index stands decided sees =
 -- ---- a phase that decides
 
 -- with the binding of the flight
-fits_is : (found : Option Binding) (word : ℕ) (binding : Binding) → found ≡ Some binding → is_key found word ≡ (word == binding.key)
+fits_is : (found : Option Binding) (word : ℕ) (binding : Binding) → found ≡ Some binding
+    → is_key found word ≡ (word == binding.key)
 fits_is None word binding is = absurd cc
 fits_is (Some one) word binding is = let same : one ≡ binding = cc in ap (λ (b : Binding). word == b.key) same
 
-pool_is : (state : State) (found : Option Binding) (binding : Binding) → found ≡ Some binding → bound_pool state found ≡ pool_word state binding.server
+pool_is : (state : State) (found : Option Binding) (binding : Binding) → found ≡ Some binding
+    → bound_pool state found ≡ pool_word state binding.server
 pool_is state None binding is = absurd cc
 pool_is state (Some one) binding is = let same : one ≡ binding = cc in ap (λ (b : Binding). pool_word state b.server) same
 
-decided_sees : (state : State) (thread : Thread) (index phase mask : ℕ) (undecided : IsUndecided thread (flight_of index phase mask None)) (decided : Decision)
-    → Decides phase (is_key (binding_in thread.bindings index) (rsi thread.regs)) (bound_pool state (binding_in thread.bindings index)) mask decided
+decided_sees : (state : State) (thread : Thread) (index phase mask : ℕ)
+    (undecided : IsUndecided thread (flight_of index phase mask None)) (decided : Decision)
+    → Decides phase (is_key (binding_in thread.bindings index) (rsi thread.regs))
+    (bound_pool state (binding_in thread.bindings index)) mask decided
     → Sees decided (rsi thread.regs == undecided.stands.binding.key) (pool_word state undecided.stands.binding.server)
 decided_sees state thread index phase mask undecided decision.WrongKey at =
     sym (fits_is (binding_in thread.bindings index) (rsi thread.regs) undecided.stands.binding undecided.stands.bound) ∙ at.1
@@ -113,42 +127,56 @@ decided_sees state thread index phase mask undecided decision.Entered at =
 -- ---- a step in flight
 
 landed_line : (state : State) (core index phase mask pool : ℕ) (before : Option Decision) (decided : Option Decision)
-    → decided_at phase (is_key (binding_in (thread_at state core).bindings index) (rsi (thread_at state core).regs)) (bound_pool state (binding_in (thread_at state core).bindings index)) mask
+    → decided_at phase (is_key (binding_in (thread_at state core).bindings index) (rsi (thread_at state core).regs))
+    (bound_pool state (binding_in (thread_at state core).bindings index)) mask
     ≡ decided
     → IsDecidedSound (thread_at state core) (flight_of index phase mask before) before
-    → IsFlightLine phase decided index (landed state core (flight_of index phase (mask_after phase pool mask) before) decided).0
+    → IsFlightLine phase decided index
+    (phase_outcome state core (flight_of index phase (mask_after phase pool mask) before) decided).0
 landed_line state core index phase mask pool before None is sound = refl
 landed_line state core index phase mask pool None (Some decided) is sound =
-    call_line state core index sound.stands decided (decided_sees state (thread_at state core) index phase mask sound decided (decides phase _ _ mask decided is))
+    call_line state core index sound.stands decided
+    (decided_sees state (thread_at state core) index phase mask sound decided (decides phase _ _ mask decided is))
 landed_line state core index phase mask pool (Some one) (Some decided) is sound =
     absurd (none_some (decided_at phase _ _ mask) decided (decides_no_more one phase _ _ mask mask sound) is)
 
 flown_line : (state : State) (core : ℕ) (flight : Flight) → IsFlightSound (thread_at state core) (Some flight)
-    → IsFlightLine flight.phase (decision_at state core flight) flight.index (flown state core flight).0
-unfolding flown
+    → IsFlightLine flight.phase (decision_at state core flight) flight.index (landing_step state core flight).0
+unfolding landing_step
 flown_line state core flight sound =
-    landed_line state core flight.index flight.phase flight.mask (bound_pool state (flight_binding (thread_at state core) flight)) flight.decided
+    landed_line state core flight.index flight.phase flight.mask
+    (bound_pool state (flight_binding (thread_at state core) flight)) flight.decided
     (decision_at state core flight) refl sound.1
 
-on_line : (state : State) (core : ℕ) (flight : Flight) (found : Option Flight) (outcome : Outcome) → found ≡ Some flight → IsFlightSound (thread_at state core) (Some flight)
-    → GoesOn state core (thread_at state core) found outcome → IsFlightLine flight.phase (decision_at state core flight) flight.index outcome.0
+on_line : (state : State) (core : ℕ) (flight : Flight) (found : Option Flight) (outcome : Outcome) → found ≡ Some flight
+    → IsFlightSound (thread_at state core) (Some flight)
+    → GoesOn state core (thread_at state core) found outcome
+    → IsFlightLine flight.phase (decision_at state core flight) flight.index outcome.0
 on_line state core flight None outcome at sound runs = absurd cc
 on_line state core flight (Some one) outcome at sound is =
     let same : one ≡ flight = cc in
-    subst (λ (end : Outcome). IsFlightLine flight.phase (decision_at state core flight) flight.index end.0) (ap (flown state core) (sym same) ∙ sym is)
+    subst (λ (end : Outcome). IsFlightLine flight.phase (decision_at state core flight) flight.index end.0)
+    (ap (landing_step state core) (sym same) ∙ sym is)
     (flown_line state core flight sound)
 
 -- a thread that has ended is in no flight
 ended_line : (thread : Thread) (end : EndKind) → thread.state ≡ end → thread.state ≡ Running → end ≢ Running → ⊥
 ended_line thread end ended running other = other (sym ended ∙ running)
 
-by_line : (state : State) (core : ℕ) (flight : Flight) (end : EndKind) (outcome : Outcome) → (thread_at state core).state ≡ end → flight_at state core ≡ Some flight
+by_line : (state : State) (core : ℕ) (flight : Flight) (end : EndKind) (outcome : Outcome)
+    → (thread_at state core).state ≡ end → flight_at state core ≡ Some flight
     → IsFlightSound (thread_at state core) (Some flight) → StepsBy state core (thread_at state core) end outcome
     → IsFlightLine flight.phase (decision_at state core flight) flight.index outcome.0
-by_line state core flight Running outcome ended at sound runs = on_line state core flight (flight_at state core) outcome at sound runs
-by_line state core flight (Ended status) outcome ended at sound is = absurd (ended_line (thread_at state core) (Ended status) ended sound.0 (λ same. cc))
-by_line state core flight (Faulted kind address) outcome ended at sound is = absurd (ended_line (thread_at state core) (Faulted kind address) ended sound.0 (λ same. cc))
+by_line state core flight Running outcome ended at sound runs =
+    on_line state core flight (flight_at state core) outcome at sound runs
+by_line state core flight (Ended status) outcome ended at sound is =
+    absurd (ended_line (thread_at state core) (Ended status) ended sound.0 (λ same. cc))
+by_line state core flight (Faulted kind address) outcome ended at sound is =
+    absurd (ended_line (thread_at state core) (Faulted kind address) ended sound.0 (λ same. cc))
 
 pub flight_lines : FlightLines
 flight_lines old core event new flight sound steps at =
-    by_line old core flight (thread_at old core).state (event, new) refl at (subst (IsFlightSound (thread_at old core)) at (sound.flights core)) steps
+    by_line old core flight (thread_at old core).state (
+      event,
+      new,
+    ) refl at (subst (IsFlightSound (thread_at old core)) at (sound.flights core)) steps

@@ -35,12 +35,15 @@ none_mapped : {A B : Type 0} (map : A → B) (found : Option A) → option_map m
 none_mapped map None is = refl
 none_mapped map (Some value) is = absurd cc
 
-not_first : (test : Bool) (later : Option ℕ) → (if test then Some 0 else option_map suc later) ≡ None → (test ≡ false) × (later ≡ None)
+not_first : (test : Bool) (later : Option ℕ) → (if test then Some 0 else option_map suc later) ≡ None
+    → (test ≡ false) × (later ≡ None)
 not_first true later is = absurd cc
 not_first false later is = (refl, none_mapped suc later is)
 
-one_on : (byte : ℕ) (bytes : List ℕ) (place count : ℕ) → get_or bytes (place + count) 0 ≡ get_or (byte ∷ bytes) (suc place + count) 0
-one_on byte bytes place count = let same : suc (place + count) ≡ suc place + count = omega arith in ap (λ n. get_or (byte ∷ bytes) n 0) same
+one_on : (byte : ℕ) (bytes : List ℕ) (place count : ℕ)
+    → get_or bytes (place + count) 0 ≡ get_or (byte ∷ bytes) (suc place + count) 0
+one_on byte bytes place count = let same : suc (place + count) ≡ suc place + count = omega arith in
+    ap (λ n. get_or (byte ∷ bytes) n 0) same
 
 -- the search for the first finds each
 no_first : (bytes : List ℕ) → first_pattern bytes ≡ None → (place : ℕ) → ¬ StandsAt bytes place
@@ -49,11 +52,16 @@ no_first (byte ∷ bytes) none zero stands =
     clash (begins_pattern (byte ∷ bytes)) (begins byte (get_or bytes 0 0) (get_or bytes 1 0) stands.0 stands.1 stands.2)
     (not_first (begins_pattern (byte ∷ bytes)) (first_pattern bytes) none).0
 no_first (byte ∷ bytes) none (suc place) stands =
-    no_first bytes (not_first (begins_pattern (byte ∷ bytes)) (first_pattern bytes) none).1 place (stands.0, one_on byte bytes place 1 ∙ stands.1, one_on byte bytes place 2 ∙ stands.2)
+    no_first bytes (not_first (begins_pattern (byte ∷ bytes)) (first_pattern bytes) none).1 place (
+      stands.0,
+      one_on byte bytes place 1 ∙ stands.1,
+      one_on byte bytes place 2 ∙ stands.2,
+    )
 
 -- ---- bytes of the heap that may be fetched
 
-executable_by : (test : Bool) (value byte : ℕ) → (if permits (if test then mode.Fetch else mode.ReadWrite) Fetch then Some value else None) ≡ Some byte
+executable_by : (test : Bool) (value byte : ℕ)
+    → (if permits (if test then mode.Fetch else mode.ReadWrite) Fetch then Some value else None) ≡ Some byte
     → (test ≡ true) × (value ≡ byte)
 executable_by true value byte is = (refl, cc)
 executable_by false value byte is = absurd cc
@@ -65,7 +73,8 @@ record IsHeapByte (found : Option Page) (offset byte : ℕ) : Type 0 where
   executable : page.executable ≡ true
   has : get_or page.bytes offset 0 ≡ byte
 
-heap_fetched : (process number : ℕ) (found : Option Page) (offset byte : ℕ) → fetched_byte (Heap process number) found offset ≡ Some byte → IsHeapByte found offset byte
+heap_fetched : (process number : ℕ) (found : Option Page) (offset byte : ℕ)
+    → fetched_byte (Heap process number) found offset ≡ Some byte → IsHeapByte found offset byte
 unfolding mode_of
 heap_fetched process number None offset byte is = absurd cc
 heap_fetched process number (Some page) offset byte is =
@@ -75,12 +84,14 @@ heap_fetched process number (Some page) offset byte is =
 heap_byte : (pages : List Page) (process place byte : ℕ) → code_byte pages (Heap process) place ≡ Some byte
     → IsHeapByte (find_page pages (Heap process (place / 4096))) (place % 4096) byte
 unfolding code_byte
-heap_byte pages process place byte is = heap_fetched process (place / 4096) (find_page pages (Heap process (place / 4096))) (place % 4096) byte is
+heap_byte pages process place byte is =
+    heap_fetched process (place / 4096) (find_page pages (Heap process (place / 4096))) (place % 4096) byte is
 
 -- ---- a page whose mode changes
 
 heap_apart : (process page other : ℕ) → other ≢ page → same_name (Heap process page) (Heap process other) ≡ false
-heap_apart process page other apart = name_other (Heap process page) (Heap process other) (λ same. apart (let equal : page ≡ other = cc in sym equal))
+heap_apart process page other apart =
+    name_other (Heap process page) (Heap process other) (λ same. apart (let equal : page ≡ other = cc in sym equal))
 
 -- elsewhere all is as before
 elsewhere : (pages : List Page) (process page place : ℕ) (executable : Bool) → place / 4096 ≢ page
@@ -93,51 +104,67 @@ elsewhere pages process page place executable apart =
 -- in the page itself
 within : (pages : List Page) (process page place : ℕ) (executable : Bool) → place / 4096 ≡ page
     → code_byte (with_mode pages (Heap process page) executable) (Heap process) place
-    ≡ fetched_byte (Heap process page) (option_map (with_executable executable) (find_page pages (Heap process page))) (place % 4096)
+    ≡ fetched_byte (Heap process page) (option_map (with_executable executable) (find_page pages (Heap process page)))
+    (place % 4096)
 unfolding code_byte
 within pages process page place executable here =
-    ap (λ number. fetched_byte (Heap process number) (find_page (with_mode pages (Heap process page) executable) (Heap process number)) (place % 4096)) here
+    ap (λ number. fetched_byte (Heap process number)
+    (find_page (with_mode pages (Heap process page) executable) (Heap process number)) (place % 4096)) here
     ∙ ap (λ found. fetched_byte (Heap process page) found (place % 4096)) (mode_same pages (Heap process page) executable)
 
 -- ---- to write mode
 
-no_code : (process page : ℕ) (found : Option Page) (offset : ℕ) → fetched_byte (Heap process page) (option_map (with_executable false) found) offset ≡ None
+no_code : (process page : ℕ) (found : Option Page) (offset : ℕ)
+    → fetched_byte (Heap process page) (option_map (with_executable false) found) offset ≡ None
 unfolding mode_of
 no_code process page None offset = refl
 no_code process page (Some one) offset = refl
 
-fewer : (pages : List Page) (process page place byte : ℕ) → code_byte (with_mode pages (Heap process page) false) (Heap process) place ≡ Some byte
+fewer : (pages : List Page) (process page place byte : ℕ)
+    → code_byte (with_mode pages (Heap process page) false) (Heap process) place ≡ Some byte
     → code_byte pages (Heap process) place ≡ Some byte
 fewer pages process page place byte is = elim (cases_eq (place / 4096) page) [
-  | inl here ↦ absurd (none_some _ byte (within pages process page place false here ∙ no_code process page (find_page pages (Heap process page)) (place % 4096)) is)
+  | inl here ↦ absurd
+      (none_some _ byte (within pages process page place false here
+      ∙ no_code process page (find_page pages (Heap process page)) (place % 4096)) is)
   | inr apart ↦ sym (elsewhere pages process page place false apart) ∙ is
 ]
 
 written_heap : (pages : List Page) (process page : ℕ) → HasNoCodePattern (code_byte pages (Heap process))
     → HasNoCodePattern (code_byte (with_mode pages (Heap process page) false) (Heap process))
 written_heap pages process page none place stands =
-    none place (fewer pages process page place 0x0F stands.0, fewer pages process page (place + 1) 0x01 stands.1, fewer pages process page (place + 2) 0xD4 stands.2)
+    none place (
+      fewer pages process page place 0x0F stands.0,
+      fewer pages process page (place + 1) 0x01 stands.1,
+      fewer pages process page (place + 2) 0xD4 stands.2,
+    )
 
 -- ---- to execute mode: where the bytes stand in the list that is searched
 
-executable_of : (found : Option Page) (page : Page) → found ≡ Some page → page.executable ≡ true → executable_bytes found ≡ page.bytes
+executable_of : (found : Option Page) (page : Page) → found ≡ Some page → page.executable ≡ true
+    → executable_bytes found ≡ page.bytes
 executable_of found page there executable = rw there (rw executable refl)
 
 before_by : (test : Bool) (page : ℕ) (bytes : List ℕ) → (page == 0) ≡ test → page ≢ 0 → (if test then [] else bytes) ≡ bytes
 before_by true page bytes is some = absurd (some ((Decides-eqb page 0).0 is))
 before_by false page bytes is some = refl
 
-before_is : (state : State) (process page : ℕ) (found : Page) → page ≢ 0 → find_page state.pages (Heap process (page - 1)) ≡ Some found → found.executable ≡ true
+before_is : (state : State) (process page : ℕ) (found : Page) → page ≢ 0
+    → find_page state.pages (Heap process (page - 1)) ≡ Some found → found.executable ≡ true
     → bytes_before state process page ≡ drop 4094 found.bytes
 before_is state process page found some there executable =
-    before_by (page == 0) page _ refl some ∙ ap (λ bytes. drop 4094 bytes) (executable_of (find_page state.pages (Heap process (page - 1))) found there executable)
+    before_by (page == 0) page _ refl some
+    ∙ ap (λ bytes. drop 4094 bytes) (executable_of (find_page state.pages (Heap process (page - 1))) found there executable)
 
-behind_is : (state : State) (process page : ℕ) (found : Page) → find_page state.pages (Heap process (page + 1)) ≡ Some found → found.executable ≡ true
+behind_is : (state : State) (process page : ℕ) (found : Page) → find_page state.pages (Heap process (page + 1)) ≡ Some found
+    → found.executable ≡ true
     → bytes_behind state process page ≡ take 2 found.bytes
-behind_is state process page found there executable = ap (λ bytes. take 2 bytes) (executable_of (find_page state.pages (Heap process (page + 1))) found there executable)
+behind_is state process page found there executable =
+    ap (λ bytes. take 2 bytes) (executable_of (find_page state.pages (Heap process (page + 1))) found there executable)
 
 -- a byte in the page before
-in_before : (state : State) (process page place byte : ℕ) → ArePagesSound state.pages → place / 4096 + 1 ≡ page → 4094 ≤ place % 4096
+in_before : (state : State) (process page place byte : ℕ) → ArePagesSound state.pages → place / 4096 + 1 ≡ page
+    → 4094 ≤ place % 4096
     → code_byte state.pages (Heap process) place ≡ Some byte
     → (length (bytes_before state process page) ≡ 2) × (get_or (bytes_before state process page) (place % 4096 - 4094) 0 ≡ byte)
 in_before state process page place byte sound next last is =
@@ -165,7 +192,8 @@ in_behind state process page place byte next first is =
 
 -- ---- to execute mode: the three parts of the list
 
-first_part : (before here behind : List ℕ) (index : ℕ) → index < length before → get_or (before ++ (here ++ behind)) index 0 ≡ get_or before index 0
+first_part : (before here behind : List ℕ) (index : ℕ) → index < length before
+    → get_or (before ++ (here ++ behind)) index 0 ≡ get_or before index 0
 first_part before here behind index inside = get_or_append_left before (here ++ behind) 0 index inside
 
 second_part : (before here behind : List ℕ) (index offset : ℕ) → index ≡ length before + offset → offset < length here
@@ -190,8 +218,10 @@ searched state process page one = bytes_before state process page ++ (one.bytes 
 
 -- where a byte stands in them that may be fetched once the page is executable, no further from the page than two bytes
 byte_searched : (state : State) (process page : ℕ) (one : Page) → IsSearched state process page one → (place index byte : ℕ)
-    → 4096 * page ≤ place + 2 → place < 4096 * page + 4098 → 4096 * page + index ≡ place + length (bytes_before state process page)
-    → code_byte (with_mode state.pages (Heap process page) true) (Heap process) place ≡ Some byte → get_or (searched state process page one) index 0 ≡ byte
+    → 4096 * page ≤ place + 2 → place < 4096 * page + 4098
+    → 4096 * page + index ≡ place + length (bytes_before state process page)
+    → code_byte (with_mode state.pages (Heap process page) true) (Heap process) place ≡ Some byte
+    → get_or (searched state process page one) index 0 ≡ byte
 byte_searched state process page one is place index byte low high at has =
     let size : length one.bytes ≡ 4096 = is.sound.sizes (Heap process page) one is.there in
     elim (cases_lt place (4096 * page)) [
@@ -204,16 +234,20 @@ byte_searched state process page one is place index byte low high at has =
       | inr behind ↦ elim (cases_lt place (4096 * page + 4096)) [
         | inl inside ↦
             let here : place / 4096 ≡ page = omega arith in
-            let found = heap_fetched process page (option_map (with_executable true) (find_page state.pages (Heap process page))) (place % 4096) byte
+            let found =
+            heap_fetched process page (option_map (with_executable true) (find_page state.pages (Heap process page)))
+            (place % 4096) byte
             (sym (within state.pages process page place true here) ∙ has) in
             let same : with_executable true one ≡ found.page = same_some (with_executable true one) found.page
             (ap (λ f. option_map (with_executable true) f) (sym is.there) ∙ found.there) in
-            second_part (bytes_before state process page) one.bytes (bytes_behind state process page) index (place % 4096) (omega arith) (omega arith)
+            second_part (bytes_before state process page) one.bytes (bytes_behind state process page) index (place % 4096)
+            (omega arith) (omega arith)
             ∙ (ap (λ (p : Page). get_or p.bytes (place % 4096) 0) same ∙ found.has)
         | inr past ↦
             let next : place / 4096 ≡ page + 1 = omega arith in
             let old = sym (elsewhere state.pages process page place true (λ same. omega arith)) ∙ has in
-            third_part (bytes_before state process page) one.bytes (bytes_behind state process page) index (place % 4096) (omega arith)
+            third_part (bytes_before state process page) one.bytes (bytes_behind state process page) index (place % 4096)
+            (omega arith)
             ∙ in_behind state process page place byte next (omega arith) old
       ]
     ]
@@ -221,7 +255,8 @@ byte_searched state process page one is place index byte low high at has =
 -- ---- to execute mode
 
 -- the search found none in them
-none_searched : (state : State) (process page : ℕ) (one : Page) → find_page state.pages (Heap process page) ≡ Some one → heap_pattern state process page ≡ None
+none_searched : (state : State) (process page : ℕ) (one : Page) → find_page state.pages (Heap process page) ≡ Some one
+    → heap_pattern state process page ≡ None
     → first_pattern (searched state process page one) ≡ None
 unfolding heap_pattern
 none_searched state process page one there none =
@@ -229,7 +264,8 @@ none_searched state process page one there none =
     ∙ none_mapped (heap_address page (length (bytes_before state process page))) _ none
 
 -- the pattern touches the page
-touching : (state : State) (process page : ℕ) (one : Page) → IsSearched state process page one → heap_pattern state process page ≡ None → (place : ℕ)
+touching : (state : State) (process page : ℕ) (one : Page) → IsSearched state process page one
+    → heap_pattern state process page ≡ None → (place : ℕ)
     → 4096 * page ≤ place + 2 → place < 4096 * page + 4096 → 4096 * page ≤ place + length (bytes_before state process page)
     → ¬ HasCodePatternAt (code_byte (with_mode state.pages (Heap process page) true) (Heap process)) place
 touching state process page one is none place low high from stands =
@@ -242,19 +278,24 @@ touching state process page one is none place low high from stands =
 
 -- before it stand two bytes, where the pattern begins there
 from_before : (state : State) (process page : ℕ) → ArePagesSound state.pages → (place byte : ℕ) → 4096 * page ≤ place + 2
-    → code_byte (with_mode state.pages (Heap process page) true) (Heap process) place ≡ Some byte → 4096 * page ≤ place + length (bytes_before state process page)
+    → code_byte (with_mode state.pages (Heap process page) true) (Heap process) place ≡ Some byte
+    → 4096 * page ≤ place + length (bytes_before state process page)
 from_before state process page sound place byte low has = elim (cases_lt place (4096 * page)) [
   | inl less ↦
-      let found = in_before state process page place byte sound (omega arith) (omega arith) (sym (elsewhere state.pages process page place true (λ same. omega arith)) ∙ has) in
+      let found =
+      in_before state process page place byte sound (omega arith) (omega arith)
+      (sym (elsewhere state.pages process page place true (λ same. omega arith)) ∙ has) in
       omega (arith, found.0)
   | inr behind ↦ omega arith
 ]
 
 apart_from : (pages : List Page) (process page place byte : ℕ) (executable : Bool) → place / 4096 ≢ page
-    → code_byte (with_mode pages (Heap process page) executable) (Heap process) place ≡ Some byte → code_byte pages (Heap process) place ≡ Some byte
+    → code_byte (with_mode pages (Heap process page) executable) (Heap process) place ≡ Some byte
+    → code_byte pages (Heap process) place ≡ Some byte
 apart_from pages process page place byte executable apart has = sym (elsewhere pages process page place executable apart) ∙ has
 
-executed_page : (state : State) (process page : ℕ) (one : Page) → IsSearched state process page one → heap_pattern state process page ≡ None
+executed_page : (state : State) (process page : ℕ) (one : Page) → IsSearched state process page one
+    → heap_pattern state process page ≡ None
     → HasNoCodePattern (code_byte (with_mode state.pages (Heap process page) true) (Heap process))
 executed_page state process page one is none place stands =
     let apart : (place / 4096 ≢ page) → ((place + 1) / 4096 ≢ page) → ((place + 2) / 4096 ≢ page) → ⊥ =
@@ -266,36 +307,44 @@ executed_page state process page one is none place stands =
     elim (cases_lt (place + 2) (4096 * page)) [
       | inl before ↦ apart (λ same. omega arith) (λ same. omega arith) (λ same. omega arith)
       | inr low ↦ elim (cases_lt place (4096 * page + 4096)) [
-        | inl high ↦ touching state process page one is none place low high (from_before state process page is.sound place 0x0F low stands.0) stands
+        | inl high ↦ touching state process page one is none place low high
+            (from_before state process page is.sound place 0x0F low stands.0) stands
         | inr behind ↦ apart (λ same. omega arith) (λ same. omega arith) (λ same. omega arith)
       ]
     ]
 
 -- where the page is not there
 absent : (pages : List Page) (process page place byte : ℕ) → find_page pages (Heap process page) ≡ None
-    → code_byte (with_mode pages (Heap process page) true) (Heap process) place ≡ Some byte → code_byte pages (Heap process) place ≡ Some byte
+    → code_byte (with_mode pages (Heap process page) true) (Heap process) place ≡ Some byte
+    → code_byte pages (Heap process) place ≡ Some byte
 absent pages process page place byte none has = elim (cases_eq (place / 4096) page) [
   | inl here ↦
       absurd (none_some _ byte
-      (within pages process page place true here ∙ ap (λ found. fetched_byte (Heap process page) (option_map (with_executable true) found) (place % 4096)) none) has)
+      (within pages process page place true here
+      ∙ ap (λ found. fetched_byte (Heap process page) (option_map (with_executable true) found) (place % 4096)) none) has)
   | inr apart ↦ apart_from pages process page place byte true apart has
 ]
 
-executed_heap : (state : State) (process page : ℕ) (found : Option Page) → find_page state.pages (Heap process page) ≡ found → ArePagesSound state.pages
-    → heap_pattern state process page ≡ None → HasNoCodePattern (code_byte (with_mode state.pages (Heap process page) true) (Heap process))
+executed_heap : (state : State) (process page : ℕ) (found : Option Page) → find_page state.pages (Heap process page) ≡ found
+    → ArePagesSound state.pages
+    → heap_pattern state process page ≡ None
+    → HasNoCodePattern (code_byte (with_mode state.pages (Heap process page) true) (Heap process))
 executed_heap state process page None there sound none = λ place stands.
     sound.heap process place (
       absent state.pages process page place 0x0F there stands.0,
       absent state.pages process page (place + 1) 0x01 there stands.1,
       absent state.pages process page (place + 2) 0xD4 there stands.2,
     )
-executed_heap state process page (Some one) there sound none = executed_page state process page one (record { sound = sound; there = there }) none
+executed_heap state process page (Some one) there sound none =
+    executed_page state process page one (record { sound = sound; there = there }) none
 
 -- ---- either mode
 
-changed_heap : (state : State) (process page : ℕ) (executable : Bool) → ArePagesSound state.pages → (executable ≡ true → heap_pattern state process page ≡ None)
+changed_heap : (state : State) (process page : ℕ) (executable : Bool) → ArePagesSound state.pages
+    → (executable ≡ true → heap_pattern state process page ≡ None)
     → HasNoCodePattern (code_byte (with_mode state.pages (Heap process page) executable) (Heap process))
-changed_heap state process page true sound harmless = executed_heap state process page (find_page state.pages (Heap process page)) refl sound (harmless refl)
+changed_heap state process page true sound harmless =
+    executed_heap state process page (find_page state.pages (Heap process page)) refl sound (harmless refl)
 changed_heap state process page false sound harmless = written_heap state.pages process page (sound.heap process)
 
 -- another process's heap
@@ -306,14 +355,16 @@ other_heap state process page other executable apart =
     (λ number. mode_other state.pages (Heap process page) (Heap other number) executable
     (name_other (Heap process page) (Heap other number) (λ same. apart (let equal : process ≡ other = cc in sym equal))))
 
-each_heap : (state : State) (process page other : ℕ) (executable : Bool) → ArePagesSound state.pages → (executable ≡ true → heap_pattern state process page ≡ None)
+each_heap : (state : State) (process page other : ℕ) (executable : Bool) → ArePagesSound state.pages
+    → (executable ≡ true → heap_pattern state process page ≡ None)
     → HasNoCodePattern (code_byte (with_mode state.pages (Heap process page) executable) (Heap other))
 each_heap state process page other executable sound harmless = elim (cases_eq other process) [
   | inl same ↦
       subst (λ n. HasNoCodePattern (code_byte (with_mode state.pages (Heap process page) executable) (Heap n))) (sym same)
       (changed_heap state process page executable sound harmless)
   | inr apart ↦
-      no_pattern_kept state.pages (with_mode state.pages (Heap process page) executable) (Heap other) (other_heap state process page other executable apart) (sound.heap other)
+      no_pattern_kept state.pages (with_mode state.pages (Heap process page) executable) (Heap other)
+      (other_heap state process page other executable apart) (sound.heap other)
 ]
 
 mode_size : (found : Option Page) (page' : Page) (executable : Bool) → option_map (with_executable executable) found ≡ Some page'
@@ -322,25 +373,32 @@ mode_size None page' executable is sizes = absurd cc
 mode_size (Some page) page' executable is sizes =
     subst (λ (p : Page). length p.bytes ≡ 4096) (same_some (with_executable executable page) page' is) (sizes page refl)
 
-changed_size : (test : Bool) (pages : List Page) (name other : PageName) (page' : Page) (executable : Bool) → same_name name other ≡ test
-    → ((page : Page) → find_page pages other ≡ Some page → length page.bytes ≡ 4096) → find_page (with_mode pages name executable) other ≡ Some page'
+changed_size : (test : Bool) (pages : List Page) (name other : PageName) (page' : Page) (executable : Bool)
+    → same_name name other ≡ test
+    → ((page : Page) → find_page pages other ≡ Some page → length page.bytes ≡ 4096)
+    → find_page (with_mode pages name executable) other ≡ Some page'
     → length page'.bytes ≡ 4096
 changed_size true pages name other page' executable is sizes found =
     let one : other ≡ name = sym (name_same name other is) in
     mode_size (find_page pages name) page' executable
     (sym (mode_same pages name executable) ∙ subst (λ n. find_page (with_mode pages name executable) n ≡ Some page') one found)
     (λ page there. sizes page (subst (λ n. find_page pages n ≡ Some page) (sym one) there))
-changed_size false pages name other page' executable is sizes found = sizes page' (sym (mode_other pages name other executable is) ∙ found)
+changed_size false pages name other page' executable is sizes found =
+    sizes page' (sym (mode_other pages name other executable is) ∙ found)
 
-mode_page : (pages : List Page) (process page : ℕ) (other : PageName) (executable : Bool) (bytes : List ℕ) → same_name (Heap process page) other ≡ false
+mode_page : (pages : List Page) (process page : ℕ) (other : PageName) (executable : Bool) (bytes : List ℕ)
+    → same_name (Heap process page) other ≡ false
     → HasPage pages other bytes → HasPage (with_mode pages (Heap process page) executable) other bytes
-mode_page pages process page other executable bytes apart (one, there, has) = (one, mode_other pages (Heap process page) other executable apart ∙ there, has)
+mode_page pages process page other executable bytes apart (one, there, has) =
+    (one, mode_other pages (Heap process page) other executable apart ∙ there, has)
 
-pub mode_sound : (state : State) (process page : ℕ) (executable : Bool) → (executable ≡ true → heap_pattern state process page ≡ None)
+pub mode_sound : (state : State) (process page : ℕ) (executable : Bool)
+    → (executable ≡ true → heap_pattern state process page ≡ None)
     → ArePagesSound state.pages → ArePagesSound (with_mode state.pages (Heap process page) executable)
 unfolding same_name
 mode_sound state process page executable harmless sound = record {
-  sizes = λ name page' is. changed_size (same_name (Heap process page) name) state.pages (Heap process page) name page' executable refl (sound.sizes name) is;
+  sizes = λ name page' is. changed_size (same_name (Heap process page) name) state.pages
+      (Heap process page) name page' executable refl (sound.sizes name) is;
   home = mode_page state.pages process page HomeTrampoline executable _ refl sound.home;
   server = mode_page state.pages process page ServerTrampoline executable _ refl sound.server;
   text = λ other. no_pattern_kept state.pages (with_mode state.pages (Heap process page) executable) (Text other)

@@ -12,7 +12,7 @@ use Rattle.sb_state.specs.declared.page.Page.{Page}
 use Rattle.sb_state.specs.declared.page.PageName.TheVariants.{Pool}
 use Rattle.sb_state.specs.State.{State, thread_at}
 use Rattle.sb_state.specs.PageWords.{zeros, words_put}
-use Rattle.sb_state.specs.Windows.{present_of}
+use Rattle.sb_state.specs.Windows.{process_now}
 use Rattle.sb_trace.specs.Start.{pages_from, record_bytes}
 use Rattle.sb_trace.specs.SyscallRegister.{stack_bytes, server_stack_page}
 use Rattle.sb_trace.specs.SyscallBind.{buffer_page, binding_pages}
@@ -29,23 +29,28 @@ zeros_size = length-replicate {A = ℕ} 4096 0
 
 words_size : (words bytes : List ℕ) (place : ℕ) → length (words_put bytes place words) ≡ length bytes
 words_size [] bytes place = refl
-words_size (word ∷ words) bytes place = words_size words (put_word bytes place word) (place + 8) ∙ length_put_word bytes place word
+words_size (word ∷ words) bytes place =
+    words_size words (put_word bytes place word) (place + 8) ∙ length_put_word bytes place word
 
 pub record_size : (words : RecordWords) → length (record_bytes words) ≡ 4096
 unfolding record_bytes
 record_size words = words_size (words_of words) zeros 0 ∙ zeros_size
 
-size_if : (test : Bool) (one other : List ℕ) → length one ≡ 4096 → length other ≡ 4096 → length (if test then one else other) ≡ 4096
+size_if : (test : Bool) (one other : List ℕ) → length one ≡ 4096 → length other ≡ 4096
+    → length (if test then one else other) ≡ 4096
 size_if true one other first second = first
 size_if false one other first second = second
 
 stack_size : (page : ℕ) → length (stack_bytes page) ≡ 4096
 unfolding stack_bytes
-stack_size page = size_if (page % 4 == 3) (put_word zeros 0xFF8 0x70000000) zeros (length_put_word zeros 0xFF8 0x70000000 ∙ zeros_size) zeros_size
+stack_size page =
+    size_if (page % 4 == 3) (put_word zeros 0xFF8 0x70000000) zeros (length_put_word zeros 0xFF8 0x70000000
+    ∙ zeros_size) zeros_size
 
 -- ---- new pages
 
-pub each_from : (Claim : Page → Type 0) (page : ℕ → Page) (first count : ℕ) → ((number : ℕ) → Claim (page number)) → EachPage Claim (pages_from page first count)
+pub each_from : (Claim : Page → Type 0) (page : ℕ → Page) (first count : ℕ) → ((number : ℕ) → Claim (page number))
+    → EachPage Claim (pages_from page first count)
 each_from Claim page first zero all = tt
 each_from Claim page first (suc count) all = (all first, each_from Claim page (first + 1) count all)
 
@@ -59,22 +64,30 @@ view_is_data thread index words =
 
 -- ---- by line
 
-same_pages : (old : State) (pages : List Page) (new : State) → OnlyPages old pages new → ArePagesSound pages → ArePagesSound new.pages
+same_pages : (old : State) (pages : List Page) (new : State) → OnlyPages old pages new → ArePagesSound pages
+    → ArePagesSound new.pages
 same_pages old pages new only sound = subst ArePagesSound (sym only.become) sound
 
-call_kept : (old : State) (core number answer : ℕ) (new : State) → CallChanges old core number answer new → ArePagesSound old.pages → ArePagesSound new.pages
+call_kept : (old : State) (core number answer : ℕ) (new : State) → CallChanges old core number answer new
+    → ArePagesSound old.pages → ArePagesSound new.pages
 call_kept old core number answer new (inl (refused, only)) sound = same_pages old old.pages new only sound
 call_kept old core number answer new (inr (inl (done, call, adds))) sound =
     subst ArePagesSound (sym adds.pages)
-    (added_sound (with_first_word old (Pool (present_of (thread_at old core))) adds.word) (pages_from (server_stack_page (present_of (thread_at old core))) 0 (4 * adds.stacks))
-    (stacks_are_data (present_of (thread_at old core)) (4 * adds.stacks)) (pool_sound old (present_of (thread_at old core)) adds.word sound))
+    (added_sound (with_first_word old (Pool (process_now (thread_at old core))) adds.word)
+    (pages_from (server_stack_page (process_now (thread_at old core))) 0 (4 * adds.stacks))
+    (stacks_are_data (process_now (thread_at old core)) (4 * adds.stacks))
+    (pool_sound old (process_now (thread_at old core)) adds.word sound))
 call_kept old core number answer new (inr (inr (inl (done, call, adds)))) sound =
-    subst ArePagesSound (sym adds.pages) (added_sound old.pages (binding_pages core adds.index adds.words) (view_is_data core adds.index adds.words) sound)
+    subst ArePagesSound (sym adds.pages)
+    (added_sound old.pages (binding_pages core adds.index adds.words) (view_is_data core adds.index adds.words) sound)
 call_kept old core number answer new (inr (inr (inr (done, call, changes)))) sound =
-    same_pages old _ new changes.only (mode_sound old (present_of (thread_at old core)) changes.page changes.executable changes.harmless sound)
+    same_pages old _ new changes.only
+    (mode_sound old (process_now (thread_at old core)) changes.page changes.executable changes.harmless sound)
 
-pub line_kept : (old : State) (core : ℕ) (event : Event) (new : State) → LineChanges old core event new → ArePagesSound old.pages → ArePagesSound new.pages
+pub line_kept : (old : State) (core : ℕ) (event : Event) (new : State) → LineChanges old core event new
+    → ArePagesSound old.pages → ArePagesSound new.pages
 line_kept old core (StepLine rip) new writes sound = written_sound old core (thread_at old core).view new writes sound
-line_kept old core (Entered index slot) new enters sound = same_pages old _ new enters.only (pool_sound old enters.server enters.word sound)
+line_kept old core (Entered index slot) new enters sound =
+    same_pages old _ new enters.only (pool_sound old enters.server enters.word sound)
 line_kept old core (Sys number answer) new changes sound = call_kept old core number answer new changes sound
 line_kept old core _ new only sound = same_pages old old.pages new only sound

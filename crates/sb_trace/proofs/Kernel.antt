@@ -14,19 +14,19 @@ use Rattle.sb_state.specs.declared.state.Thread.{Thread}
 use Rattle.sb_state.specs.State.{State, thread_at, with_thread, with_regs, with_end, with_view, process_at, registration_at, with_contents}
 use Rattle.sb_state.specs.PageWords.{with_word}
 use Rattle.sb_state.specs.Registers.{rax, rsi, rdi, eax, ecx}
-use Rattle.sb_trace.specs.Home.{Outcome, faulted, faulted_home, home_address}
-use Rattle.sb_trace.specs.KernelCall.{binding_in, pool_word, refused, not_switched, lowest_bit, entered, entered_regs, taken, called_through, switched_by, kernel_call, handler_in}
-use Rattle.sb_state.specs.Windows.{present_of, server_of}
+use Rattle.sb_trace.specs.Home.{Outcome, fault_outcome, faulted_home, home_address}
+use Rattle.sb_trace.specs.KernelCall.{binding_in, pool_word, refusal_outcome, refusal_or_fault, lowest_bit, state_at_handler, entry_regs, entry_outcome, call_outcome, outcome_by_index, kernel_call, handler_in}
+use Rattle.sb_state.specs.Windows.{process_now, server_of}
 use Rattle.sb_state.specs.Pattern.{heap_pattern}
 use Rattle.sb_abi.specs.declared.call.CallRefusal.{CallRefusal}
 use Rattle.sb_abi.specs.declared.call.CallRefusal.TheVariants as refusal
 use Rattle.sb_abi.specs.Numbers.{refusal_number}
-use Rattle.sb_calls.specs.SyscallRegisters.{answered, bound_regs}
-use Rattle.sb_trace.specs.SyscallAnswer.{declined, accepted}
-use Rattle.sb_trace.specs.SyscallRegister.{with_server, registered}
-use Rattle.sb_trace.specs.SyscallBind.{new_binding, with_binding, bound_to, bound, server_words}
-use Rattle.sb_trace.specs.SyscallProtect.{protected, made_executable, protects_by}
-use Rattle.sb_trace.specs.Syscall.{exited, called_by, called}
+use Rattle.sb_calls.specs.SyscallRegisters.{regs_with_answer, regs_after_bind}
+use Rattle.sb_trace.specs.SyscallAnswer.{syscall_refusal, syscall_acceptance}
+use Rattle.sb_trace.specs.SyscallRegister.{with_server, register_outcome}
+use Rattle.sb_trace.specs.SyscallBind.{new_binding, with_binding, binding_outcome, bind_outcome, server_words}
+use Rattle.sb_trace.specs.SyscallProtect.{with_heap_mode, execute_mode_outcome, protect_outcome_by}
+use Rattle.sb_trace.specs.Syscall.{exit_outcome, outcome_by_number, syscall_outcome}
 use Rattle.sb_trace.specs.Sound.{HasView}
 use Rattle.sb_trace.specs.Changes.{OnlyThreads, LineChanges, StepChanges}
 use Rattle.sb_state.proofs.Cases.{claim_if}
@@ -54,7 +54,8 @@ still state core thread = record { become = refl; processes = refl; free = refl;
 
 -- the thread becomes another of the same home
 did_thread : (state : State) (core : ℕ) (event : Event) (thread : Thread) → thread.home ≡ (thread_at state core).home
-    → (HasView (thread_at state core) → HasView thread) → IsOwn event → LineChanges state core event (with_thread state core thread)
+    → (HasView (thread_at state core) → HasView thread) → IsOwn event
+    → LineChanges state core event (with_thread state core thread)
     → Did state core (event, with_thread state core thread)
 did_thread state core event thread home view own changes = record {
   changes = record { thread = only_thread state core thread home; rest = changes };
@@ -64,15 +65,18 @@ did_thread state core event thread home view own changes = record {
 }
 
 -- it goes on in its home view
-did_home : (state : State) (core : ℕ) (event : Event) (regs : Regs) → IsOwn event → (OnlyThreads state (with_view state core 0 regs) → LineChanges state core event (with_view state core 0 regs))
+did_home : (state : State) (core : ℕ) (event : Event) (regs : Regs) → IsOwn event
+    → (OnlyThreads state (with_view state core 0 regs) → LineChanges state core event (with_view state core 0 regs))
     → Did state core (event, with_view state core 0 regs)
 unfolding with_view
 did_home state core event regs own changes =
-    did_thread state core event (record (thread_at state core) { view = 0; regs = regs }) refl (λ given. ((thread_at state core).home, refl)) own
+    did_thread state core event (record (thread_at state core) { view = 0; regs = regs }) refl
+    (λ given. ((thread_at state core).home, refl)) own
     (changes (still state core (record (thread_at state core) { view = 0; regs = regs })))
 
 -- it goes on in its view
-did_regs : (state : State) (core : ℕ) (event : Event) (regs : Regs) → IsOwn event → (OnlyThreads state (with_regs state core regs) → LineChanges state core event (with_regs state core regs))
+did_regs : (state : State) (core : ℕ) (event : Event) (regs : Regs) → IsOwn event
+    → (OnlyThreads state (with_regs state core regs) → LineChanges state core event (with_regs state core regs))
     → Did state core (event, with_regs state core regs)
 unfolding with_regs
 did_regs state core event regs own changes =
@@ -80,7 +84,8 @@ did_regs state core event regs own changes =
     (changes (still state core (record (thread_at state core) { regs = regs })))
 
 -- it ends
-did_end : (state : State) (core : ℕ) (event : Event) (end : EndKind) → IsOwn event → (OnlyThreads state (with_end state core end) → LineChanges state core event (with_end state core end))
+did_end : (state : State) (core : ℕ) (event : Event) (end : EndKind) → IsOwn event
+    → (OnlyThreads state (with_end state core end) → LineChanges state core event (with_end state core end))
     → Did state core (event, with_end state core end)
 unfolding with_end
 did_end state core event end own changes =
@@ -89,7 +94,8 @@ did_end state core event end own changes =
 
 -- ---- faults
 
-pub did_fault : (state : State) (core : ℕ) (kind : FaultKind) (address : ℕ) → Did state core (faulted state core kind address)
+pub did_fault : (state : State) (core : ℕ) (kind : FaultKind) (address : ℕ)
+    → Did state core (fault_outcome state core kind address)
 did_fault state core kind address =
     claim_if (Did state core) ((thread_at state core).view == 0) _ _
     (λ home. did_end state core (Fault kind address) (Faulted kind address) tt (λ same. same))
@@ -105,19 +111,22 @@ IsRefused (Unbound index) = Unit {0}
 IsRefused (BadLeaf index) = Unit {0}
 IsRefused _ = ⊥
 
-did_refused : (state : State) (core : ℕ) (line : Event) (status : ℕ) → IsRefused line → Did state core (refused state core (thread_at state core) line status)
+did_refused : (state : State) (core : ℕ) (line : Event) (status : ℕ) → IsRefused line
+    → Did state core (refusal_outcome state core (thread_at state core) line status)
 did_refused state core (WrongKey index) status is = did_home state core (WrongKey index) _ tt (λ same. same)
 did_refused state core (PoolEmpty index) status is = did_home state core (PoolEmpty index) _ tt (λ same. same)
 did_refused state core (Unbound index) status is = did_home state core (Unbound index) _ tt (λ same. same)
 did_refused state core (BadLeaf index) status is = did_home state core (BadLeaf index) _ tt (λ same. same)
 did_refused state core _ status is = absurd is
 
-did_not_switched : (state : State) (core : ℕ) (line : Event) (status : ℕ) → IsRefused line → Did state core (not_switched state core (thread_at state core) line status)
+did_not_switched : (state : State) (core : ℕ) (line : Event) (status : ℕ) → IsRefused line
+    → Did state core (refusal_or_fault state core (thread_at state core) line status)
 did_not_switched state core line status is =
     claim_if (Did state core) ((thread_at state core).view == 0) _ _ (λ home. did_refused state core line status is)
     (λ away. did_fault state core kind.Switch (thread_at state core).regs.rip)
 
-did_returned : (state : State) (core : ℕ) (test : Bool) (regs : Regs) → Did state core (if test then Turn else Return, with_view state core 0 regs)
+did_returned : (state : State) (core : ℕ) (test : Bool) (regs : Regs)
+    → Did state core (if test then Turn else Return, with_view state core 0 regs)
 did_returned state core true regs = did_home state core Turn regs tt (λ same. same)
 did_returned state core false regs = did_home state core Return regs tt (λ same. same)
 
@@ -125,36 +134,40 @@ did_returned state core false regs = did_home state core Return regs tt (λ same
 abbrev enters : State → ℕ → Binding → ℕ → Thread
 enters state core binding word = record (thread_at state core) {
   view = binding.index;
-  regs = entered_regs (thread_at state core).regs (lowest_bit word) (handler_in (registration_at state binding.server));
+  regs = entry_regs (thread_at state core).regs (lowest_bit word) (handler_in (registration_at state binding.server));
 }
 
-did_entered : (state : State) (core : ℕ) (binding : Binding) (word : ℕ) → server_of (thread_at state core).bindings binding.index ≡ Some binding.server
-    → Did state core (Entered binding.index (lowest_bit word), entered state core (thread_at state core) binding word)
+did_entered : (state : State) (core : ℕ) (binding : Binding) (word : ℕ)
+    → server_of (thread_at state core).bindings binding.index ≡ Some binding.server
+    → Did state core (Entered binding.index (lowest_bit word), state_at_handler state core (thread_at state core) binding word)
 unfolding with_view with_word with_contents thread_at
-did_entered state core binding word bound = let mid = with_word state (Pool binding.server) 0 (word - 2 ^ lowest_bit word) in record {
-  changes = record {
-    thread = only_both state core mid (with_thread mid core (enters state core binding word)) (only_none state core mid refl refl)
-        (only_thread mid core (enters state core binding word) refl);
-    rest = record {
-      server = binding.server;
-      word = word - 2 ^ lowest_bit word;
-      bound = bound;
-      only = record { become = refl; processes = refl; free = refl; keys = refl };
-    };
-  };
-  flights = refl;
-  own = tt;
-  view = λ given. thread_set HasView mid core (enters state core binding word)
-      (view_bound (enters state core binding word) binding.server bound) given;
-}
+did_entered state core binding word bound = let mid = with_word state (Pool binding.server) 0 (word - 2 ^ lowest_bit word) in
+    record {
+      changes = record {
+        thread = only_both state core mid (with_thread mid core (enters state core binding word)) (only_none state core mid refl refl)
+            (only_thread mid core (enters state core binding word) refl);
+        rest = record {
+          server = binding.server;
+          word = word - 2 ^ lowest_bit word;
+          bound = bound;
+          only = record { become = refl; processes = refl; free = refl; keys = refl };
+        };
+      };
+      flights = refl;
+      own = tt;
+      view = λ given. thread_set HasView mid core (enters state core binding word)
+          (view_bound (enters state core binding word) binding.server bound) given;
+    }
 
-did_taken : (state : State) (core : ℕ) (binding : Binding) (word : ℕ) → server_of (thread_at state core).bindings binding.index ≡ Some binding.server
-    → Did state core (taken state core (thread_at state core) binding word)
+did_taken : (state : State) (core : ℕ) (binding : Binding) (word : ℕ)
+    → server_of (thread_at state core).bindings binding.index ≡ Some binding.server
+    → Did state core (entry_outcome state core (thread_at state core) binding word)
 did_taken state core binding word bound =
-    claim_if (Did state core) (word == 0) _ _ (λ none. did_refused state core (PoolEmpty binding.index) 2 tt) (λ some. did_entered state core binding word bound)
+    claim_if (Did state core) (word == 0) _ _ (λ none. did_refused state core (PoolEmpty binding.index) 2 tt)
+    (λ some. did_entered state core binding word bound)
 
 did_through : (state : State) (core index : ℕ) (found : Option Binding) → binding_in (thread_at state core).bindings index ≡ found
-    → Did state core (called_through state core (thread_at state core) index found)
+    → Did state core (call_outcome state core (thread_at state core) index found)
 did_through state core index None is = did_not_switched state core (Unbound index) 3 tt
 did_through state core index (Some binding) is =
     let there = bound_there (thread_at state core).bindings index binding is in
@@ -163,11 +176,13 @@ did_through state core index (Some binding) is =
     (subst (λ (n : ℕ). server_of (thread_at state core).bindings n ≡ Some binding.server) (sym there.0) there.1))
     (λ wrong. did_refused state core (WrongKey binding.index) 1 tt)
 
-did_switched_by : (state : State) (core leaf index : ℕ) → Did state core (switched_by state core (thread_at state core) leaf index)
+did_switched_by : (state : State) (core leaf index : ℕ)
+    → Did state core (outcome_by_index state core (thread_at state core) leaf index)
 did_switched_by state core leaf index =
     claim_if (Did state core) (leaf == 0) _ _
     (λ switches. claim_if (Did state core) (index == 0) _ _
-    (λ home. did_returned state core ((thread_at state core).view == 0) (record (thread_at state core).regs { rip = home_address }))
+    (λ home. did_returned state core ((thread_at state core).view == 0)
+    (record (thread_at state core).regs { rip = home_address }))
     (λ away. did_through state core index (binding_in (thread_at state core).bindings index) refl))
     (λ bad. did_not_switched state core (BadLeaf index) 5 tt)
 
@@ -192,13 +207,14 @@ refusal_some refusal.BadMode = λ same. cc
 refusal_some refusal.Pattern = λ same. cc
 refusal_some refusal.NoCall = λ same. cc
 
-did_declined : (state : State) (core : ℕ) (next : Regs) (refusal : CallRefusal) (second : ℕ) → Did state core (declined state core next refusal second)
+did_declined : (state : State) (core : ℕ) (next : Regs) (refusal : CallRefusal) (second : ℕ)
+    → Did state core (syscall_refusal state core next refusal second)
 did_declined state core next refusal second =
     did_regs state core (Sys (rax next) (refusal_number refusal)) _ tt (λ same. inl (refusal_some refusal, same))
 
 -- ---- exit
 
-did_exit : (state : State) (core : ℕ) (next : Regs) → Did state core (exited state core next)
+did_exit : (state : State) (core : ℕ) (next : Regs) → Did state core (exit_outcome state core next)
 did_exit state core next =
     claim_if (Did state core) ((thread_at state core).view == 0) _ _
     (λ home.
@@ -223,14 +239,16 @@ did_exit state core next =
 -- ---- register
 
 did_server : (state : State) (core : ℕ) (next : Regs) → rax next ≡ 2
-    → Did state core (accepted (with_server state (present_of (thread_at state core)) (rdi next) (rsi next)) core next)
+    → Did state core (syscall_acceptance (with_server state (process_now (thread_at state core)) (rdi next) (rsi next)) core next)
 unfolding with_server with_word with_contents with_regs thread_at
 did_server state core next call =
-    let mid = with_server state (present_of (thread_at state core)) (rdi next) (rsi next) in
-    let thread : Thread = record (thread_at state core) { regs = answered next 0 0 } in
+    let mid = with_server state (process_now (thread_at state core)) (rdi next) (rsi next) in
+    let thread : Thread = record (thread_at state core) { regs = regs_with_answer next 0 0 } in
     record {
       changes = record {
-        thread = only_both state core mid (with_thread mid core thread) (only_none state core mid refl refl) (only_thread mid core thread refl);
+        thread =
+            only_both state core mid (with_thread mid core thread) (only_none state core mid refl refl)
+            (only_thread mid core thread refl);
         rest = inr (inl (refl, call, record { word = 2 ^ rsi next - 1; stacks = rsi next; pages = refl; keys = refl }));
       };
       flights = refl;
@@ -239,29 +257,34 @@ did_server state core next call =
     }
 
 did_registered : (state : State) (core : ℕ) (next : Regs) (refusal : Option CallRefusal) → rax next ≡ 2
-    → Did state core (registered state core next (present_of (thread_at state core)) refusal)
+    → Did state core (register_outcome state core next (process_now (thread_at state core)) refusal)
 did_registered state core next (Some refusal) call = did_declined state core next refusal 0
 did_registered state core next None call = did_server state core next call
 
 -- ---- bind
 
 -- a view stays one where a binding is added
-server_behind : (test : Bool) (server : ℕ) (found found' : Option ℕ) (process : ℕ) → (found ≡ Some process → found' ≡ Some process)
+server_behind : (test : Bool) (server : ℕ) (found found' : Option ℕ) (process : ℕ)
+    → (found ≡ Some process → found' ≡ Some process)
     → (if test then Some server else found) ≡ Some process → (if test then Some server else found') ≡ Some process
 server_behind true server found found' process more is = is
 server_behind false server found found' process more is = more is
 
-server_added : (bindings others : List Binding) (index process : ℕ) → server_of bindings index ≡ Some process → server_of (bindings ++ others) index ≡ Some process
+server_added : (bindings others : List Binding) (index process : ℕ) → server_of bindings index ≡ Some process
+    → server_of (bindings ++ others) index ≡ Some process
 server_added [] others index process is = absurd cc
 server_added (first ∷ bindings) others index process is =
-    server_behind (first.index == index) first.server (server_of bindings index) (server_of (bindings ++ others) index) process (server_added bindings others index process) is
+    server_behind (first.index == index) first.server (server_of bindings index) (server_of (bindings ++ others) index) process
+    (server_added bindings others index process) is
 
 shown_added : (test : Bool) (home : ℕ) (bindings others : List Binding) (index process : ℕ)
-    → (if test then Some home else server_of bindings index) ≡ Some process → (if test then Some home else server_of (bindings ++ others) index) ≡ Some process
+    → (if test then Some home else server_of bindings index) ≡ Some process
+    → (if test then Some home else server_of (bindings ++ others) index) ≡ Some process
 shown_added true home bindings others index process is = is
 shown_added false home bindings others index process is = server_added bindings others index process is
 
-view_added : (thread : Thread) (binding : Binding) (regs : Regs) → HasView thread → HasView (record thread { bindings = thread.bindings ++ binding ∷ []; regs = regs })
+view_added : (thread : Thread) (binding : Binding) (regs : Regs) → HasView thread
+    → HasView (record thread { bindings = thread.bindings ++ binding ∷ []; regs = regs })
 view_added thread binding regs given =
     (given.0, shown_added (thread.view == 0) thread.home thread.bindings (binding ∷ []) thread.view given.0 given.1)
 
@@ -269,23 +292,26 @@ view_added thread binding regs given =
 abbrev binds : State → ℕ → Binding → Thread
 binds state core binding = record (thread_at state core) { bindings = (thread_at state core).bindings ++ binding ∷ [] }
 
-bound_view : (state : State) (core : ℕ) (binding : Binding) → HasView (thread_at state core) → HasView (thread_at (with_binding state core (thread_at state core) binding) core)
+bound_view : (state : State) (core : ℕ) (binding : Binding) → HasView (thread_at state core)
+    → HasView (thread_at (with_binding state core (thread_at state core) binding) core)
 unfolding with_binding thread_at
 bound_view state core binding given =
-    thread_set HasView state core (binds state core binding) (view_added (thread_at state core) binding (thread_at state core).regs given) given
+    thread_set HasView state core (binds state core binding)
+    (view_added (thread_at state core) binding (thread_at state core).regs given) given
 
 did_binding : (state : State) (core : ℕ) (next : Regs) (binding : Binding) → rax next ≡ 3
-    → Did state core (bound_to state core (thread_at state core) next binding)
+    → Did state core (binding_outcome state core (thread_at state core) next binding)
 unfolding with_binding with_regs
 did_binding state core next binding call =
     let first : Thread = binds state core binding in
     let mid = with_binding state core (thread_at state core) binding in
-    let last : Thread = record (thread_at mid core) { regs = bound_regs next core binding.index binding.key } in
+    let last : Thread = record (thread_at mid core) { regs = regs_after_bind next core binding.index binding.key } in
     record {
       changes = record {
         thread = only_both state core (with_thread state core first) (with_thread mid core last)
             (only_thread state core first refl)
-            (only_both (with_thread state core first) core mid (with_thread mid core last) (only_none (with_thread state core first) core mid refl refl) (only_thread mid core last refl));
+            (only_both (with_thread state core first) core mid (with_thread mid core last)
+            (only_none (with_thread state core first) core mid refl refl) (only_thread mid core last refl));
         rest = inr (inr (inl (
           refl,
           call,
@@ -299,26 +325,29 @@ did_binding state core next binding call =
       };
       flights = refl;
       own = tt;
-      view = λ given. thread_set HasView mid core last (bound_view state core binding given) (bound_view state core binding given);
+      view = λ given. thread_set HasView mid core last (bound_view state core binding given)
+          (bound_view state core binding given);
     }
 
 did_bound : (state : State) (core : ℕ) (next : Regs) (refusal : Option CallRefusal) → rax next ≡ 3
-    → Did state core (bound state core (thread_at state core) next refusal)
+    → Did state core (bind_outcome state core (thread_at state core) next refusal)
 did_bound state core next (Some refusal) call = did_declined state core next refusal 0
 did_bound state core next None call = did_binding state core next (new_binding state (thread_at state core) (rdi next)) call
 
 -- ---- protect
 
 did_mode : (state : State) (core : ℕ) (next : Regs) (page : ℕ) (executable : Bool) → rax next ≡ 4
-    → (executable ≡ true → heap_pattern state (present_of (thread_at state core)) page ≡ None)
-    → Did state core (accepted (protected state (present_of (thread_at state core)) page executable) core next)
-unfolding protected with_regs thread_at
+    → (executable ≡ true → heap_pattern state (process_now (thread_at state core)) page ≡ None)
+    → Did state core (syscall_acceptance (with_heap_mode state (process_now (thread_at state core)) page executable) core next)
+unfolding with_heap_mode with_regs thread_at
 did_mode state core next page executable call harmless =
-    let mid = protected state (present_of (thread_at state core)) page executable in
-    let thread : Thread = record (thread_at state core) { regs = answered next 0 0 } in
+    let mid = with_heap_mode state (process_now (thread_at state core)) page executable in
+    let thread : Thread = record (thread_at state core) { regs = regs_with_answer next 0 0 } in
     record {
       changes = record {
-        thread = only_both state core mid (with_thread mid core thread) (only_none state core mid refl refl) (only_thread mid core thread refl);
+        thread =
+            only_both state core mid (with_thread mid core thread) (only_none state core mid refl refl)
+            (only_thread mid core thread refl);
         rest = inr (inr (inr (
           refl,
           call,
@@ -336,22 +365,23 @@ did_mode state core next page executable call harmless =
     }
 
 did_executable : (state : State) (core : ℕ) (next : Regs) (page : ℕ) (found : Option ℕ) → rax next ≡ 4
-    → heap_pattern state (present_of (thread_at state core)) page ≡ found
-    → Did state core (made_executable state core next (present_of (thread_at state core)) page found)
+    → heap_pattern state (process_now (thread_at state core)) page ≡ found
+    → Did state core (execute_mode_outcome state core next (process_now (thread_at state core)) page found)
 did_executable state core next page (Some address) call is = did_declined state core next refusal.Pattern address
 did_executable state core next page None call is = did_mode state core next page true call (λ executable. is)
 
 did_protects_by : (state : State) (core : ℕ) (next : Regs) (page mode : ℕ) (refusal : Option CallRefusal) → rax next ≡ 4
-    → Did state core (protects_by state core next (present_of (thread_at state core)) page mode refusal)
+    → Did state core (protect_outcome_by state core next (process_now (thread_at state core)) page mode refusal)
 did_protects_by state core next page mode (Some refusal) call = did_declined state core next refusal 0
 did_protects_by state core next page mode None call =
     claim_if (Did state core) (mode == 1) _ _
-    (λ executed. did_executable state core next page (heap_pattern state (present_of (thread_at state core)) page) call refl)
+    (λ executed. did_executable state core next page (heap_pattern state (process_now (thread_at state core)) page) call refl)
     (λ written. did_mode state core next page false call (λ executable. absurd cc))
 
 -- ---- by number
 
-did_called_by : (state : State) (core : ℕ) (next : Regs) → Did state core (called_by state core (thread_at state core) next (rax next))
+did_called_by : (state : State) (core : ℕ) (next : Regs)
+    → Did state core (outcome_by_number state core (thread_at state core) next (rax next))
 did_called_by state core next =
     claim_if (Did state core) (rax next == 0) _ _ (λ is. did_exit state core next)
     (λ more. claim_if (Did state core) (rax next == 1) _ _ (λ is. did_regs state core (Printed (rdi next)) _ tt (λ same. same))
@@ -363,6 +393,6 @@ did_called_by state core next =
     (λ is. did_protects_by state core next (rdi next) (rsi next) _ (number (rax next) 4 is))
     (λ more. did_declined state core next refusal.NoCall 0)))))
 
-pub did_syscall : (state : State) (core : ℕ) (next : Regs) → Did state core (called state core next)
-unfolding called
+pub did_syscall : (state : State) (core : ℕ) (next : Regs) → Did state core (syscall_outcome state core next)
+unfolding syscall_outcome
 did_syscall state core next = did_called_by state core next

@@ -9,7 +9,8 @@ use Rattle.sb_state.proofs.Pages.{changed, changed_other, changed_same, with_exe
 use Rattle.sb_trace.specs.SyscallProtect.{with_mode}
 
 -- a change of the mode is one change of the page of that name
-pub mode_changes : (pages : List Page) (name : PageName) (executable : Bool) → with_mode pages name executable ≡ changed (with_executable executable) pages name
+pub mode_changes : (pages : List Page) (name : PageName) (executable : Bool)
+    → with_mode pages name executable ≡ changed (with_executable executable) pages name
 mode_changes [] name executable = refl
 mode_changes (page ∷ pages) name executable = rw (mode_changes pages name executable) refl
 
@@ -22,4 +23,5 @@ mode_other pages name other executable apart =
 -- the page of that name has the new mode
 pub mode_same : (pages : List Page) (name : PageName) (executable : Bool)
     → find_page (with_mode pages name executable) name ≡ option_map (with_executable executable) (find_page pages name)
-mode_same pages name executable = rw (mode_changes pages name executable) (changed_same (with_executable executable) (λ page. refl) pages name)
+mode_same pages name executable =
+    rw (mode_changes pages name executable) (changed_same (with_executable executable) (λ page. refl) pages name)

@@ -14,7 +14,8 @@ use Rattle.sb_state.proofs.Cases.{claim_if, same_some}
 pub other_number : (first second : ℕ) → (first == second) ≡ false → first ≢ second
 other_number first second is same = let equal = (Decides-eqb first second).1 same in absurd cc
 
-pub some_if : {A : Type 0} (Result : Type 0) (test : Bool) (one other : Option A) (value : A) → (test ≡ true → one ≡ Some value → Result) → (test ≡ false → other ≡ Some value → Result)
+pub some_if : {A : Type 0} (Result : Type 0) (test : Bool) (one other : Option A) (value : A)
+    → (test ≡ true → one ≡ Some value → Result) → (test ≡ false → other ≡ Some value → Result)
     → (if test then one else other) ≡ Some value → Result
 some_if Result true one other value first second is = first refl is
 some_if Result false one other value first second is = second refl is
@@ -41,14 +42,18 @@ NextPhase phase decided mask next =
     ⊎ ((phase ≡ 18) × (next ≡ 20))
     ⊎ (IsPlainPhase phase × (next ≡ phase + 1))
 
-next_phase : (phase : ℕ) (decided : Option Decision) (mask next : ℕ) → phase_after phase decided mask ≡ Some next → NextPhase phase decided mask next
+next_phase : (phase : ℕ) (decided : Option Decision) (mask next : ℕ) → phase_after phase decided mask ≡ Some next
+    → NextPhase phase decided mask next
 unfolding phase_after
 next_phase phase decided mask next =
     some_if (NextPhase phase decided mask next) (phase == 1) _ _ next (λ is to. inl (number phase 1 is, sym (same_some _ _ to)))
-    (λ one. some_if (NextPhase phase decided mask next) (phase == 4) _ _ next (λ is to. inr (inl (number phase 4 is, sym (same_some _ _ to))))
-    (λ four. some_if (NextPhase phase decided mask next) (phase == 9) _ _ next (λ is to. inr (inr (inl (number phase 9 is, sym (same_some _ _ to)))))
+    (λ one. some_if (NextPhase phase decided mask next) (phase == 4) _ _ next
+    (λ is to. inr (inl (number phase 4 is, sym (same_some _ _ to))))
+    (λ four. some_if (NextPhase phase decided mask next) (phase == 9) _ _ next
+    (λ is to. inr (inr (inl (number phase 9 is, sym (same_some _ _ to)))))
     (λ nine. some_if (NextPhase phase decided mask next) ((phase == 16) || nat_le 24 phase) _ _ next (λ is to. absurd cc)
-    (λ ends. some_if (NextPhase phase decided mask next) (phase == 18) _ _ next (λ is to. inr (inr (inr (inl (number phase 18 is, sym (same_some _ _ to))))))
+    (λ ends. some_if (NextPhase phase decided mask next) (phase == 18) _ _ next
+    (λ is to. inr (inr (inr (inl (number phase 18 is, sym (same_some _ _ to))))))
     (λ eighteen to. inr (inr (inr (inr (
       record {
         one = other_number phase 1 one;
@@ -63,7 +68,8 @@ next_phase phase decided mask next =
 -- ---- behind the decision
 
 -- the next number, where the phase has no rule of its own
-plain_on : (phase : ℕ) (decided : Option Decision) (mask next : ℕ) → phase ≢ 1 → phase ≢ 4 → phase ≢ 9 → phase ≢ 18 → NextPhase phase decided mask next → next ≡ phase + 1
+plain_on : (phase : ℕ) (decided : Option Decision) (mask next : ℕ) → phase ≢ 1 → phase ≢ 4 → phase ≢ 9 → phase ≢ 18
+    → NextPhase phase decided mask next → next ≡ phase + 1
 plain_on phase decided mask next one four nine eighteen (inl (at, to)) = absurd (one at)
 plain_on phase decided mask next one four nine eighteen (inr (inl (at, to))) = absurd (four at)
 plain_on phase decided mask next one four nine eighteen (inr (inr (inl (at, to)))) = absurd (nine at)
@@ -90,31 +96,39 @@ zero_mask false mask next is zero to = absurd (other_number mask 0 is zero)
 
 empty_4 : (phase mask next : ℕ) → mask ≡ 0 → phase ≡ 4 → NextPhase phase (Some decision.PoolEmpty) mask next → 17 ≤ next
 empty_4 phase mask next zero at (inl (one, to)) = absurd (omega arith)
-empty_4 phase mask next zero at (inr (inl (four, to))) = let is : next ≡ 19 = zero_mask (mask == 0) mask next refl zero to in omega arith
+empty_4 phase mask next zero at (inr (inl (four, to))) = let is : next ≡ 19 = zero_mask (mask == 0) mask next refl zero to in
+    omega arith
 empty_4 phase mask next zero at (inr (inr (inl (nine, to)))) = absurd (omega arith)
 empty_4 phase mask next zero at (inr (inr (inr (inl (eighteen, to))))) = absurd (omega arith)
 empty_4 phase mask next zero at (inr (inr (inr (inr (plain, to))))) = absurd (plain.four at)
 
-entered_on : (phase mask next : ℕ) → 9 ≤ phase → phase ≤ 16 → NextPhase phase (Some decision.Entered) mask next → (9 ≤ next) × (next ≤ 16)
+entered_on : (phase mask next : ℕ) → 9 ≤ phase → phase ≤ 16 → NextPhase phase (Some decision.Entered) mask next
+    → (9 ≤ next) × (next ≤ 16)
 entered_on phase mask next from to (inl (one, is)) = absurd (omega arith)
 entered_on phase mask next from to (inr (inl (four, is))) = absurd (omega arith)
 entered_on phase mask next from to (inr (inr (inl (nine, is)))) = (omega arith, omega arith)
 entered_on phase mask next from to (inr (inr (inr (inl (eighteen, is))))) = absurd (omega arith)
-entered_on phase mask next from to (inr (inr (inr (inr (plain, is))))) = let apart = plain.sixteen in (omega arith, omega (arith, apart))
+entered_on phase mask next from to (inr (inr (inr (inr (plain, is))))) = let apart = plain.sixteen in
+    (omega arith, omega (arith, apart))
 
-follows_by : (decided : Decision) (phase mask next : ℕ) → FollowsDecision decided phase mask → NextPhase phase (Some decided) mask next → FollowsDecision decided next mask
+follows_by : (decided : Decision) (phase mask next : ℕ) → FollowsDecision decided phase mask
+    → NextPhase phase (Some decided) mask next → FollowsDecision decided next mask
 follows_by decision.WrongKey phase mask next (inl at) is = inr (wrong_key_1 phase mask next at is)
 follows_by decision.WrongKey phase mask next (inr from) is = inr (from_17 phase (Some decision.WrongKey) mask next from is)
 follows_by decision.PoolEmpty phase mask next (inl (zero, inl three)) is =
-    let to : next ≡ phase + 1 = plain_on phase (Some decision.PoolEmpty) mask next (λ at. omega arith) (λ at. omega arith) (λ at. omega arith) (λ at. omega arith) is in
+    let to : next ≡ phase + 1 =
+    plain_on phase (Some decision.PoolEmpty) mask next (λ at. omega arith) (λ at. omega arith) (λ at. omega arith)
+    (λ at. omega arith) is in
     inl (zero, inr (omega arith))
 follows_by decision.PoolEmpty phase mask next (inl (zero, inr four)) is = inr (empty_4 phase mask next zero four is)
 follows_by decision.PoolEmpty phase mask next (inr from) is = inr (from_17 phase (Some decision.PoolEmpty) mask next from is)
 follows_by decision.Entered phase mask next (from, to) is = entered_on phase mask next from to is
 
-pub follows_on : (decided : Decision) (phase mask next : ℕ) → FollowsDecision decided phase mask → phase_after phase (Some decided) mask ≡ Some next
+pub follows_on : (decided : Decision) (phase mask next : ℕ) → FollowsDecision decided phase mask
+    → phase_after phase (Some decided) mask ≡ Some next
     → FollowsDecision decided next mask
-follows_on decided phase mask next follows is = follows_by decided phase mask next follows (next_phase phase (Some decided) mask next is)
+follows_on decided phase mask next follows is =
+    follows_by decided phase mask next follows (next_phase phase (Some decided) mask next is)
 
 -- ---- deciding
 
@@ -137,37 +151,46 @@ saw phase fits pool mask =
     claim_if (Saw phase fits pool mask) fits _ _ (λ is. ((λ at. is), (λ two. omega arith))) (λ is. (zero_phase, is)))
     (λ not_0. claim_if (Saw phase fits pool mask) (phase == 2) _ _
     (λ at. let two_phase = number phase 2 at in
-    claim_if (Saw phase fits pool mask) (pool == 0) _ _ (λ is. (two_phase, number pool 0 is)) (λ is. ((λ one. absurd (other_number phase 0 not_0 one)), (λ two. other_number pool 0 is))))
+    claim_if (Saw phase fits pool mask) (pool == 0) _ _ (λ is. (two_phase, number pool 0 is))
+    (λ is. ((λ one. absurd (other_number phase 0 not_0 one)), (λ two. other_number pool 0 is))))
     (λ not_2. claim_if (Saw phase fits pool mask) (phase == 8) _ _
     (λ at. claim_if (Saw phase fits pool mask) (pool == mask) _ _ (λ is. (number phase 8 at, number pool mask is))
     (λ is. ((λ one. absurd (other_number phase 0 not_0 one)), (λ two. absurd (other_number phase 2 not_2 two)))))
     (λ not_8. ((λ one. absurd (other_number phase 0 not_0 one)), (λ two. absurd (other_number phase 2 not_2 two))))))
 
 -- the decision of a phase is one of the three that it decides
-pub decides : (phase : ℕ) (fits : Bool) (pool mask : ℕ) (decided : Decision) → decided_at phase fits pool mask ≡ Some decided → Decides phase fits pool mask decided
+pub decides : (phase : ℕ) (fits : Bool) (pool mask : ℕ) (decided : Decision) → decided_at phase fits pool mask ≡ Some decided
+    → Decides phase fits pool mask decided
 decides phase fits pool mask decided is = subst (Saw phase fits pool mask) is (saw phase fits pool mask)
 
 -- a phase that follows a decision decides nothing
-not_deciding : (decided : Decision) (phase mask : ℕ) → FollowsDecision decided phase mask → (phase ≢ 0) × (phase ≢ 2) × (phase ≢ 8)
+not_deciding : (decided : Decision) (phase mask : ℕ) → FollowsDecision decided phase mask
+    → (phase ≢ 0) × (phase ≢ 2) × (phase ≢ 8)
 not_deciding decision.WrongKey phase mask (inl follows) = ((λ at. omega arith), (λ at. omega arith), (λ at. omega arith))
 not_deciding decision.WrongKey phase mask (inr follows) = ((λ at. omega arith), (λ at. omega arith), (λ at. omega arith))
-not_deciding decision.PoolEmpty phase mask (inl (zero, inl follows)) = ((λ at. omega arith), (λ at. omega arith), (λ at. omega arith))
-not_deciding decision.PoolEmpty phase mask (inl (zero, inr follows)) = ((λ at. omega arith), (λ at. omega arith), (λ at. omega arith))
+not_deciding decision.PoolEmpty phase mask (inl (zero, inl follows)) =
+    ((λ at. omega arith), (λ at. omega arith), (λ at. omega arith))
+not_deciding decision.PoolEmpty phase mask (inl (zero, inr follows)) =
+    ((λ at. omega arith), (λ at. omega arith), (λ at. omega arith))
 not_deciding decision.PoolEmpty phase mask (inr follows) = ((λ at. omega arith), (λ at. omega arith), (λ at. omega arith))
 not_deciding decision.Entered phase mask (from, to) = ((λ at. omega arith), (λ at. omega arith), (λ at. omega arith))
 
-deciding : (decided : Decision) (phase : ℕ) (fits : Bool) (pool mask : ℕ) → Decides phase fits pool mask decided → phase ≢ 0 → phase ≢ 2 → phase ≢ 8 → ⊥
+deciding : (decided : Decision) (phase : ℕ) (fits : Bool) (pool mask : ℕ) → Decides phase fits pool mask decided → phase ≢ 0
+    → phase ≢ 2 → phase ≢ 8 → ⊥
 deciding decision.WrongKey phase fits pool mask at one two eight = one at.0
 deciding decision.PoolEmpty phase fits pool mask at one two eight = two at.0
 deciding decision.Entered phase fits pool mask at one two eight = eight at.0
 
-none_where : (first : Decision) (phase : ℕ) (fits : Bool) (pool mask other : ℕ) (found : Option Decision) → FollowsDecision first phase mask
+none_where : (first : Decision) (phase : ℕ) (fits : Bool) (pool mask other : ℕ) (found : Option Decision)
+    → FollowsDecision first phase mask
     → Saw phase fits pool other found → found ≡ None
 none_where first phase fits pool mask other None follows seen = refl
 none_where first phase fits pool mask other (Some second) follows seen =
-    let apart = not_deciding first phase mask follows in absurd (deciding second phase fits pool other seen apart.0 apart.1 apart.2)
+    let apart = not_deciding first phase mask follows in
+    absurd (deciding second phase fits pool other seen apart.0 apart.1 apart.2)
 
-pub decides_no_more : (first : Decision) (phase : ℕ) (fits : Bool) (pool mask other : ℕ) → FollowsDecision first phase mask → decided_at phase fits pool other ≡ None
+pub decides_no_more : (first : Decision) (phase : ℕ) (fits : Bool) (pool mask other : ℕ) → FollowsDecision first phase mask
+    → decided_at phase fits pool other ≡ None
 decides_no_more first phase fits pool mask other follows =
     none_where first phase fits pool mask other (decided_at phase fits pool other) follows (saw phase fits pool other)
 
@@ -176,25 +199,34 @@ pub loads_no_more : (decided : Decision) (phase mask : ℕ) → FollowsDecision 
 loads_no_more decided phase mask follows = (not_deciding decided phase mask follows).1
 
 -- the phase behind the deciding one follows the decision
-decided_on : (decided : Decision) (phase : ℕ) (fits : Bool) (pool old mask next : ℕ) → Decides phase fits pool old decided → (phase ≡ 2 → mask ≡ pool) → NextPhase phase (Some decided) mask next
+decided_on : (decided : Decision) (phase : ℕ) (fits : Bool) (pool old mask next : ℕ) → Decides phase fits pool old decided
+    → (phase ≡ 2 → mask ≡ pool) → NextPhase phase (Some decided) mask next
     → FollowsDecision decided next mask
 decided_on decision.WrongKey phase fits pool old mask next at loads is =
     let zero_phase : phase ≡ 0 = at.0 in
-    let to : next ≡ phase + 1 = plain_on phase (Some decision.WrongKey) mask next (λ one. omega arith) (λ four. omega arith) (λ nine. omega arith) (λ eighteen. omega arith) is in
+    let to : next ≡ phase + 1 =
+    plain_on phase (Some decision.WrongKey) mask next (λ one. omega arith) (λ four. omega arith) (λ nine. omega arith)
+    (λ eighteen. omega arith) is in
     inl (omega arith)
 decided_on decision.PoolEmpty phase fits pool old mask next at loads is =
     let two : phase ≡ 2 = at.0 in
-    let to : next ≡ phase + 1 = plain_on phase (Some decision.PoolEmpty) mask next (λ one. omega arith) (λ four. omega arith) (λ nine. omega arith) (λ eighteen. omega arith) is in
+    let to : next ≡ phase + 1 =
+    plain_on phase (Some decision.PoolEmpty) mask next (λ one. omega arith) (λ four. omega arith) (λ nine. omega arith)
+    (λ eighteen. omega arith) is in
     inl (loads at.0 ∙ at.1, inl (omega arith))
 decided_on decision.Entered phase fits pool old mask next at loads is =
     let eight : phase ≡ 8 = at.0 in
-    let to : next ≡ phase + 1 = plain_on phase (Some decision.Entered) mask next (λ one. omega arith) (λ four. omega arith) (λ nine. omega arith) (λ eighteen. omega arith) is in
+    let to : next ≡ phase + 1 =
+    plain_on phase (Some decision.Entered) mask next (λ one. omega arith) (λ four. omega arith) (λ nine. omega arith)
+    (λ eighteen. omega arith) is in
     (omega arith, omega arith)
 
-pub follows_first : (decided : Decision) (phase : ℕ) (fits : Bool) (pool old mask next : ℕ) → decided_at phase fits pool old ≡ Some decided → (phase ≡ 2 → mask ≡ pool)
+pub follows_first : (decided : Decision) (phase : ℕ) (fits : Bool) (pool old mask next : ℕ)
+    → decided_at phase fits pool old ≡ Some decided → (phase ≡ 2 → mask ≡ pool)
     → phase_after phase (Some decided) mask ≡ Some next → FollowsDecision decided next mask
 follows_first decided phase fits pool old mask next at loads is =
-    decided_on decided phase fits pool old mask next (decides phase fits pool old decided at) loads (next_phase phase (Some decided) mask next is)
+    decided_on decided phase fits pool old mask next (decides phase fits pool old decided at) loads
+    (next_phase phase (Some decided) mask next is)
 
 -- ---- before the decision
 
@@ -202,14 +234,17 @@ not_zero : (test : Bool) (mask next : ℕ) → (mask == 0) ≡ test → mask ≢
 not_zero true mask next is some to = absurd (some (number mask 0 is))
 not_zero false mask next is some to = to
 
-undecided_on : (phase mask next : ℕ) → phase ≤ 9 → (phase ≡ 4 → mask ≢ 0) → NextPhase phase None mask next → (next ≤ 9) × (3 ≤ next → 2 ≤ phase)
+undecided_on : (phase mask next : ℕ) → phase ≤ 9 → (phase ≡ 4 → mask ≢ 0) → NextPhase phase None mask next
+    → (next ≤ 9) × (3 ≤ next → 2 ≤ phase)
 undecided_on phase mask next early some (inl (at, to)) = (omega arith, λ late. omega arith)
 undecided_on phase mask next early some (inr (inl (at, to))) =
     let is : next ≡ 5 = not_zero (mask == 0) mask next refl (some at) to in (omega arith, λ late. omega arith)
 undecided_on phase mask next early some (inr (inr (inl (at, to)))) = (omega arith, λ late. omega arith)
 undecided_on phase mask next early some (inr (inr (inr (inl (at, to))))) = absurd (omega arith)
-undecided_on phase mask next early some (inr (inr (inr (inr (plain, to))))) = let apart = plain.nine in (omega (arith, apart), λ late. omega arith)
+undecided_on phase mask next early some (inr (inr (inr (inr (plain, to))))) = let apart = plain.nine in
+    (omega (arith, apart), λ late. omega arith)
 
 -- the phase behind one that did not decide
-pub stays_undecided : (phase mask next : ℕ) → phase ≤ 9 → (phase ≡ 4 → mask ≢ 0) → phase_after phase None mask ≡ Some next → (next ≤ 9) × (3 ≤ next → 2 ≤ phase)
+pub stays_undecided : (phase mask next : ℕ) → phase ≤ 9 → (phase ≡ 4 → mask ≢ 0) → phase_after phase None mask ≡ Some next
+    → (next ≤ 9) × (3 ≤ next → 2 ≤ phase)
 stays_undecided phase mask next early some is = undecided_on phase mask next early some (next_phase phase None mask next is)

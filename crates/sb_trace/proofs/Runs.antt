@@ -7,8 +7,10 @@ use Rattle.sb_trace.specs.Run.{RunBy}
 
 -- ---- one more step
 
-pub run_push : (S : Type 0) (step : S → ℕ → Event → S → Type 0) (old mid new : S) (cores : List ℕ) (lines : List Line) (line : Line)
-    → RunBy step old cores lines mid → step mid line.core line.event new → RunBy step old (cores ++ line.core ∷ []) (lines ++ line ∷ []) new
+pub run_push : (S : Type 0) (step : S → ℕ → Event → S
+    → Type 0) (old mid new : S) (cores : List ℕ) (lines : List Line) (line : Line)
+    → RunBy step old cores lines mid → step mid line.core line.event new
+    → RunBy step old (cores ++ line.core ∷ []) (lines ++ line ∷ []) new
 run_push S step old mid new [] [] line run last =
     (refl, (new, subst (λ (state : S). step state line.core line.event new) run last, refl))
 run_push S step old mid new (core ∷ cores) (first ∷ lines) line (same, (next, begun, rest)) last =
@@ -17,7 +19,8 @@ run_push S step old mid new [] (first ∷ lines) line run last = absurd run
 run_push S step old mid new (core ∷ cores) [] line run last = absurd run
 
 -- the step of the next entry of a schedule
-pub run_more : (S : Type 0) (step : S → ℕ → Event → S → Type 0) (old mid new : S) (schedule : List ℕ) (index : ℕ) (lines : List Line) (line : Line)
+pub run_more : (S : Type 0) (step : S → ℕ → Event → S
+    → Type 0) (old mid new : S) (schedule : List ℕ) (index : ℕ) (lines : List Line) (line : Line)
     → index < length schedule → line.core ≡ get_or schedule index 0
     → RunBy step old (take index schedule) lines mid → step mid line.core line.event new
     → RunBy step old (take (index + 1) schedule) (lines ++ line ∷ []) new
@@ -31,18 +34,24 @@ run_more S step old mid new schedule index lines line inside core run last =
 -- a step that has one outcome
 abbrev pub HasOneOutcome : (S : Type 0) → (S → ℕ → Event → S → Type 0) → Type 0
 HasOneOutcome S step =
-    (old : S) (core : ℕ) (event other : Event) (new another : S) → step old core event new → step old core other another → (event ≡ other) × (new ≡ another)
+    (old : S) (core : ℕ) (event other : Event) (new another : S) → step old core event new → step old core other another
+    → (event ≡ other) × (new ≡ another)
 
 abbrev line_of : ℕ → Event → Line
 line_of core event = record { core = core; event = event }
 
 same_line : (line other : Line) → line.core ≡ other.core → line.event ≡ other.event → line ≡ other
-same_line line other cores events = ap (λ (core : ℕ). line_of core line.event) cores ∙ ap (λ (event : Event). line_of other.core event) events
+same_line line other cores events =
+    ap (λ (core : ℕ). line_of core line.event) cores ∙ ap (λ (event : Event). line_of other.core event) events
 
-pub one_run : (S : Type 0) (step : S → ℕ → Event → S → Type 0) → HasOneOutcome S step → (old new another : S) (cores : List ℕ) (lines others : List Line)
+pub one_run : (S : Type 0) (step : S → ℕ → Event → S → Type 0) → HasOneOutcome S step
+    → (old new another : S) (cores : List ℕ) (lines others : List Line)
     → RunBy step old cores lines new → RunBy step old cores others another → (lines ≡ others) × (new ≡ another)
 one_run S step one old new another [] [] [] run second = (refl, run ∙ sym second)
-one_run S step one old new another (core ∷ cores) (line ∷ lines) (other ∷ others) (at, (mid, first, rest)) (at', (mid', first', rest')) =
+one_run S step one old new another (core ∷ cores) (line ∷ lines) (other ∷ others) (at, (mid, first, rest)) (
+  at',
+  (mid', first', rest'),
+) =
     let step_one = one old core line.event other.event mid mid' first first' in
     let rest_one = one_run S step one mid new another cores lines others rest
     (subst (λ (state : S). RunBy step state cores others another) (sym step_one.1) rest') in

@@ -25,8 +25,8 @@ use Rattle.sb_state.specs.State.{State, thread_at, no_thread, with_thread, with_
 use Rattle.sb_state.specs.PlainMemory.{plain}
 use Rattle.sb_trace.specs.Home.{Outcome}
 use Rattle.sb_trace.specs.KernelCall.{kernel_call}
-use Rattle.sb_trace.specs.Flight.{switched, switched_into, called_binding, flown, landed, advanced, first_flight, switch_phase}
-use Rattle.sb_trace.specs.Step.{StopsWith, PerformsBy, FollowsFetch, RunsOn, executed, done, GoesOn, StepsBy}
+use Rattle.sb_trace.specs.Flight.{vmfunc_outcome, vmfunc_outcome_by, called_binding, landing_step, phase_outcome, next_flight, first_flight, vmfunc_phase}
+use Rattle.sb_trace.specs.Step.{StopsWith, PerformsBy, FollowsFetch, RunsOn, execution_in_view, outcome_by_effect, GoesOn, StepsBy}
 use Rattle.sb_trace.specs.Sound.{HasView}
 use Rattle.sb_trace.specs.Changes.{OnlyPages, CallChanges, LineChanges, StepChanges, WritesOpen}
 use Rattle.sb_trace.specs.Laws.{StepsChange}
@@ -42,15 +42,17 @@ use Rattle.sb_trace.proofs.Kernel.{Did, did_fault, did_call, did_syscall}
 
 -- what is said of what an instruction does, by its effect; `switch` is what VMFUNC does
 pub did_next : (state : State) (core view : ℕ) (insn : Insn) (regs regs' : Regs) → view ≡ (thread_at state core).view
-    → Did state core (StepLine regs.rip, with_regs (executed state core view insn regs).meaning core regs')
+    → Did state core (StepLine regs.rip, with_regs (execution_in_view state core view insn regs).meaning core regs')
 unfolding with_regs thread_at
 did_next state core view insn regs regs' is =
     let written = execution_written core view (row_of insn regs) regs state in
-    let mid = (executed state core view insn regs).meaning in
+    let mid = (execution_in_view state core view insn regs).meaning in
     let thread : Thread = record (thread_at mid core) { regs = regs' } in
     record {
       changes = record {
-        thread = only_both state core mid (with_thread mid core thread) (only_none state core mid written.keeps.threads written.keeps.flights) (only_thread mid core thread refl);
+        thread =
+            only_both state core mid (with_thread mid core thread)
+            (only_none state core mid written.keeps.threads written.keeps.flights) (only_thread mid core thread refl);
         rest = subst (λ (v : ℕ). WritesOpen state core v (with_thread mid core thread)) is (record {
           closed = written.closed;
           shapes = written.keeps.shapes;
@@ -62,41 +64,54 @@ did_next state core view insn regs regs' is =
       flights = written.keeps.flights;
       own = tt;
       view = λ given.
-          let there : HasView (thread_at mid core) = subst (λ (list : List Thread). HasView (unwrap_or (slice_get list core) no_thread)) (sym written.keeps.threads) given in
+          let there : HasView (thread_at mid core) =
+          subst (λ (list : List Thread). HasView (unwrap_or (slice_get list core) no_thread))
+          (sym written.keeps.threads) given in
           thread_set HasView mid core thread there there;
     }
 
-stops_claim : (Claim : Outcome → Type 0) (state : State) (core : ℕ) (stop : BusStop) → ((outcome : Outcome) → Did state core outcome → Claim outcome)
+stops_claim : (Claim : Outcome → Type 0) (state : State) (core : ℕ) (stop : BusStop)
+    → ((outcome : Outcome) → Did state core outcome → Claim outcome)
     → (outcome : Outcome) → StopsWith state core stop outcome → Claim outcome
-stops_claim Claim state core (FaultStop kind address) own outcome is = subst Claim (sym is) (own _ (did_fault state core kind address.0))
+stops_claim Claim state core (FaultStop kind address) own outcome is =
+    subst Claim (sym is) (own _ (did_fault state core kind address.0))
 stops_claim Claim state core (Missing frame) own outcome is = absurd is
 
 performs_claim : (Claim : Outcome → Type 0) (switch : State → ℕ → Outcome) (state : State) (core : ℕ) (insn : Insn) (regs : Regs)
     (answer : Result Effect BusStop) (regs' : Regs) (state' : State)
     → Claim (StepLine regs.rip, with_regs state' core regs') → ((outcome : Outcome) → Did state core outcome → Claim outcome)
-    → (answer ≡ Ok Switch → Claim (switch state core)) → (outcome : Outcome) → PerformsBy switch state core insn regs answer regs' state' outcome → Claim outcome
+    → (answer ≡ Ok Switch → Claim (switch state core)) → (outcome : Outcome)
+    → PerformsBy switch state core insn regs answer regs' state' outcome → Claim outcome
 performs_claim Claim switch state core insn regs (Ok Next) regs' state' next own switches outcome is = subst Claim (sym is) next
-performs_claim Claim switch state core insn regs (Ok Syscall) regs' state' next own switches outcome is = subst Claim (sym is) (own _ (did_syscall state core (after_syscall (next_rip insn regs) regs)))
+performs_claim Claim switch state core insn regs (Ok Syscall) regs' state' next own switches outcome is =
+    subst Claim (sym is) (own _ (did_syscall state core (after_syscall (next_rip insn regs) regs)))
 performs_claim Claim switch state core insn regs (Ok Undefined) regs' state' next own switches outcome is =
     subst Claim (sym is) (own _ (did_fault state core kind.Undefined regs.rip))
-performs_claim Claim switch state core insn regs (Ok Switch) regs' state' next own switches outcome is = subst Claim (sym is) (switches refl)
-performs_claim Claim switch state core insn regs (Err stop) regs' state' next own switches outcome is = stops_claim Claim state core stop own outcome is
+performs_claim Claim switch state core insn regs (Ok Switch) regs' state' next own switches outcome is =
+    subst Claim (sym is) (switches refl)
+performs_claim Claim switch state core insn regs (Err stop) regs' state' next own switches outcome is =
+    stops_claim Claim state core stop own outcome is
 
 follows : (Claim : Outcome → Type 0) (switch : State → ℕ → Outcome) (state : State) (core view : ℕ) (regs : Regs)
-    → ((insn : Insn) (regs' : Regs) → Claim (StepLine regs.rip, with_regs (executed state core view insn regs).meaning core regs'))
+    → ((insn : Insn) (regs' : Regs)
+    → Claim (StepLine regs.rip, with_regs (execution_in_view state core view insn regs).meaning core regs'))
     → ((outcome : Outcome) → Did state core outcome → Claim outcome)
     → (Stands (fetch_of (plain core view) state) regs.rip pattern → Claim (switch state core))
-    → (outcome : Outcome) (fetched : Result Insn BusStop) → FetchesOn (plain core view) state regs.rip tt tt fetched → FollowsFetch switch state core view regs fetched outcome → Claim outcome
+    → (outcome : Outcome) (fetched : Result Insn BusStop) → FetchesOn (plain core view) state regs.rip tt tt fetched
+    → FollowsFetch switch state core view regs fetched outcome → Claim outcome
 follows Claim switch state core view regs next own switches outcome (Ok insn) fetches is =
-    performs_claim Claim switch state core insn regs (executed state core view insn regs).answer (executed state core view insn regs).registers
-    (executed state core view insn regs).meaning (next insn _) own
+    performs_claim Claim switch state core insn regs (execution_in_view state core view insn regs).answer
+    (execution_in_view state core view insn regs).registers
+    (execution_in_view state core view insn regs).meaning (next insn _) own
     (λ answers. switches (vmfunc_stands (fetch_of (plain core view) state) regs.rip fetches.asked insn
     (switch_ends (plain core view) insn regs state tt fetches.fetched.ends.0.0 answers) fetches.fetched)) outcome is
-follows Claim switch state core view regs next own switches outcome (Err stop) fetches is = stops_claim Claim state core stop own outcome is
+follows Claim switch state core view regs next own switches outcome (Err stop) fetches is =
+    stops_claim Claim state core stop own outcome is
 
 -- Each outcome of an instruction: VMFUNC's, where its bytes stand, is what is claimed of it.
 pub instruction_claims : (Claim : Outcome → Type 0) (switch : State → ℕ → Outcome) (state : State) (core view : ℕ) (regs : Regs)
-    → ((insn : Insn) (regs' : Regs) → Claim (StepLine regs.rip, with_regs (executed state core view insn regs).meaning core regs'))
+    → ((insn : Insn) (regs' : Regs)
+    → Claim (StepLine regs.rip, with_regs (execution_in_view state core view insn regs).meaning core regs'))
     → ((outcome : Outcome) → Did state core outcome → Claim outcome)
     → (Stands (fetch_of (plain core view) state) regs.rip pattern → Claim (switch state core))
     → (outcome : Outcome) → RunsOn switch state core view regs outcome → Claim outcome
@@ -105,7 +120,8 @@ instruction_claims Claim switch state core view regs next own switches outcome r
 
 -- ---- landings
 
-flight_changes : (state : State) (core phase : ℕ) (flight : Option Flight) → StepChanges state core (Landing phase) (with_flight state core flight)
+flight_changes : (state : State) (core phase : ℕ) (flight : Option Flight)
+    → StepChanges state core (Landing phase) (with_flight state core flight)
 unfolding with_flight
 flight_changes state core phase flight = record {
   thread = only_flight state core flight;
@@ -114,9 +130,11 @@ flight_changes state core phase flight = record {
 
 -- ---- a flight that changes too, in a step of the kernel
 
-too_pages : (old : State) (pages : List Page) (new : State) (core : ℕ) (flight : Option Flight) → OnlyPages old pages new → OnlyPages old pages (with_flight new core flight)
+too_pages : (old : State) (pages : List Page) (new : State) (core : ℕ) (flight : Option Flight) → OnlyPages old pages new
+    → OnlyPages old pages (with_flight new core flight)
 unfolding with_flight
-too_pages old pages new core flight only = record { become = only.become; processes = only.processes; free = only.free; keys = only.keys }
+too_pages old pages new core flight only =
+    record { become = only.become; processes = only.processes; free = only.free; keys = only.keys }
 
 too_call : (old : State) (core number answer : ℕ) (new : State) (flight : Option Flight) → CallChanges old core number answer new
     → CallChanges old core number answer (with_flight new core flight)
@@ -125,7 +143,8 @@ too_call old core number answer new flight (inl (refused, only)) = inl (refused,
 too_call old core number answer new flight (inr (inl (done, call, adds))) =
     inr (inl (done, call, record { word = adds.word; stacks = adds.stacks; pages = adds.pages; keys = adds.keys }))
 too_call old core number answer new flight (inr (inr (inl (done, call, adds)))) =
-    inr (inr (inl (done, call, record { index = adds.index; words = adds.words; pages = adds.pages; processes = adds.processes })))
+    inr (inr
+    (inl (done, call, record { index = adds.index; words = adds.words; pages = adds.pages; processes = adds.processes })))
 too_call old core number answer new flight (inr (inr (inr (done, call, changes)))) =
     inr (inr (inr (
       done,
@@ -169,34 +188,42 @@ flight_too old core event new flight changes = record {
 abbrev Changes : State → ℕ → Outcome → Type 0
 Changes old core outcome = StepChanges old core outcome.0 outcome.1
 
-into_changes : (state : State) (core : ℕ) (found : Option Binding) → Changes state core (switched_into state core found)
+into_changes : (state : State) (core : ℕ) (found : Option Binding) → Changes state core (vmfunc_outcome_by state core found)
 into_changes state core None = (did_call state core).changes
-into_changes state core (Some binding) = flight_changes state core switch_phase (Some (first_flight binding.index))
+into_changes state core (Some binding) = flight_changes state core vmfunc_phase (Some (first_flight binding.index))
 
-switch_changes : (state : State) (core : ℕ) → Changes state core (switched state core)
-unfolding switched
+switch_changes : (state : State) (core : ℕ) → Changes state core (vmfunc_outcome state core)
+unfolding vmfunc_outcome
 switch_changes state core = into_changes state core (called_binding (thread_at state core))
 
-landed_changes : (state : State) (core : ℕ) (flight : Flight) (decided : Option Decision) → Changes state core (landed state core flight decided)
-landed_changes state core flight None = flight_changes state core flight.phase (advanced flight)
+landed_changes : (state : State) (core : ℕ) (flight : Flight) (decided : Option Decision)
+    → Changes state core (phase_outcome state core flight decided)
+landed_changes state core flight None = flight_changes state core flight.phase (next_flight flight)
 landed_changes state core flight (Some decided) =
-    flight_too state core (kernel_call state core).0 (kernel_call state core).1 (advanced (record flight { decided = Some decided })) (did_call state core).changes
+    flight_too state core (kernel_call state core).0 (kernel_call state core).1
+    (next_flight (record flight { decided = Some decided })) (did_call state core).changes
 
-flown_changes : (state : State) (core : ℕ) (flight : Flight) → Changes state core (flown state core flight)
-unfolding flown
+flown_changes : (state : State) (core : ℕ) (flight : Flight) → Changes state core (landing_step state core flight)
+unfolding landing_step
 flown_changes state core flight = landed_changes state core _ _
 
-on_changes : (state : State) (core : ℕ) (flight : Option Flight) (outcome : Outcome) → GoesOn state core (thread_at state core) flight outcome → Changes state core outcome
+on_changes : (state : State) (core : ℕ) (flight : Option Flight) (outcome : Outcome)
+    → GoesOn state core (thread_at state core) flight outcome → Changes state core outcome
 on_changes state core None outcome runs =
-    instruction_claims (Changes state core) switched state core (thread_at state core).view (thread_at state core).regs
+    instruction_claims (Changes state core) vmfunc_outcome state core (thread_at state core).view (thread_at state core).regs
     (λ insn regs'. (did_next state core (thread_at state core).view insn (thread_at state core).regs regs' refl).changes)
     (λ one did. did.changes) (λ stands. switch_changes state core) outcome runs
 on_changes state core (Some flight) outcome is = subst (Changes state core) (sym is) (flown_changes state core flight)
 
 idle_changes : (state : State) (core : ℕ) → Changes state core (Idle, state)
-idle_changes state core = record { thread = only_none state core state refl refl; rest = record { become = refl; processes = refl; free = refl; keys = refl } }
+idle_changes state core =
+    record {
+      thread = only_none state core state refl refl;
+      rest = record { become = refl; processes = refl; free = refl; keys = refl };
+    }
 
-by_changes : (state : State) (core : ℕ) (end : EndKind) (outcome : Outcome) → StepsBy state core (thread_at state core) end outcome → Changes state core outcome
+by_changes : (state : State) (core : ℕ) (end : EndKind) (outcome : Outcome)
+    → StepsBy state core (thread_at state core) end outcome → Changes state core outcome
 by_changes state core Running outcome runs = on_changes state core (flight_at state core) outcome runs
 by_changes state core (Ended status) outcome is = subst (Changes state core) (sym is) (idle_changes state core)
 by_changes state core (Faulted kind address) outcome is = subst (Changes state core) (sym is) (idle_changes state core)

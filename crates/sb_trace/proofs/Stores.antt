@@ -17,8 +17,8 @@ use Rattle.sb_state.specs.declared.page.Page.{Page}
 use Rattle.sb_state.specs.declared.page.Seen.{Seen}
 use Rattle.sb_state.specs.PageName.{same_name, mode_of, permits}
 use Rattle.sb_state.specs.State.{State, find_page, contents, with_contents, bytes_of}
-use Rattle.sb_state.specs.Windows.{page_seen, seen, seen_as, name_at, shown}
-use Rattle.sb_state.specs.PlainMemory.{Placed, placed, placed_at, put_byte, put_all, plain_stored, plain, plain_byte, byte_seen, is_canonical, fault_at}
+use Rattle.sb_state.specs.Windows.{page_for, page_by_name, page_and_mode, name_at, process_shown}
+use Rattle.sb_state.specs.PlainMemory.{Placed, bytes_to_put, placed_at, put_byte, put_all, plain_stored, plain, plain_byte, byte_seen, is_canonical, fault_at}
 use Rattle.sb_trace.specs.Changes.{IsClosed, Shape, shape_of}
 use Rattle.sb_state.proofs.Names.{name_same, name_other}
 use Rattle.sb_state.proofs.Pages.{with_bytes, found_other, found_same}
@@ -28,18 +28,22 @@ use Rattle.sb_state.proofs.Pages.{with_bytes, found_other, found_same}
 put_other : (state : State) (name other : PageName) (offset value : ℕ) → same_name name other ≡ false
     → find_page (put_byte state name offset value).pages other ≡ find_page state.pages other
 unfolding put_byte with_contents contents
-put_other state name other offset value apart = found_other state.pages name other (slice_set (bytes_of (find_page state.pages name)) offset value) apart
+put_other state name other offset value apart =
+    found_other state.pages name other (slice_set (bytes_of (find_page state.pages name)) offset value) apart
 
 shape_by : (found : Option Page) (offset value : ℕ)
     → option_map shape_of (option_map (with_bytes (slice_set (bytes_of found) offset value)) found) ≡ option_map shape_of found
 shape_by None offset value = refl
-shape_by (Some page) offset value = ap (λ (size : ℕ). Some (record { executable = page.executable; size = size })) (length-set page.bytes offset value)
+shape_by (Some page) offset value =
+    ap (λ (size : ℕ). Some (record { executable = page.executable; size = size })) (length-set page.bytes offset value)
 
 shape_if : (test : Bool) (state : State) (name other : PageName) (offset value : ℕ) → same_name name other ≡ test
-    → option_map shape_of (find_page (put_byte state name offset value).pages other) ≡ option_map shape_of (find_page state.pages other)
+    → option_map shape_of (find_page (put_byte state name offset value).pages other)
+    ≡ option_map shape_of (find_page state.pages other)
 unfolding put_byte with_contents contents
 shape_if true state name other offset value is =
-    subst (λ (n : PageName). option_map shape_of (find_page (put_byte state name offset value).pages n) ≡ option_map shape_of (find_page state.pages n))
+    subst (λ (n : PageName). option_map shape_of (find_page (put_byte state name offset value).pages n)
+    ≡ option_map shape_of (find_page state.pages n))
     (name_same name other is)
     (ap (option_map shape_of) (found_same state.pages name (slice_set (bytes_of (find_page state.pages name)) offset value))
     ∙ shape_by (find_page state.pages name) offset value)
@@ -49,7 +53,8 @@ shape_if false state name other offset value is = ap (option_map shape_of) (put_
 
 -- pages keep their shapes, and all but pages stays
 pub record KeepsShapes (first state : State) : Type 0 where
-  pub shapes : (name : PageName) → option_map shape_of (find_page state.pages name) ≡ option_map shape_of (find_page first.pages name)
+  pub shapes : (name : PageName)
+      → option_map shape_of (find_page state.pages name) ≡ option_map shape_of (find_page first.pages name)
   pub processes : state.processes ≡ first.processes
   pub threads : state.threads ≡ first.threads
   pub flights : state.flights ≡ first.flights
@@ -80,17 +85,19 @@ keeps_both first second third one other = record {
 all_keep : (state : State) (bytes : List Placed) → KeepsShapes state (put_all state bytes)
 all_keep state [] = record { shapes = λ name. refl; processes = refl; threads = refl; flights = refl; free = refl; keys = refl }
 all_keep state (byte ∷ others) =
-    keeps_both state (put_byte state byte.name byte.offset byte.value) (put_all (put_byte state byte.name byte.offset byte.value) others)
+    keeps_both state (put_byte state byte.name byte.offset byte.value)
+    (put_all (put_byte state byte.name byte.offset byte.value) others)
     (put_keeps state byte.name byte.offset byte.value) (all_keep (put_byte state byte.name byte.offset byte.value) others)
 
-store_keeps : (thread view : ℕ) (state : State) (address size value : ℕ) → KeepsShapes state (plain_stored thread view state address size value)
+store_keeps : (thread view : ℕ) (state : State) (address size value : ℕ)
+    → KeepsShapes state (plain_stored thread view state address size value)
 unfolding plain_stored
-store_keeps thread view state address size value = all_keep state (placed state thread view address size value)
+store_keeps thread view state address size value = all_keep state (bytes_to_put state thread view address size value)
 
 -- ---- what is seen
 
 seen_by : (name : PageName) (found found' : Option Page) → option_map shape_of found' ≡ option_map shape_of found
-    → option_map (seen_as name) found' ≡ option_map (seen_as name) found
+    → option_map (page_and_mode name) found' ≡ option_map (page_and_mode name) found
 seen_by name None None same = refl
 seen_by name (Some page) None same = absurd cc
 seen_by name None (Some page') same = absurd cc
@@ -100,14 +107,18 @@ seen_by name (Some page) (Some page') same =
     ap (λ (executable : Bool). Some (record { name = name; mode = mode_of name executable })) equal
 
 seen_named : (first state : State) (name : Option PageName) → KeepsShapes first state
-    → option_and_then (seen state.pages) name ≡ option_and_then (seen first.pages) name
+    → option_and_then (page_by_name state.pages) name ≡ option_and_then (page_by_name first.pages) name
 seen_named first state None keeps = refl
-seen_named first state (Some name) keeps = seen_by name (find_page first.pages name) (find_page state.pages name) (keeps.shapes name)
+seen_named first state (Some name) keeps =
+    seen_by name (find_page first.pages name) (find_page state.pages name) (keeps.shapes name)
 
-pub seen_kept : (first state : State) (thread view page : ℕ) → KeepsShapes first state → page_seen state thread view page ≡ page_seen first thread view page
-unfolding page_seen
+pub seen_kept : (first state : State) (thread view page : ℕ) → KeepsShapes first state
+    → page_for state thread view page ≡ page_for first thread view page
+unfolding page_for
 seen_kept first state thread view page keeps =
-    rw keeps.threads (seen_named first state (option_and_then (name_at first.threads thread view page) (shown first.threads thread view)) keeps)
+    rw keeps.threads
+    (seen_named first state
+    (option_and_then (name_at first.threads thread view page) (process_shown first.threads thread view)) keeps)
 
 -- ---- the pages of a store
 
@@ -115,11 +126,13 @@ abbrev IsDone : {A : Type 0} → Result A BusStop → Type 0
 IsDone (Ok value) = Unit {0}
 IsDone (Err stop) = ⊥
 
-done_first : {A B : Type 0} (answer : Result A BusStop) (next : A → Result B BusStop) → IsDone (and_then answer next) → IsDone answer
+done_first : {A B : Type 0} (answer : Result A BusStop) (next : A → Result B BusStop) → IsDone (and_then answer next)
+    → IsDone answer
 done_first (Ok value) next given = tt
 done_first (Err stop) next given = given
 
-done_rest : (byte : Result ℕ BusStop) (rest : Result (List ℕ) BusStop) → IsDone (and_then byte (λ lowest. and_then rest (λ others. Ok (lowest ∷ others)))) → IsDone rest
+done_rest : (byte : Result ℕ BusStop) (rest : Result (List ℕ) BusStop)
+    → IsDone (and_then byte (λ lowest. and_then rest (λ others. Ok (lowest ∷ others)))) → IsDone rest
 done_rest (Ok lowest) rest given = done_first rest _ given
 done_rest (Err stop) rest given = absurd given
 
@@ -127,7 +140,8 @@ done_bytes : (bytes : Result (List ℕ) BusStop) → done bytes ≡ Ok tt → Is
 done_bytes (Ok list) given = tt
 done_bytes (Err stop) given = cc
 
-if_done : {A : Type 0} (test : Bool) (byte : ℕ) (stop : BusStop) → (test ≡ true → A) → IsDone (if test then Ok byte else Err stop) → A
+if_done : {A : Type 0} (test : Bool) (byte : ℕ) (stop : BusStop) → (test ≡ true → A)
+    → IsDone (if test then Ok byte else Err stop) → A
 if_done true byte stop all given = all refl
 if_done false byte stop all given = absurd given
 
@@ -144,32 +158,37 @@ other_seen state name address (Some found) true closed given = if_done (permits 
 other_seen state name address (Some found) false closed given = absurd given
 
 other_at : (state : State) (thread view address : ℕ) (name : PageName) → IsClosed state thread view name
-    → IsDone (plain_byte thread view state address Write) → IsOther (page_seen state thread view (address / 4096)) name
+    → IsDone (plain_byte thread view state address Write) → IsOther (page_for state thread view (address / 4096)) name
 unfolding plain_byte
 other_at state thread view address name closed given =
-    other_seen state name address (page_seen state thread view (address / 4096)) (is_canonical address) (λ found. closed (address / 4096) found) given
+    other_seen state name address (page_for state thread view (address / 4096)) (is_canonical address)
+    (λ found. closed (address / 4096) found) given
 
 -- bytes that are put into other pages
 abbrev AllOther : List Placed → PageName → Type 0
 AllOther [] name = Unit {0}
 AllOther (byte ∷ bytes) name = (byte.name ≢ name) × AllOther bytes name
 
-other_placed : (page : Option Seen) (address value : ℕ) (others : List Placed) (name : PageName) → IsOther page name → AllOther others name
+other_placed : (page : Option Seen) (address value : ℕ) (others : List Placed) (name : PageName) → IsOther page name
+    → AllOther others name
     → AllOther (placed_at page address value others) name
 other_placed None address value others name one all = all
 other_placed (Some page) address value others name one all = (one, all)
 
 all_other : (state : State) (thread view address size value : ℕ) (name : PageName) → IsClosed state thread view name
-    → IsDone (bytes_from (byte_for (plain_byte thread view state) Write) address size) → AllOther (placed state thread view address size value) name
-unfolding bytes_from placed
+    → IsDone (bytes_from (byte_for (plain_byte thread view state) Write) address size)
+    → AllOther (bytes_to_put state thread view address size value) name
+unfolding bytes_from bytes_to_put
 all_other state thread view address zero value name closed given = tt
 all_other state thread view address (suc count) value name closed given =
-    other_placed (page_seen state thread view (address / 4096)) address (value % 256)
-    (placed state thread view ((address + 1) % 2 ^ 64) count (value / 256)) name
+    other_placed (page_for state thread view (address / 4096)) address (value % 256)
+    (bytes_to_put state thread view ((address + 1) % 2 ^ 64) count (value / 256)) name
     (other_at state thread view address name closed (done_first (plain_byte thread view state address Write) _ given))
-    (all_other state thread view ((address + 1) % 2 ^ 64) count (value / 256) name closed (done_rest (plain_byte thread view state address Write) _ given))
+    (all_other state thread view ((address + 1) % 2 ^ 64) count (value / 256) name closed
+    (done_rest (plain_byte thread view state address Write) _ given))
 
-others_found : (state : State) (bytes : List Placed) (name : PageName) → AllOther bytes name → find_page (put_all state bytes).pages name ≡ find_page state.pages name
+others_found : (state : State) (bytes : List Placed) (name : PageName) → AllOther bytes name
+    → find_page (put_all state bytes).pages name ≡ find_page state.pages name
 others_found state [] name others = refl
 others_found state (byte ∷ bytes) name others =
     others_found (put_byte state byte.name byte.offset byte.value) bytes name others.1
@@ -180,7 +199,8 @@ store_closed : (state : State) (thread view address size value : ℕ) (name : Pa
     → find_page (plain_stored thread view state address size value).pages name ≡ find_page state.pages name
 unfolding store_answer plain_stored
 store_closed state thread view address size value name closed permitted =
-    others_found state (placed state thread view address size value) name (all_other state thread view address size value name closed (done_bytes _ permitted))
+    others_found state (bytes_to_put state thread view address size value) name
+    (all_other state thread view address size value name closed (done_bytes _ permitted))
 
 -- ---- an instruction
 
@@ -190,9 +210,11 @@ pub record Written (first : State) (thread view : ℕ) (state : State) : Type 0 
   pub closed : (name : PageName) → IsClosed first thread view name → find_page state.pages name ≡ find_page first.pages name
 
 store_written : (first : State) (thread view : ℕ) (state : State) → Written first thread view state → (address size value : ℕ)
-    → store_answer (byte_for (plain_byte thread view state) Write) address size ≡ Ok tt → Written first thread view (plain_stored thread view state address size value)
+    → store_answer (byte_for (plain_byte thread view state) Write) address size ≡ Ok tt
+    → Written first thread view (plain_stored thread view state address size value)
 store_written first thread view state written address size value permitted = record {
-  keeps = keeps_both first state (plain_stored thread view state address size value) written.keeps (store_keeps thread view state address size value);
+  keeps = keeps_both first state (plain_stored thread view state address size value) written.keeps
+      (store_keeps thread view state address size value);
   closed = λ name closed.
       store_closed state thread view address size value name
       (λ page found is. closed page found (sym (seen_kept first state thread view page written.keeps) ∙ is)) permitted
@@ -202,6 +224,8 @@ store_written first thread view state written address size value permitted = rec
 not_written : (first : State) (thread view : ℕ) → Written first thread view first
 not_written first thread view = record { keeps = all_keep first []; closed = λ name closed. refl }
 
-pub execution_written : (thread view : ℕ) (row : Row) (regs : Regs) (state : State) → Written state thread view (execution_of (plain thread view) row regs state tt).meaning
+pub execution_written : (thread view : ℕ) (row : Row) (regs : Regs) (state : State)
+    → Written state thread view (execution_of (plain thread view) row regs state tt).meaning
 execution_written thread view row regs state =
-    rows_keep (Written state thread view) (plain thread view) (store_written state thread view) row regs state tt (not_written state thread view)
+    rows_keep (Written state thread view) (plain thread view) (store_written state thread view) row regs state tt
+    (not_written state thread view)

@@ -14,14 +14,16 @@ use Rattle.sb_trace.specs.Changes.{OnlyThread}
 
 -- ---- a thread
 
-pub only_thread : (state : State) (number : ℕ) (thread : Thread) → thread.home ≡ (thread_at state number).home → OnlyThread state number (with_thread state number thread)
+pub only_thread : (state : State) (number : ℕ) (thread : Thread) → thread.home ≡ (thread_at state number).home
+    → OnlyThread state number (with_thread state number thread)
 only_thread state number thread home = record {
   threads = λ other apart. set_other state.threads number other thread apart;
   flights = λ other apart. refl;
   home = thread_set (λ (one : Thread). one.home ≡ (thread_at state number).home) state number thread home refl;
 }
 
-pub only_flight : (state : State) (number : ℕ) (flight : Option Flight) → OnlyThread state number (with_flight state number flight)
+pub only_flight : (state : State) (number : ℕ) (flight : Option Flight)
+    → OnlyThread state number (with_flight state number flight)
 unfolding with_flight thread_at
 only_flight state number flight = record {
   threads = λ other apart. refl;
@@ -29,7 +31,8 @@ only_flight state number flight = record {
   home = refl;
 }
 
-pub only_both : (first : State) (number : ℕ) (second third : State) → OnlyThread first number second → OnlyThread second number third → OnlyThread first number third
+pub only_both : (first : State) (number : ℕ) (second third : State) → OnlyThread first number second
+    → OnlyThread second number third → OnlyThread first number third
 only_both first number second third one other = record {
   threads = λ number' apart. other.threads number' apart ∙ one.threads number' apart;
   flights = λ number' apart. other.flights number' apart ∙ one.flights number' apart;
@@ -37,7 +40,8 @@ only_both first number second third one other = record {
 }
 
 -- threads and flights stay
-pub only_none : (old : State) (number : ℕ) (new : State) → new.threads ≡ old.threads → new.flights ≡ old.flights → OnlyThread old number new
+pub only_none : (old : State) (number : ℕ) (new : State) → new.threads ≡ old.threads → new.flights ≡ old.flights
+    → OnlyThread old number new
 unfolding thread_at
 only_none old number new threads flights = record {
   threads = λ other apart. ap (λ list. slice_get list other) threads;
@@ -47,22 +51,28 @@ only_none old number new threads flights = record {
 
 -- ---- the others
 
-pub thread_other : (old : State) (number : ℕ) (new : State) (other : ℕ) → OnlyThread old number new → other ≢ number → thread_at new other ≡ thread_at old other
+pub thread_other : (old : State) (number : ℕ) (new : State) (other : ℕ) → OnlyThread old number new → other ≢ number
+    → thread_at new other ≡ thread_at old other
 unfolding thread_at
 thread_other old number new other only apart = ap (λ found. unwrap_or found no_thread) (only.threads other apart)
 
-pub flight_other : (old : State) (number : ℕ) (new : State) (other : ℕ) → OnlyThread old number new → other ≢ number → flight_at new other ≡ flight_at old other
+pub flight_other : (old : State) (number : ℕ) (new : State) (other : ℕ) → OnlyThread old number new → other ≢ number
+    → flight_at new other ≡ flight_at old other
 unfolding flight_at
 flight_other old number new other only apart = ap (λ found. unwrap_or found None) (only.flights other apart)
 
 -- ---- bindings
 
-bound_by : (test : Bool) (first binding : Binding) (found : Option Binding) (server : Option ℕ) (index : ℕ) → (first.index == index) ≡ test
+bound_by : (test : Bool) (first binding : Binding) (found : Option Binding) (server : Option ℕ) (index : ℕ)
+    → (first.index == index) ≡ test
     → (found ≡ Some binding → (binding.index ≡ index) × (server ≡ Some binding.server))
-    → (if test then Some first else found) ≡ Some binding → (binding.index ≡ index) × ((if test then Some first.server else server) ≡ Some binding.server)
+    → (if test then Some first else found) ≡ Some binding
+    → (binding.index ≡ index) × ((if test then Some first.server else server) ≡ Some binding.server)
 bound_by true first binding found server index is more here =
-    let same : first ≡ binding = cc in
-    (subst (λ (one : Binding). one.index ≡ index) same (number first.index index is), ap (λ (one : Binding). Some one.server) same)
+    let same : first ≡ binding = cc in (
+      subst (λ (one : Binding). one.index ≡ index) same (number first.index index is),
+      ap (λ (one : Binding). Some one.server) same,
+    )
 bound_by false first binding found server index is more here = more here
 
 -- a binding that is found has its index, and its view shows its server
@@ -70,9 +80,11 @@ pub bound_there : (bindings : List Binding) (index : ℕ) (binding : Binding) �
     → (binding.index ≡ index) × (server_of bindings index ≡ Some binding.server)
 bound_there [] index binding here = absurd cc
 bound_there (first ∷ bindings) index binding here =
-    bound_by (first.index == index) first binding (binding_in bindings index) (server_of bindings index) index refl (bound_there bindings index binding) here
+    bound_by (first.index == index) first binding (binding_in bindings index) (server_of bindings index) index refl
+    (bound_there bindings index binding) here
 
-view_by : (test : Bool) (home : ℕ) (server : Option ℕ) (process : ℕ) → server ≡ Some process → (one : ℕ) × ((if test then Some home else server) ≡ Some one)
+view_by : (test : Bool) (home : ℕ) (server : Option ℕ) (process : ℕ) → server ≡ Some process
+    → (one : ℕ) × ((if test then Some home else server) ≡ Some one)
 view_by true home server process is = (home, refl)
 view_by false home server process is = (process, is)
 

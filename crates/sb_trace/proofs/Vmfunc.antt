@@ -22,9 +22,12 @@ use Rattle.sb_tramp.specs.Forms.{opcode_alone}
 
 -- ---- its spelling
 
-spelled_by : (lock : Bool) (rex modrm sib : Option ℕ) (displacement : Disp) (immediate : Imm) → IsTrue (is_modrm_field (cell_of Vmfunc) lock rex modrm)
-    → IsTrue (is_sib_field modrm sib) → kind_of_disp displacement ≡ disp_kind_of modrm sib → kind_of_imm immediate ≡ imm_kind_of (rule_of (cell_of Vmfunc) modrm) rex
-    → front_bytes lock rex Vmfunc ++ (option_to_list modrm ++ (option_to_list sib ++ (disp_bytes displacement ++ imm_bytes immediate))) ≡ pattern
+spelled_by : (lock : Bool) (rex modrm sib : Option ℕ) (displacement : Disp) (immediate : Imm)
+    → IsTrue (is_modrm_field (cell_of Vmfunc) lock rex modrm)
+    → IsTrue (is_sib_field modrm sib) → kind_of_disp displacement ≡ disp_kind_of modrm sib
+    → kind_of_imm immediate ≡ imm_kind_of (rule_of (cell_of Vmfunc) modrm) rex
+    → front_bytes lock rex Vmfunc ++
+    (option_to_list modrm ++ (option_to_list sib ++ (disp_bytes displacement ++ imm_bytes immediate))) ≡ pattern
 spelled_by lock rex (Some modrm) sib displacement immediate is_modrm is_sib disp_is imm_is = absurd cc
 spelled_by true rex None sib displacement immediate is_modrm is_sib disp_is imm_is = absurd cc
 spelled_by false (Some rex) None sib displacement immediate is_modrm is_sib disp_is imm_is = absurd cc
@@ -38,7 +41,8 @@ spelled_by false None None None disp.None imm.None is_modrm is_sib disp_is imm_i
 
 pub vmfunc_spelled : (insn : Insn) → IsValid insn → insn.op ≡ Vmfunc → spelling insn ≡ pattern
 vmfunc_spelled insn valid is =
-    ap (λ (op : Op). front_bytes insn.lock insn.rex op ++ (option_to_list insn.modrm ++ (option_to_list insn.sib ++ (disp_bytes insn.disp ++ imm_bytes insn.imm)))) is
+    ap (λ (op : Op). front_bytes insn.lock insn.rex op ++
+    (option_to_list insn.modrm ++ (option_to_list insn.sib ++ (disp_bytes insn.disp ++ imm_bytes insn.imm)))) is
     ∙ spelled_by insn.lock insn.rex insn.modrm insn.sib insn.disp insn.imm
     (subst (λ (op : Op). IsTrue (is_modrm_field (cell_of op) insn.lock insn.rex insn.modrm)) is valid.modrm) valid.sib valid.disp
     (subst (λ (op : Op). kind_of_imm insn.imm ≡ imm_kind_of (rule_of (cell_of op) insn.modrm) insn.rex) is valid.imm)
@@ -48,19 +52,25 @@ vmfunc_valid = search rules
 
 -- ---- fronts of a spelling
 
-longer_front : (whole rest : List ℕ) (count : ℕ) (front : List ℕ) → length front ≡ count → count < length whole → front ≡ whole ++ rest → ⊥
-longer_front whole rest count front size below is = let sum : length front ≡ length whole + length rest = ap length is ∙ length-append whole rest in omega (arith, sum)
+longer_front : (whole rest : List ℕ) (count : ℕ) (front : List ℕ) → length front ≡ count → count < length whole
+    → front ≡ whole ++ rest → ⊥
+longer_front whole rest count front size below is =
+    let sum : length front ≡ length whole + length rest = ap length is ∙ length-append whole rest in omega (arith, sum)
 
 -- no instruction begins a proper front of one, and the front may go on to it
 pub short_fronts : (insn : Insn) → IsValid insn → HasShortFronts (spelling insn)
 unfolding HasShortFronts
 short_fronts insn valid count below =
-    let whole : take count (spelling insn) ++ drop count (spelling insn) ≡ spelling insn = take-append-drop count (spelling insn) in
+    let whole : take count (spelling insn) ++ drop count (spelling insn) ≡ spelling insn =
+    take-append-drop count (spelling insn) in
     let size : length (take count (spelling insn)) ≡ count = length-take-le count (spelling insn) (omega arith) in (
       λ other begins.
           let split : spelling insn ≡ spelling other ++ (begins.1.0 ++ drop count (spelling insn)) =
-          sym whole ∙ (ap (λ front. front ++ drop count (spelling insn)) begins.1.1 ∙ append_assoc (spelling other) begins.1.0 (drop count (spelling insn))) in
-          let same : other ≡ insn = none_begins_another other insn (begins.1.0 ++ drop count (spelling insn)) begins.0 valid split in
+          sym whole
+          ∙ (ap (λ front. front ++ drop count (spelling insn)) begins.1.1
+          ∙ append_assoc (spelling other) begins.1.0 (drop count (spelling insn))) in
+          let same : other ≡ insn =
+          none_begins_another other insn (begins.1.0 ++ drop count (spelling insn)) begins.0 valid split in
           longer_front (spelling insn) begins.1.0 count (take count (spelling insn)) size below
           (begins.1.1 ∙ ap (λ (one : Insn). spelling one ++ begins.1.0) same),
       (drop count (spelling insn), insn, (valid, ([], whole ∙ sym (append-nil (spelling insn))))),
@@ -69,11 +79,18 @@ short_fronts insn valid count below =
 -- ---- fetching
 
 -- where it is fetched its bytes stand
-pub vmfunc_stands : (fetch : ℕ → Result ℕ BusStop) (address asked : ℕ) (insn : Insn) → insn.op ≡ Vmfunc → Fetches fetch address (Ok insn) asked → Stands fetch address pattern
+pub vmfunc_stands : (fetch : ℕ → Result ℕ BusStop) (address asked : ℕ) (insn : Insn) → insn.op ≡ Vmfunc
+    → Fetches fetch address (Ok insn) asked → Stands fetch address pattern
 vmfunc_stands fetch address asked insn is fetched =
     subst (Stands fetch address) (fetched.ends.0.1 ∙ vmfunc_spelled insn fetched.ends.0.0 is) fetched.stands
 
 -- where they stand it is fetched
-pub vmfunc_fetched : (fetch : ℕ → Result ℕ BusStop) (address : ℕ) → Stands fetch address pattern → Fetches fetch address (Ok (opcode_alone Vmfunc)) 3
+pub vmfunc_fetched : (fetch : ℕ → Result ℕ BusStop) (address : ℕ) → Stands fetch address pattern
+    → Fetches fetch address (Ok (opcode_alone Vmfunc)) 3
 vmfunc_fetched fetch address stands =
-    record { bytes = pattern; stands = stands; fronts = short_fronts (opcode_alone Vmfunc) vmfunc_valid; ends = ((vmfunc_valid, refl), refl) }
+    record {
+      bytes = pattern;
+      stands = stands;
+      fronts = short_fronts (opcode_alone Vmfunc) vmfunc_valid;
+      ends = ((vmfunc_valid, refl), refl);
+    }

@@ -11,8 +11,8 @@ use Rattle.sb_state.specs.declared.page.PageName.TheVariants.{Heap, Pool}
 use Rattle.sb_state.specs.declared.page.Page.{Page}
 use Rattle.sb_state.specs.declared.page.Seen.{Seen}
 use Rattle.sb_state.specs.PageName.{permits}
-use Rattle.sb_state.specs.State.{State, find_page, contents, replaced, thread_at}
-use Rattle.sb_state.specs.Windows.{page_seen, present_of, server_of}
+use Rattle.sb_state.specs.State.{State, find_page, contents, with_page_bytes, thread_at}
+use Rattle.sb_state.specs.Windows.{page_for, process_now, server_of}
 use Rattle.sb_trace.specs.Start.{pages_from}
 use Rattle.sb_state.specs.Pattern.{heap_pattern}
 use Rattle.sb_trace.specs.SyscallRegister.{server_stack_page}
@@ -45,7 +45,7 @@ OnlyThreads old new = OnlyPages old old.pages new
 -- no page that the thread may write in the view has this name
 abbrev pub IsClosed : State → ℕ → ℕ → PageName → Type 0
 IsClosed state thread view name =
-    (page : ℕ) (seen : Seen) → page_seen state thread view page ≡ Some seen → permits seen.mode Write ≡ true → seen.name ≢ name
+    (page : ℕ) (seen : Seen) → page_for state thread view page ≡ Some seen → permits seen.mode Write ≡ true → seen.name ≢ name
 
 -- a page but for its bytes, of which it says how many
 pub record Shape : Type 0 where
@@ -67,7 +67,7 @@ pub record WritesOpen (old : State) (thread view : ℕ) (new : State) : Type 0 w
 
 -- the pages with a word put first into this page
 abbrev pub with_first_word : State → PageName → ℕ → List Page
-with_first_word state name word = replaced state.pages name (put_word (contents state name) 0 word)
+with_first_word state name word = with_page_bytes state.pages name (put_word (contents state name) 0 word)
 
 -- an entered server's pool word changes
 pub record EntersServer (old : State) (number index : ℕ) (new : State) : Type 0 where
@@ -101,9 +101,9 @@ pub record ChangesMode (old : State) (process : ℕ) (new : State) : Type 0 wher
 abbrev pub CallChanges : State → ℕ → ℕ → ℕ → State → Type 0
 CallChanges old core number answer new =
     ((answer ≢ 0) × OnlyThreads old new)
-    ⊎ ((answer ≡ 0) × (number ≡ 2) × AddsStacks old (present_of (thread_at old core)) new)
+    ⊎ ((answer ≡ 0) × (number ≡ 2) × AddsStacks old (process_now (thread_at old core)) new)
     ⊎ ((answer ≡ 0) × (number ≡ 3) × AddsView old core new)
-    ⊎ ((answer ≡ 0) × (number ≡ 4) × ChangesMode old (present_of (thread_at old core)) new)
+    ⊎ ((answer ≡ 0) × (number ≡ 4) × ChangesMode old (process_now (thread_at old core)) new)
 
 -- ---- a step
 

@@ -9,7 +9,8 @@ use Rattle.sb_state.specs.State.{find_page}
 -- the byte at an offset of a page, where the page is there and may be fetched
 abbrev pub fetched_byte : PageName → Option Page → ℕ → Option ℕ
 fetched_byte name None offset = None
-fetched_byte name (Some page) offset = if permits (mode_of name page.executable) Fetch then Some (slice_index page.bytes offset) else None
+fetched_byte name (Some page) offset =
+    if permits (mode_of name page.executable) Fetch then Some (slice_index page.bytes offset) else None
 
 -- The byte at a place of the pages with these names, one behind another.
 unfoldable pub code_byte : List Page → (ℕ → PageName) → ℕ → Option ℕ

@@ -6,7 +6,7 @@ use Rattle.sb_trace.specs.declared.end.EndState.{EndState}
 use Rattle.sb_state.specs.declared.state.Flight.{Flight}
 use Rattle.sb_state.specs.declared.state.Thread.{Thread}
 use Rattle.sb_state.specs.State.{State, flight_at}
-use Rattle.sb_state.specs.Windows.{present_of}
+use Rattle.sb_state.specs.Windows.{process_now}
 
 abbrev pub phase_of : Flight → ℕ
 phase_of flight = flight.phase
@@ -16,7 +16,7 @@ abbrev pub thread_end : Thread → Option Flight → ThreadEnd
 thread_end thread flight = record {
   home = thread.home;
   view = thread.view;
-  present = present_of thread;
+  present = process_now thread;
   state = thread.state;
   regs = thread.regs;
   flight = option_map phase_of flight;

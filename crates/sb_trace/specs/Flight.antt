@@ -31,8 +31,8 @@ bound_pool state (Some binding) = pool_word state binding.server
 -- ---- a phase
 
 -- phase 2 loads the mask
-abbrev pub loaded : ℕ → Flight → Flight
-loaded pool flight = record flight { mask = if flight.phase == 2 then pool else flight.mask }
+abbrev pub with_mask : ℕ → Flight → Flight
+with_mask pool flight = record flight { mask = if flight.phase == 2 then pool else flight.mask }
 
 -- whether this phase decides the call, and how: phase 0 where the key is wrong, phase 2 where no stack is free, and phase 8
 -- where the pool word is still the mask, so that its exchange succeeds
@@ -65,30 +65,33 @@ abbrev pub at_phase : Flight → ℕ → Flight
 at_phase flight phase = record flight { phase = phase }
 
 -- the flight behind its phase
-abbrev pub advanced : Flight → Option Flight
-advanced flight = option_map (at_phase flight) (phase_after flight.phase flight.decided flight.mask)
+abbrev pub next_flight : Flight → Option Flight
+next_flight flight = option_map (at_phase flight) (phase_after flight.phase flight.decided flight.mask)
 
 -- a phase that decides the call does the kernel's call; each other one lands
-abbrev pub landed : State → ℕ → Flight → Option Decision → Outcome
-landed state number flight None = (Landing flight.phase, with_flight state number (advanced flight))
-landed state number flight (Some decided) =
-    ((kernel_call state number).0, with_flight (kernel_call state number).1 number (advanced (record flight { decided = Some decided })))
+abbrev pub phase_outcome : State → ℕ → Flight → Option Decision → Outcome
+phase_outcome state number flight None = (Landing flight.phase, with_flight state number (next_flight flight))
+phase_outcome state number flight (Some decided) = (
+  (kernel_call state number).0,
+  with_flight (kernel_call state number).1 number (next_flight (record flight { decided = Some decided })),
+)
 
 -- with the binding of the flight
-abbrev pub flown_by : State → ℕ → Thread → Flight → Option Binding → Outcome
-flown_by state number thread flight binding =
-    landed state number (loaded (bound_pool state binding) flight)
+abbrev pub landing_step_by : State → ℕ → Thread → Flight → Option Binding → Outcome
+landing_step_by state number thread flight binding =
+    phase_outcome state number (with_mask (bound_pool state binding) flight)
     (decided_at flight.phase (is_key binding (rsi thread.regs)) (bound_pool state binding) flight.mask)
 
 -- a step of a thread in flight
-unfoldable pub flown : State → ℕ → Flight → Outcome
-flown state number flight = flown_by state number (thread_at state number) flight (flight_binding (thread_at state number) flight)
+unfoldable pub landing_step : State → ℕ → Flight → Outcome
+landing_step state number flight =
+    landing_step_by state number (thread_at state number) flight (flight_binding (thread_at state number) flight)
 
 -- ---- the VMFUNC
 
 -- the phase of the line at which a flight begins
-abbrev pub switch_phase : ℕ
-switch_phase = 25
+abbrev pub vmfunc_phase : ℕ
+vmfunc_phase = 25
 
 abbrev pub first_flight : ℕ → Flight
 first_flight index = record { index = index; phase = 0; mask = 0; decided = None }
@@ -98,10 +101,11 @@ abbrev pub called_binding : Thread → Option Binding
 called_binding thread =
     if (eax thread.regs == 0) && not (ecx thread.regs == 0) then binding_in thread.bindings (ecx thread.regs) else None
 
-abbrev pub switched_into : State → ℕ → Option Binding → Outcome
-switched_into state number None = kernel_call state number
-switched_into state number (Some binding) = (Landing switch_phase, with_flight state number (Some (first_flight binding.index)))
+abbrev pub vmfunc_outcome_by : State → ℕ → Option Binding → Outcome
+vmfunc_outcome_by state number None = kernel_call state number
+vmfunc_outcome_by state number (Some binding) =
+    (Landing vmfunc_phase, with_flight state number (Some (first_flight binding.index)))
 
 -- VMFUNC with a landing: a flight begins where it leads into a server; else the kernel's call is done at once
-unfoldable pub switched : State → ℕ → Outcome
-switched state number = switched_into state number (called_binding (thread_at state number))
+unfoldable pub vmfunc_outcome : State → ℕ → Outcome
+vmfunc_outcome state number = vmfunc_outcome_by state number (called_binding (thread_at state number))

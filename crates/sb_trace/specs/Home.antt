@@ -2,7 +2,7 @@
 use Rattle.std.specs.Prelude.{ℕ, ◌==◌, if◌then◌else◌}
 use Rattle.sb_bus.specs.declared.stop.FaultKind.{FaultKind}
 use Rattle.sb_abi.specs.declared.trampoline.TheConstants.{RETURN_ADDRESS}
-pub use Rattle.sb_calls.specs.SyscallRegisters.{faulted_home}
+pub use Rattle.sb_calls.specs.SyscallRegisters.{server_fault_regs}
 use Rattle.sb_trace.specs.declared.event.Event.{Event}
 use Rattle.sb_trace.specs.declared.event.Event.TheVariants.{Fault, ServerFault}
 use Rattle.sb_state.specs.declared.end_kind.EndKind.TheVariants.{Faulted}
@@ -18,10 +18,10 @@ home_address = RETURN_ADDRESS
 
 -- the thread of this number is sent home; the stack that it has of a server stays taken
 abbrev pub sent_home : State → ℕ → State
-sent_home state number = with_view state number 0 faulted_home
+sent_home state number = with_view state number 0 server_fault_regs
 
 -- A fault at home ends the thread with its registers as before the step; in a server's view it sends the thread home.
-abbrev pub faulted : State → ℕ → FaultKind → ℕ → Outcome
-faulted state number kind address =
+abbrev pub fault_outcome : State → ℕ → FaultKind → ℕ → Outcome
+fault_outcome state number kind address =
     if (thread_at state number).view == 0 then (Fault kind address, with_end state number (Faulted kind address))
     else (ServerFault kind address, sent_home state number)

@@ -15,7 +15,7 @@ use Rattle.sb_state.specs.declared.state.Thread.{Thread}
 use Rattle.sb_state.specs.State.{State, thread_at, with_view, registration_at}
 use Rattle.sb_state.specs.PageWords.{word_in, with_word}
 use Rattle.sb_state.specs.Registers.{eax, ecx, rsi, zero_flags}
-use Rattle.sb_trace.specs.Home.{Outcome, home_address, faulted}
+use Rattle.sb_trace.specs.Home.{Outcome, home_address, fault_outcome}
 
 -- ---- what a call looks at
 
@@ -35,25 +35,26 @@ handler_in (Some registration) = registration.handler
 -- ---- refusals and ways home
 
 -- R9 has the status, RAX, RCX and R10 are 0, and the thread goes on at home
-unfoldable pub refused_regs : Regs → ℕ → Regs
-refused_regs regs status = record {
+unfoldable pub refusal_regs : Regs → ℕ → Regs
+refusal_regs regs status = record {
   general = slice_set (slice_set (slice_set (slice_set regs.general 9 status) 0 0) 1 0) 10 0;
   rip = home_address;
   flags = zero_flags;
 }
 
 -- a refused call, with its line: the thread is in its home view
-abbrev pub refused : State → ℕ → Thread → Event → ℕ → Outcome
-refused state number thread line status = (line, with_view state number 0 (refused_regs thread.regs status))
+abbrev pub refusal_outcome : State → ℕ → Thread → Event → ℕ → Outcome
+refusal_outcome state number thread line status = (line, with_view state number 0 (refusal_regs thread.regs status))
 
 -- no view is switched: in a server's view that is a fault at the VMFUNC
-abbrev pub not_switched : State → ℕ → Thread → Event → ℕ → Outcome
-not_switched state number thread line status =
-    if thread.view == 0 then refused state number thread line status else faulted state number kind.Switch thread.regs.rip
+abbrev pub refusal_or_fault : State → ℕ → Thread → Event → ℕ → Outcome
+refusal_or_fault state number thread line status =
+    if thread.view == 0 then refusal_outcome state number thread line status else fault_outcome state number kind.Switch
+    thread.regs.rip
 
 -- index 0 leads home
-abbrev pub returned_home : State → ℕ → Thread → Outcome
-returned_home state number thread =
+abbrev pub return_outcome : State → ℕ → Thread → Outcome
+return_outcome state number thread =
     (if thread.view == 0 then Turn else Return, with_view state number 0 (record thread.regs { rip = home_address }))
 
 -- ---- entry
@@ -63,42 +64,42 @@ abbrev pub lowest_bit : ℕ → ℕ
 lowest_bit word = trailing_zeros w64 word
 
 -- RSP is the top word of the server stack of this number, and RAX, RCX and R10 are 0
-unfoldable pub entered_regs : Regs → ℕ → ℕ → Regs
-entered_regs regs stack handler = record {
+unfoldable pub entry_regs : Regs → ℕ → ℕ → Regs
+entry_regs regs stack handler = record {
   general = slice_set (slice_set (slice_set (slice_set regs.general 4 (FIRST_STACK_TOP + stack * STACK_DISTANCE)) 0 0) 1 0) 10 0;
   rip = handler;
   flags = zero_flags;
 }
 
 -- the server's lowest free stack is taken, and the thread stands at the handler in the view of the binding
-abbrev pub entered : State → ℕ → Thread → Binding → ℕ → State
-entered state number thread binding word =
+abbrev pub state_at_handler : State → ℕ → Thread → Binding → ℕ → State
+state_at_handler state number thread binding word =
     with_view (with_word state (Pool binding.server) 0 (word - 2 ^ lowest_bit word)) number binding.index
-    (entered_regs thread.regs (lowest_bit word) (handler_in (registration_at state binding.server)))
+    (entry_regs thread.regs (lowest_bit word) (handler_in (registration_at state binding.server)))
 
 -- with the pool word of the server
-abbrev pub taken : State → ℕ → Thread → Binding → ℕ → Outcome
-taken state number thread binding word =
-    if word == 0 then refused state number thread (PoolEmpty binding.index) (status_number status.PoolEmpty)
-    else (Entered binding.index (lowest_bit word), entered state number thread binding word)
+abbrev pub entry_outcome : State → ℕ → Thread → Binding → ℕ → Outcome
+entry_outcome state number thread binding word =
+    if word == 0 then refusal_outcome state number thread (PoolEmpty binding.index) (status_number status.PoolEmpty)
+    else (Entered binding.index (lowest_bit word), state_at_handler state number thread binding word)
 
 -- ---- the call
 
 -- through the binding of this index, if there is one
-abbrev pub called_through : State → ℕ → Thread → ℕ → Option Binding → Outcome
-called_through state number thread index None = not_switched state number thread (Unbound index) (status_number status.Unbound)
-called_through state number thread index (Some binding) =
-    if rsi thread.regs == binding.key then taken state number thread binding (pool_word state binding.server)
-    else refused state number thread (WrongKey binding.index) (status_number status.WrongKey)
+abbrev pub call_outcome : State → ℕ → Thread → ℕ → Option Binding → Outcome
+call_outcome state number thread index None = refusal_or_fault state number thread (Unbound index) (status_number status.Unbound)
+call_outcome state number thread index (Some binding) =
+    if rsi thread.regs == binding.key then entry_outcome state number thread binding (pool_word state binding.server)
+    else refusal_outcome state number thread (WrongKey binding.index) (status_number status.WrongKey)
 
-abbrev pub switched_by : State → ℕ → Thread → ℕ → ℕ → Outcome
-switched_by state number thread leaf index =
+abbrev pub outcome_by_index : State → ℕ → Thread → ℕ → ℕ → Outcome
+outcome_by_index state number thread leaf index =
     if leaf == 0
-    then if index == 0 then returned_home state number thread
-    else called_through state number thread index (binding_in thread.bindings index)
-    else not_switched state number thread (BadLeaf index) (status_number status.BadLeaf)
+    then if index == 0 then return_outcome state number thread
+    else call_outcome state number thread index (binding_in thread.bindings index)
+    else refusal_or_fault state number thread (BadLeaf index) (status_number status.BadLeaf)
 
 -- VMFUNC of the thread of this number, with the leaf in EAX, the index in ECX and the key in RSI
 unfoldable pub kernel_call : State → ℕ → Outcome
 kernel_call state number =
-    switched_by state number (thread_at state number) (eax (thread_at state number).regs) (ecx (thread_at state number).regs)
+    outcome_by_index state number (thread_at state number) (eax (thread_at state number).regs) (ecx (thread_at state number).regs)

@@ -12,13 +12,13 @@ use Rattle.sb_state.specs.declared.state.Flight.{Flight}
 use Rattle.sb_state.specs.State.{State, thread_at, flight_at}
 use Rattle.sb_state.specs.Registers.{rsi}
 use Rattle.sb_trace.specs.Flight.{flight_binding, is_key, bound_pool, decided_at}
-use Rattle.sb_state.specs.Windows.{shown}
+use Rattle.sb_state.specs.Windows.{process_shown}
 use Rattle.sb_state.specs.PlainMemory.{plain}
 use Rattle.sb_trace.specs.Start.{ProcessImage, ThreadEntry, start_state}
 use Rattle.sb_trace.specs.Run.{RunBy}
 use Rattle.sb_trace.specs.Step.{Steps}
 use Rattle.sb_trace.specs.OneStep.{StepsOnce, StepsAlike, without_flights, without_landings, core_of}
-use Rattle.sb_trace.specs.Sound.{IsSound, switch_address}
+use Rattle.sb_trace.specs.Sound.{IsSound, vmfunc_address}
 use Rattle.sb_trace.specs.Changes.{StepChanges}
 
 -- ---- sound states
@@ -36,19 +36,22 @@ abbrev pub StepsKeepSound : Type 0
 StepsKeepSound = (old : State) (core : ℕ) (event : Event) (new : State) → IsSound old → Steps old core event new → IsSound new
 
 abbrev pub RunsKeepSound : Type 0
-RunsKeepSound = (old : State) (cores : List ℕ) (lines : List Line) (new : State) → IsSound old → RunBy Steps old cores lines new → IsSound new
+RunsKeepSound = (old : State) (cores : List ℕ) (lines : List Line) (new : State) → IsSound old → RunBy Steps old cores lines new
+    → IsSound new
 
 -- ---- the laws
 
 -- from each state and list of cores there is one run of a machine
 abbrev pub HasOneRun : (State → ℕ → Event → State → Type 0) → Type 0
 HasOneRun step =
-    (old new another : State) (cores : List ℕ) (lines others : List Line) → RunBy step old cores lines new → RunBy step old cores others another
+    (old new another : State) (cores : List ℕ) (lines others : List Line) → RunBy step old cores lines new
+    → RunBy step old cores others another
     → (lines ≡ others) × (new ≡ another)
 
 -- a step of a landing leaves the machine that calls in one step where it is, and each other step is one of its steps
 abbrev pub StepsDrop : Type 0
-StepsDrop = (old : State) (core : ℕ) (event : Event) (new : State) → IsSound old → Steps old core event new → StepsAlike old core event new
+StepsDrop = (old : State) (core : ℕ) (event : Event) (new : State) → IsSound old → Steps old core event new
+    → StepsAlike old core event new
 
 -- Without the landing lines and their entries of the schedule, a run is one of the machine that calls in one step.
 abbrev pub LandingsDrop : Type 0
@@ -75,7 +78,8 @@ IsFlightLine phase (Some decided) index event = IsLineOf decided index event
 -- A step in flight has the landing line of its phase, or that of the decision.
 abbrev pub FlightLines : Type 0
 FlightLines =
-    (old : State) (core : ℕ) (event : Event) (new : State) (flight : Flight) → IsSound old → Steps old core event new → flight_at old core ≡ Some flight
+    (old : State) (core : ℕ) (event : Event) (new : State) (flight : Flight) → IsSound old → Steps old core event new
+    → flight_at old core ≡ Some flight
     → IsFlightLine flight.phase (decision_at old core flight) flight.index event
 
 -- what a step may change
@@ -86,7 +90,7 @@ StepsChange = (old : State) (core : ℕ) (event : Event) (new : State) → Steps
 -- every thread
 abbrev pub HasOneSwitch : State → Type 0
 HasOneSwitch state =
-    (thread view address : ℕ) → Stands (fetch_of (plain thread view) state) address pattern → address % 2 ^ 64 ≡ switch_address
+    (thread view address : ℕ) → Stands (fetch_of (plain thread view) state) address pattern → address % 2 ^ 64 ≡ vmfunc_address
 
 abbrev pub OnePattern : Type 0
 OnePattern = (state : State) → IsSound state → HasOneSwitch state
@@ -94,5 +98,5 @@ OnePattern = (state : State) → IsSound state → HasOneSwitch state
 -- and there they do stand, in each view that shows a process
 abbrev pub SwitchStands : Type 0
 SwitchStands =
-    (state : State) (thread view process address : ℕ) → IsSound state → shown state.threads thread view ≡ Some process
-    → address % 2 ^ 64 ≡ switch_address → Stands (fetch_of (plain thread view) state) address pattern
+    (state : State) (thread view process address : ℕ) → IsSound state → process_shown state.threads thread view ≡ Some process
+    → address % 2 ^ 64 ≡ vmfunc_address → Stands (fetch_of (plain thread view) state) address pattern

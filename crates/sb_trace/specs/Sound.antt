@@ -12,7 +12,7 @@ use Rattle.sb_state.specs.declared.state.Decision.TheVariants as decision
 use Rattle.sb_state.specs.declared.state.Flight.{Flight}
 use Rattle.sb_state.specs.declared.state.Thread.{Thread}
 use Rattle.sb_state.specs.State.{State, find_page, thread_at, flight_at}
-use Rattle.sb_state.specs.Windows.{shown_by}
+use Rattle.sb_state.specs.Windows.{process_of_view}
 use Rattle.sb_state.specs.Registers.{eax, ecx, rsi}
 use Rattle.sb_trace.specs.KernelCall.{binding_in}
 use Rattle.sb_trace.specs.Code.{code_byte, HasNoCodePattern}
@@ -36,17 +36,17 @@ pub record ArePagesSound (pages : List Page) : Type 0 where
 
 -- the view of the thread is its home view or that of a binding
 abbrev pub HasView : Thread → Type 0
-HasView thread = (process : ℕ) × (shown_by thread.view thread ≡ Some process)
+HasView thread = (process : ℕ) × (process_of_view thread.view thread ≡ Some process)
 
 -- ---- flights
 
 -- the address of the VMFUNC in both pages of the trampoline
-abbrev pub switch_address : ℕ
-switch_address = 0x70000040
+abbrev pub vmfunc_address : ℕ
+vmfunc_address = 0x70000040
 
 -- The thread stands at the VMFUNC, with leaf 0 and the index of a binding.
 pub record StandsAtSwitch (thread : Thread) (index : ℕ) : Type 0 where
-  pub address : thread.regs.rip % 2 ^ 64 ≡ switch_address
+  pub address : thread.regs.rip % 2 ^ 64 ≡ vmfunc_address
   pub leaf : eax thread.regs ≡ 0
   pub names : ecx thread.regs ≡ index
   pub away : index ≢ 0

@@ -32,15 +32,15 @@ pub record ThreadEntry : Type 0 where
 -- ---- pages
 
 -- bytes filled up to a page
-abbrev pub filled : ℕ → List ℕ → List ℕ
-filled filler bytes = bytes ++ replicate (4096 - length bytes) filler
+abbrev pub page_padded : ℕ → List ℕ → List ℕ
+page_padded filler bytes = bytes ++ replicate (4096 - length bytes) filler
 
 -- one page of bytes that go over several pages, of which the last is filled up
 abbrev pub page_of : ℕ → List ℕ → ℕ → List ℕ
-page_of filler bytes page = filled filler (take 4096 (drop (4096 * page) bytes))
+page_of filler bytes page = page_padded filler (take 4096 (drop (4096 * page) bytes))
 
-abbrev pub named : PageName → List ℕ → Page
-named name bytes = record { name = name; executable = false; bytes = bytes }
+abbrev pub page_with : PageName → List ℕ → Page
+page_with name bytes = record { name = name; executable = false; bytes = bytes }
 
 -- the pages from a first number on, so many
 abbrev pub pages_from : (ℕ → Page) → ℕ → ℕ → List Page
@@ -48,16 +48,16 @@ pages_from page first zero = []
 pages_from page first (suc count) = page first ∷ pages_from page (first + 1) count
 
 -- a page of bytes that go over several pages of this name
-abbrev pub filled_page : (ℕ → PageName) → ℕ → List ℕ → ℕ → Page
-filled_page name filler bytes page = named (name page) (page_of filler bytes page)
+abbrev pub padded_page : (ℕ → PageName) → ℕ → List ℕ → ℕ → Page
+padded_page name filler bytes page = page_with (name page) (page_of filler bytes page)
 
 -- bytes in pages of this name, of which the last is filled up
-abbrev pub filled_pages : (ℕ → PageName) → ℕ → List ℕ → List Page
-filled_pages name filler bytes = pages_from (filled_page name filler bytes) 0 (page_count (length bytes))
+abbrev pub padded_pages : (ℕ → PageName) → ℕ → List ℕ → List Page
+padded_pages name filler bytes = pages_from (padded_page name filler bytes) 0 (page_count (length bytes))
 
 -- a page of the heap, in write mode
 abbrev pub heap_page : ℕ → ℕ → Page
-heap_page process page = named (Heap process page) zeros
+heap_page process page = page_with (Heap process page) zeros
 
 abbrev pub heap_pages : ℕ → ℕ → List Page
 heap_pages process count = pages_from (heap_page process) 0 count
@@ -65,9 +65,10 @@ heap_pages process count = pages_from (heap_page process) 0 count
 -- text and rewrite area, filled up with CC; initial data, filled up with 0; heap, and a pool page
 unfoldable pub process_pages : ℕ → ProcessImage → List Page
 process_pages process image =
-    filled_pages (Text process) 0xCC image.text
-    ++ (filled_pages (Area process) 0xCC image.area
-    ++ (filled_pages (Data process) 0 image.initial ++ (heap_pages process image.heap_pages ++ named (Pool process) zeros ∷ [])))
+    padded_pages (Text process) 0xCC image.text
+    ++ (padded_pages (Area process) 0xCC image.area
+    ++ (padded_pages (Data process) 0 image.initial ++
+    (heap_pages process image.heap_pages ++ page_with (Pool process) zeros ∷ [])))
 
 -- where the save page of a thread is
 abbrev pub save_address : ℕ → ℕ
@@ -84,12 +85,13 @@ record_bytes words = words_put zeros 0 (words_of words)
 -- a save page, four stack pages, and the record and the scratch page of the home view
 unfoldable pub thread_pages : ℕ → ℕ → List Page
 thread_pages thread home =
-    named (Save thread) zeros ∷ named (Stack thread 0) zeros ∷ named (Stack thread 1) zeros ∷ named (Stack thread 2) zeros ∷ named (Stack thread 3) zeros
-    ∷ named (Record thread 0) (record_bytes (home_words thread home)) ∷ named (Scratch thread 0) zeros ∷ []
+    page_with (Save thread) zeros ∷ page_with (Stack thread 0) zeros ∷ page_with (Stack thread 1) zeros ∷ page_with
+    (Stack thread 2) zeros ∷ page_with (Stack thread 3) zeros
+    ∷ page_with (Record thread 0) (record_bytes (home_words thread home)) ∷ page_with (Scratch thread 0) zeros ∷ []
 
 -- the two pages of the trampoline, which all views share
 unfoldable pub trampoline_pages : List Page
-trampoline_pages = named HomeTrampoline home_page ∷ named ServerTrampoline server_page ∷ []
+trampoline_pages = page_with HomeTrampoline home_page ∷ page_with ServerTrampoline server_page ∷ []
 
 -- the pages of processes in order, of which the first has this number
 abbrev pub images_pages : ℕ → List ProcessImage → List Page

@@ -19,38 +19,41 @@ use Rattle.sb_state.specs.declared.state.Flight.{Flight}
 use Rattle.sb_state.specs.declared.state.Thread.{Thread}
 use Rattle.sb_state.specs.State.{State, thread_at, with_regs, flight_at}
 use Rattle.sb_state.specs.PlainMemory.{plain}
-use Rattle.sb_trace.specs.Home.{Outcome, faulted}
-use Rattle.sb_trace.specs.Flight.{switched, flown}
+use Rattle.sb_trace.specs.Home.{Outcome, fault_outcome}
+use Rattle.sb_trace.specs.Flight.{vmfunc_outcome, landing_step}
 use Rattle.sb_calls.specs.SyscallRegisters.{after_syscall}
-use Rattle.sb_trace.specs.Syscall.{called}
+use Rattle.sb_trace.specs.Syscall.{syscall_outcome}
 
 -- ---- an ordinary step
 
 -- What stops a step is a fault: this memory never lacks a frame.
 abbrev pub StopsWith : State → ℕ → BusStop → Outcome → Type 0
-StopsWith state number (FaultStop kind address) outcome = outcome ≡ faulted state number kind address.0
+StopsWith state number (FaultStop kind address) outcome = outcome ≡ fault_outcome state number kind address.0
 StopsWith state number (Missing frame) outcome = ⊥
 
 -- by the effect of the instruction, which began with these registers and left others, and another state; `switch` is what
 -- VMFUNC does
-abbrev pub done : (State → ℕ → Outcome) → State → ℕ → Insn → Regs → Effect → Regs → State → Outcome
-done switch state number insn regs Next regs' state' = (StepLine regs.rip, with_regs state' number regs')
-done switch state number insn regs Syscall regs' state' = called state number (after_syscall (next_rip insn regs) regs)
-done switch state number insn regs Undefined regs' state' = faulted state number kind.Undefined regs.rip
-done switch state number insn regs Switch regs' state' = switch state number
+abbrev pub outcome_by_effect : (State → ℕ → Outcome) → State → ℕ → Insn → Regs → Effect → Regs → State → Outcome
+outcome_by_effect switch state number insn regs Next regs' state' = (StepLine regs.rip, with_regs state' number regs')
+outcome_by_effect switch state number insn regs Syscall regs' state' =
+    syscall_outcome state number (after_syscall (next_rip insn regs) regs)
+outcome_by_effect switch state number insn regs Undefined regs' state' = fault_outcome state number kind.Undefined regs.rip
+outcome_by_effect switch state number insn regs Switch regs' state' = switch state number
 
 abbrev pub PerformsBy : (State → ℕ → Outcome) → State → ℕ → Insn → Regs → Result Effect BusStop → Regs → State → Outcome → Type 0
-PerformsBy switch state number insn regs (Ok effect) regs' state' outcome = outcome ≡ done switch state number insn regs effect regs' state'
+PerformsBy switch state number insn regs (Ok effect) regs' state' outcome =
+    outcome ≡ outcome_by_effect switch state number insn regs effect regs' state'
 PerformsBy switch state number insn regs (Err stop) regs' state' outcome = StopsWith state number stop outcome
 
 -- what the instruction leaves in the memory of a thread's view
-abbrev pub executed : State → ℕ → ℕ → Insn → Regs → Execution State (Unit {0})
-executed state number view insn regs = execution_of (plain number view) (row_of insn regs) regs state tt
+abbrev pub execution_in_view : State → ℕ → ℕ → Insn → Regs → Execution State (Unit {0})
+execution_in_view state number view insn regs = execution_of (plain number view) (row_of insn regs) regs state tt
 
 abbrev pub Performs : (State → ℕ → Outcome) → State → ℕ → ℕ → Insn → Regs → Outcome → Type 0
 Performs switch state number view insn regs outcome =
-    PerformsBy switch state number insn regs (executed state number view insn regs).answer (executed state number view insn regs).registers
-    (executed state number view insn regs).meaning outcome
+    PerformsBy switch state number insn regs (execution_in_view state number view insn regs).answer
+    (execution_in_view state number view insn regs).registers
+    (execution_in_view state number view insn regs).meaning outcome
 
 abbrev pub FollowsFetch : (State → ℕ → Outcome) → State → ℕ → ℕ → Regs → Result Insn BusStop → Outcome → Type 0
 FollowsFetch switch state number view regs (Ok insn) outcome = Performs switch state number view insn regs outcome
@@ -59,14 +62,15 @@ FollowsFetch switch state number view regs (Err stop) outcome = StopsWith state 
 -- a running thread with these registers in this view
 abbrev pub RunsOn : (State → ℕ → Outcome) → State → ℕ → ℕ → Regs → Outcome → Type 0
 RunsOn switch state number view regs outcome =
-    (fetched : Result Insn BusStop) × FetchesOn (plain number view) state regs.rip tt tt fetched × FollowsFetch switch state number view regs fetched outcome
+    (fetched : Result Insn BusStop) × FetchesOn (plain number view) state regs.rip tt tt fetched
+    × FollowsFetch switch state number view regs fetched outcome
 
 -- ---- the step
 
 -- a running thread: its flight goes on, or it executes an instruction
 abbrev pub GoesOn : State → ℕ → Thread → Option Flight → Outcome → Type 0
-GoesOn state number thread None outcome = RunsOn switched state number thread.view thread.regs outcome
-GoesOn state number thread (Some flight) outcome = outcome ≡ flown state number flight
+GoesOn state number thread None outcome = RunsOn vmfunc_outcome state number thread.view thread.regs outcome
+GoesOn state number thread (Some flight) outcome = outcome ≡ landing_step state number flight
 
 -- a thread that has ended is idle
 abbrev pub StepsBy : State → ℕ → Thread → EndKind → Outcome → Type 0

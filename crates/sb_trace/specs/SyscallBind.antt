@@ -5,7 +5,7 @@ use Rattle.sb_abi.specs.declared.call.CallRefusal.{CallRefusal}
 use Rattle.sb_abi.specs.declared.frames.TheConstants.{BIND_FRAMES}
 use Rattle.sb_abi.specs.declared.space.TheConstants.{BUFFER_PAGES}
 use Rattle.sb_calls.specs.Refusals.{bind_refusal}
-use Rattle.sb_calls.specs.SyscallRegisters.{bound_regs}
+use Rattle.sb_calls.specs.SyscallRegisters.{regs_after_bind}
 use Rattle.sb_calls.specs.Views.{server_record}
 use Rattle.sb_tramp.specs.declared.record_words.RecordWords.{RecordWords}
 use Rattle.sb_trace.specs.declared.event.Event.TheVariants.{Sys}
@@ -18,13 +18,13 @@ use Rattle.sb_state.specs.PageWords.{zeros}
 use Rattle.sb_state.specs.Registers.{rax, rdi}
 use Rattle.sb_trace.specs.Home.{Outcome}
 use Rattle.sb_trace.specs.KernelCall.{handler_in}
-use Rattle.sb_trace.specs.Start.{named, pages_from, record_bytes}
-use Rattle.sb_trace.specs.SyscallAnswer.{declined}
+use Rattle.sb_trace.specs.Start.{page_with, pages_from, record_bytes}
+use Rattle.sb_trace.specs.SyscallAnswer.{syscall_refusal}
 use Rattle.sb_trace.specs.SyscallRegister.{is_registered}
 
 -- why a thread does not get a view of a process
-abbrev pub refuses_bind : State → Thread → ℕ → Option CallRefusal
-refuses_bind state thread server =
+abbrev pub refusal_of_bind : State → Thread → ℕ → Option CallRefusal
+refusal_of_bind state thread server =
     bind_refusal thread.view thread.home server (is_registered (registration_at state server)) (length thread.bindings)
     (length state.keys) state.free
 
@@ -61,12 +61,12 @@ server_words number thread binding handler = server_record number thread.home bi
 
 -- a page of a binding's buffer
 abbrev pub buffer_page : ℕ → ℕ → ℕ → Page
-buffer_page thread index page = named (Buffer thread index page) zeros
+buffer_page thread index page = page_with (Buffer thread index page) zeros
 
 -- the pages of a binding's view, and its buffer
 unfoldable pub binding_pages : ℕ → ℕ → RecordWords → List Page
 binding_pages thread index words =
-    named (Record thread index) (record_bytes words) ∷ named (Scratch thread index) zeros
+    page_with (Record thread index) (record_bytes words) ∷ page_with (Scratch thread index) zeros
     ∷ pages_from (buffer_page thread index) 0 BUFFER_PAGES
 
 -- the view is there, its key is drawn, and its frames are taken
@@ -83,13 +83,13 @@ with_binding state number thread binding =
 -- ---- the call
 
 -- the thread has this binding, and its registers tell it
-abbrev pub bound_to : State → ℕ → Thread → Regs → Binding → Outcome
-bound_to state number thread next binding = (
+abbrev pub binding_outcome : State → ℕ → Thread → Regs → Binding → Outcome
+binding_outcome state number thread next binding = (
   Sys (rax next) 0,
-  with_regs (with_binding state number thread binding) number (bound_regs next number binding.index binding.key),
+  with_regs (with_binding state number thread binding) number (regs_after_bind next number binding.index binding.key),
 )
 
 -- bind of a thread by its refusal: the server is in RDI
-abbrev pub bound : State → ℕ → Thread → Regs → Option CallRefusal → Outcome
-bound state number thread next (Some refusal) = declined state number next refusal 0
-bound state number thread next None = bound_to state number thread next (new_binding state thread (rdi next))
+abbrev pub bind_outcome : State → ℕ → Thread → Regs → Option CallRefusal → Outcome
+bind_outcome state number thread next (Some refusal) = syscall_refusal state number next refusal 0
+bind_outcome state number thread next None = binding_outcome state number thread next (new_binding state thread (rdi next))

@@ -11,7 +11,7 @@ use Rattle.sb_state.specs.PageName.{same_name}
 use Rattle.sb_state.specs.State.{State, Process, process_at}
 use Rattle.sb_trace.specs.Home.{Outcome}
 use Rattle.sb_state.specs.Pattern.{heap_pattern}
-use Rattle.sb_trace.specs.SyscallAnswer.{declined, accepted}
+use Rattle.sb_trace.specs.SyscallAnswer.{syscall_refusal, syscall_acceptance}
 
 -- the pages of a process's heap
 abbrev pub heap_count : Option Process → ℕ
@@ -25,22 +25,22 @@ with_mode (page ∷ pages) name executable =
     if same_name page.name name then record page { executable = executable } ∷ pages else page ∷ with_mode pages name executable
 
 -- the state with a heap page executable, or not
-unfoldable pub protected : State → ℕ → ℕ → Bool → State
-protected state process page executable = record state { pages = with_mode state.pages (Heap process page) executable }
+unfoldable pub with_heap_mode : State → ℕ → ℕ → Bool → State
+with_heap_mode state process page executable = record state { pages = with_mode state.pages (Heap process page) executable }
 
 -- executable only where the pattern stands neither in the page nor across its borders with executable ones
-abbrev pub made_executable : State → ℕ → Regs → ℕ → ℕ → Option ℕ → Outcome
-made_executable state number next process page (Some address) = declined state number next Pattern address
-made_executable state number next process page None = accepted (protected state process page true) number next
+abbrev pub execute_mode_outcome : State → ℕ → Regs → ℕ → ℕ → Option ℕ → Outcome
+execute_mode_outcome state number next process page (Some address) = syscall_refusal state number next Pattern address
+execute_mode_outcome state number next process page None = syscall_acceptance (with_heap_mode state process page true) number next
 
 -- protect by the refusal of page and mode: the mode is 1, or else 0
-abbrev pub protects_by : State → ℕ → Regs → ℕ → ℕ → ℕ → Option CallRefusal → Outcome
-protects_by state number next process page mode (Some refusal) = declined state number next refusal 0
-protects_by state number next process page mode None =
-    if mode == 1 then made_executable state number next process page (heap_pattern state process page)
-    else accepted (protected state process page false) number next
+abbrev pub protect_outcome_by : State → ℕ → Regs → ℕ → ℕ → ℕ → Option CallRefusal → Outcome
+protect_outcome_by state number next process page mode (Some refusal) = syscall_refusal state number next refusal 0
+protect_outcome_by state number next process page mode None =
+    if mode == 1 then execute_mode_outcome state number next process page (heap_pattern state process page)
+    else syscall_acceptance (with_heap_mode state process page false) number next
 
 -- protect of a thread: this page of the process gets this mode
-abbrev pub protects : State → ℕ → Regs → ℕ → ℕ → ℕ → Outcome
-protects state number next process page mode =
-    protects_by state number next process page mode (protect_refusal (heap_count (process_at state process)) page mode)
+abbrev pub protect_outcome : State → ℕ → Regs → ℕ → ℕ → ℕ → Outcome
+protect_outcome state number next process page mode =
+    protect_outcome_by state number next process page mode (protect_refusal (heap_count (process_at state process)) page mode)

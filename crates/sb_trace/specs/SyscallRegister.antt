@@ -13,8 +13,8 @@ use Rattle.sb_state.specs.State.{State, Process, process_at, registration_at}
 use Rattle.sb_state.specs.PageWords.{zeros, with_word}
 use Rattle.sb_state.specs.Registers.{rsi, rdi}
 use Rattle.sb_trace.specs.Home.{Outcome}
-use Rattle.sb_trace.specs.Start.{named, pages_from}
-use Rattle.sb_trace.specs.SyscallAnswer.{declined, accepted}
+use Rattle.sb_trace.specs.Start.{page_with, pages_from}
+use Rattle.sb_trace.specs.SyscallAnswer.{syscall_refusal, syscall_acceptance}
 
 -- ---- refusals
 
@@ -34,8 +34,8 @@ is_registered None = false
 is_registered (Some registration) = true
 
 -- why the process that a view shows does not become a server with this handler and so many stacks
-abbrev pub refuses_register : State → ℕ → ℕ → ℕ → ℕ → Option CallRefusal
-refuses_register state view process handler stacks =
+abbrev pub refusal_of_register : State → ℕ → ℕ → ℕ → ℕ → Option CallRefusal
+refusal_of_register state view process handler stacks =
     register_refusal view (is_registered (registration_at state process)) (is_start (process_at state process) handler) stacks
     state.free
 
@@ -47,7 +47,7 @@ stack_bytes page = if page % STACK_PAGES == STACK_PAGES - 1 then put_word zeros 
 
 -- a page of a server stack
 abbrev pub server_stack_page : ℕ → ℕ → Page
-server_stack_page process page = named (ServerStack process page) (stack_bytes page)
+server_stack_page process page = page_with (ServerStack process page) (stack_bytes page)
 
 -- the processes with what the one of this number, which is there, told
 abbrev pub with_registration : Option Process → List Process → ℕ → Registration → List Process
@@ -66,6 +66,6 @@ with_server state process handler stacks = record (with_word state (Pool process
 }
 
 -- register of a thread by its refusal: the handler is in RDI, the number of stacks in RSI
-abbrev pub registered : State → ℕ → Regs → ℕ → Option CallRefusal → Outcome
-registered state number next process (Some refusal) = declined state number next refusal 0
-registered state number next process None = accepted (with_server state process (rdi next) (rsi next)) number next
+abbrev pub register_outcome : State → ℕ → Regs → ℕ → Option CallRefusal → Outcome
+register_outcome state number next process (Some refusal) = syscall_refusal state number next refusal 0
+register_outcome state number next process None = syscall_acceptance (with_server state process (rdi next) (rsi next)) number next

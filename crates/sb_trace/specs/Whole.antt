@@ -6,7 +6,7 @@ use Rattle.sb_state.specs.declared.page.Page.{Page}
 use Rattle.sb_state.specs.declared.state.Registration.{Registration}
 use Rattle.sb_state.specs.declared.state.Thread.{Thread}
 use Rattle.sb_state.specs.State.{State, find_page, process_at, registration_at}
-use Rattle.sb_state.specs.Windows.{shown}
+use Rattle.sb_state.specs.Windows.{process_shown}
 use Rattle.sb_trace.specs.SyscallProtect.{heap_count}
 
 -- a page of this name is there
@@ -15,7 +15,7 @@ IsPresent pages name = (page : Page) × (find_page pages name ≡ Some page)
 
 -- the thread has a view of this index: its home view, or that of a binding
 abbrev pub IsViewThere : State → ℕ → ℕ → Type 0
-IsViewThere state thread view = (process : ℕ) × (shown state.threads thread view ≡ Some process)
+IsViewThere state thread view = (process : ℕ) × (process_shown state.threads thread view ≡ Some process)
 
 -- the number of a server's stacks
 abbrev pub stack_count : Option Registration → ℕ

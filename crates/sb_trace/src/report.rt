@@ -1,7 +1,7 @@
 //! The text of the report.
 
 ghost use Rattle.std.specs.Prelude.{◌≡◌, ◌++◌, OnOk, IfOk, string_bytes};
-ghost use Rattle.sb_trace.specs.Report.{lines_text, thread_line, regs_line, registers_text, flight_line, thread_text, threads_text, counts_text, report_text as text_of_report};
+ghost use Rattle.sb_trace.specs.Report.{lines_text, thread_line, regs_line, registers_text, flight_line, thread_text, threads_text, counts_text, report_text};
 
 use crate::end::{EndState, ThreadEnd};
 use crate::event::{Line, Lines};
@@ -88,7 +88,7 @@ fn push_counts(out: &mut String, end: &EndState) -> Result<(), AllocError>
 
 /// The report: a head line, a line for each step, the threads at the end, and the counts of what is left.
 pub fn report_text(alloc: Global, lines: &Lines, end: &EndState) -> Result<String, AllocError>
-    ensures { IfOk result (λ text. string_bytes text ≡ text_of_report lines.now end.now) }
+    ensures { IfOk result (λ text. string_bytes text ≡ report_text lines.now end.now) }
 {
     let mut out = String::new(alloc);
     out.push_str("skybridge report 1\n")?;

@@ -14,11 +14,14 @@ in_filler count index within = get_or-replicate count index 0xCC 0 within
 
 before_row : (gap index : ℕ) (bytes : List ℕ) → index < gap → get_or (filler gap ++ bytes) index 0 ≡ 0xCC
 before_row gap index bytes within =
-    get_or-append (filler gap) bytes 0 index (subst (λ (n : ℕ). index < n) (sym (length_filler gap)) within) ∙ in_filler gap index within
+    get_or-append (filler gap) bytes 0 index (subst (λ (n : ℕ). index < n) (sym (length_filler gap)) within)
+    ∙ in_filler gap index within
 
-behind_row : (gap index : ℕ) (bytes rest : List ℕ) → get_or (filler gap ++ (bytes ++ rest)) (gap + (length bytes + index)) 0 ≡ get_or rest index 0
+behind_row : (gap index : ℕ) (bytes rest : List ℕ)
+    → get_or (filler gap ++ (bytes ++ rest)) (gap + (length bytes + index)) 0 ≡ get_or rest index 0
 behind_row gap index bytes rest =
-    subst (λ (n : ℕ). get_or (filler gap ++ (bytes ++ rest)) (n + (length bytes + index)) 0 ≡ get_or (bytes ++ rest) (length bytes + index) 0) (length_filler gap)
+    subst (λ (n : ℕ). get_or (filler gap ++ (bytes ++ rest)) (n + (length bytes + index)) 0
+    ≡ get_or (bytes ++ rest) (length bytes + index) 0) (length_filler gap)
     (get_or-append-add (filler gap) (bytes ++ rest) (length bytes + index) 0)
     ∙ get_or-append-add bytes rest index 0
 
@@ -31,20 +34,26 @@ first_of_rows row rows = (0, omega arith, refl)
 later_in_rows : (first row : Row) (rows : List Row) → Contains rows row → Contains (first ∷ rows) row
 later_in_rows first row rows found = (suc found.0, omega (arith, found.1), found.2)
 
-filled_from : (rows : List Row) (from offset : ℕ) → in_order from rows ≡ true → from ≤ offset → offset < page_size → NoneCovers rows offset → get_or (page_from from rows) (offset - from) 0 ≡ 0xCC
+filled_from : (rows : List Row) (from offset : ℕ) → in_order from rows ≡ true → from ≤ offset → offset < page_size
+    → NoneCovers rows offset → get_or (page_from from rows) (offset - from) 0 ≡ 0xCC
 filled_from [] from offset e low high none = in_filler (page_size - from) (offset - from) (omega (arith, low, high))
 filled_from (row ∷ rows) from offset e low high none =
     let parts = in_order_parts from row rows e in
     elim (leb_tells row.offset offset) [
       | inl at ↦
-          let behind : end_of row ≤ offset = omega (arith, at.1, λ (within : offset < end_of row). none row (first_of_rows row rows) (at.1, within)) in
-          let far : offset - from ≡ (row.offset - from) + (length (spelling row.insn) + (offset - end_of row)) = omega (arith, parts.0, behind) in
+          let behind : end_of row ≤ offset =
+          omega (arith, at.1, λ (within : offset < end_of row). none row (first_of_rows row rows) (at.1, within)) in
+          let far : offset - from ≡ (row.offset - from) + (length (spelling row.insn) + (offset - end_of row)) =
+          omega (arith, parts.0, behind) in
           ap (λ (n : ℕ). get_or (filler (row.offset - from) ++ (spelling row.insn ++ page_from (end_of row) rows)) n 0) far
           ∙ (behind_row (row.offset - from) (offset - end_of row) (spelling row.insn) (page_from (end_of row) rows)
-          ∙ filled_from rows (end_of row) offset parts.1 behind high (λ other found. none other (later_in_rows row other rows found)))
-      | inr before ↦ before_row (row.offset - from) (offset - from) (spelling row.insn ++ page_from (end_of row) rows) (omega (arith, before.1, low))
+          ∙ filled_from rows (end_of row) offset parts.1 behind high
+          (λ other found. none other (later_in_rows row other rows found)))
+      | inr before ↦ before_row (row.offset - from) (offset - from) (spelling row.insn ++ page_from (end_of row) rows)
+          (omega (arith, before.1, low))
     ]
 
 pub filled_elsewhere : (rows : List Row) → in_order 0 rows ≡ true → FilledElsewhere rows
 unfolding page_of
-filled_elsewhere rows e offset high none = subst (λ (n : ℕ). get_or (page_from 0 rows) n 0 ≡ 0xCC) (omega arith) (filled_from rows 0 offset e (omega arith) high none)
+filled_elsewhere rows e offset high none =
+    subst (λ (n : ℕ). get_or (page_from 0 rows) n 0 ≡ 0xCC) (omega arith) (filled_from rows 0 offset e (omega arith) high none)

@@ -21,7 +21,8 @@ pub and_parts : (a b : Bool) → (a && b) ≡ true → (a ≡ true) × (b ≡ tr
 and_parts true b e = (refl, e)
 and_parts false b e = absurd cc
 
-pub in_order_parts : (offset : ℕ) (row : Row) (rows : List Row) → in_order offset (row ∷ rows) ≡ true → (offset ≤ row.offset) × (in_order (end_of row) rows ≡ true)
+pub in_order_parts : (offset : ℕ) (row : Row) (rows : List Row) → in_order offset (row ∷ rows) ≡ true
+    → (offset ≤ row.offset) × (in_order (end_of row) rows ≡ true)
 in_order_parts offset row rows e =
     let parts = and_parts (leb offset row.offset) (in_order (end_of row) rows) e in
     (leb-true offset row.offset parts.0, parts.1)
@@ -33,12 +34,14 @@ length_filler count = length-replicate count 0xCC
 -- behind filler and a spelling
 past : (gap at : ℕ) (bytes rest : List ℕ) → drop (gap + (length bytes + at)) (filler gap ++ (bytes ++ rest)) ≡ drop at rest
 past gap at bytes rest =
-    subst (λ (n : ℕ). drop (n + (length bytes + at)) (filler gap ++ (bytes ++ rest)) ≡ drop (length bytes + at) (bytes ++ rest)) (length_filler gap)
+    subst (λ (n : ℕ). drop (n + (length bytes + at)) (filler gap ++ (bytes ++ rest)) ≡ drop (length bytes + at) (bytes ++ rest))
+    (length_filler gap)
     (drop-append-add (filler gap) (bytes ++ rest) (length bytes + at))
     ∙ drop-append-add bytes rest at
 
 at_seam : (gap : ℕ) (bytes : List ℕ) → drop gap (filler gap ++ bytes) ≡ bytes
-at_seam gap bytes = subst (λ (n : ℕ). drop n (filler gap ++ bytes) ≡ bytes) (length_filler gap) (drop-append_seam (filler gap) bytes)
+at_seam gap bytes =
+    subst (λ (n : ℕ). drop n (filler gap ++ bytes) ≡ bytes) (length_filler gap) (drop-append_seam (filler gap) bytes)
 
 ends_inside : (offset : ℕ) (rows : List Row) → in_order offset rows ≡ true → offset ≤ page_size
 ends_inside offset [] e = leb-true offset page_size e
@@ -55,7 +58,8 @@ record Placed (offset : ℕ) (bytes : List ℕ) (row : Row) : Type 0 where
   inside : end_of row ≤ page_size
   valid : IsValid row.insn
 
-placed_first : (offset : ℕ) (row : Row) (rows : List Row) → in_order offset (row ∷ rows) ≡ true → IsValid row.insn → Placed offset (page_from offset (row ∷ rows)) row
+placed_first : (offset : ℕ) (row : Row) (rows : List Row) → in_order offset (row ∷ rows) ≡ true → IsValid row.insn
+    → Placed offset (page_from offset (row ∷ rows)) row
 placed_first offset row rows e valid =
     let parts = in_order_parts offset row rows e in
     record {
@@ -66,31 +70,39 @@ placed_first offset row rows e valid =
       valid = valid;
     }
 
-placed_later : (offset : ℕ) (first row : Row) (rest : List ℕ) → offset ≤ first.offset → Placed (end_of first) rest row → Placed offset (filler (first.offset - offset) ++ (spelling first.insn ++ rest)) row
+placed_later : (offset : ℕ) (first row : Row) (rest : List ℕ) → offset ≤ first.offset → Placed (end_of first) rest row
+    → Placed offset (filler (first.offset - offset) ++ (spelling first.insn ++ rest)) row
 placed_later offset first row rest e placed =
-    let far : row.offset - offset ≡ (first.offset - offset) + (length (spelling first.insn) + (row.offset - end_of first)) = omega (arith, e, placed.behind) in
+    let far : row.offset - offset ≡ (first.offset - offset) + (length (spelling first.insn) + (row.offset - end_of first)) =
+    omega (arith, e, placed.behind) in
     record {
       rest = placed.rest;
-      stands = ap (λ (n : ℕ). drop n (filler (first.offset - offset) ++ (spelling first.insn ++ rest))) far ∙ (past (first.offset - offset) (row.offset - end_of first) (spelling first.insn) rest ∙ placed.stands);
+      stands = ap (λ (n : ℕ). drop n (filler (first.offset - offset) ++ (spelling first.insn ++ rest))) far
+          ∙ (past (first.offset - offset) (row.offset - end_of first) (spelling first.insn) rest ∙ placed.stands);
       behind = omega (arith, e, placed.behind);
       inside = placed.inside;
       valid = placed.valid;
     }
 
-placed : (rows : List Row) (offset k : ℕ) (row : Row) → in_order offset rows ≡ true → EachValid rows → k < length rows → slice_index_or rows k row ≡ row → Placed offset (page_from offset rows) row
+placed : (rows : List Row) (offset k : ℕ) (row : Row) → in_order offset rows ≡ true → EachValid rows → k < length rows
+    → slice_index_or rows k row ≡ row → Placed offset (page_from offset rows) row
 placed [] offset k row e valid within is = absurd (omega (arith, within))
 placed (first ∷ rows) offset zero row e valid within is =
     subst (λ (t : Row). Placed offset (page_from offset (first ∷ rows)) t) is (placed_first offset first rows e valid.0)
 placed (first ∷ rows) offset (suc k) row e valid within is =
     let parts = in_order_parts offset first rows e in
-    placed_later offset first row (page_from (end_of first) rows) parts.0 (placed rows (end_of first) k row parts.1 valid.1 (omega (arith, within)) is)
+    placed_later offset first row (page_from (end_of first) rows) parts.0
+    (placed rows (end_of first) k row parts.1 valid.1 (omega (arith, within)) is)
 
 pub each_stands : (rows : List Row) → in_order 0 rows ≡ true → EachValid rows → EachStands rows
 unfolding page_of
 each_stands rows e valid row found =
     let at = placed rows 0 found.0 row e valid found.1 found.2 in
     record {
-      begins = (at.valid, (at.rest, subst (λ (n : ℕ). drop n (page_from 0 rows) ≡ spelling row.insn ++ at.rest) (omega arith) at.stands));
+      begins = (
+        at.valid,
+        (at.rest, subst (λ (n : ℕ). drop n (page_from 0 rows) ≡ spelling row.insn ++ at.rest) (omega arith) at.stands),
+      );
       inside = at.inside;
     }
 
@@ -106,12 +118,15 @@ abbrev pub code_from : ℕ → List Row → List ℕ
 code_from offset [] = []
 code_from offset (row ∷ rows) = filler (row.offset - offset) ++ (spelling row.insn ++ code_from (end_of row) rows)
 
-pub code_and_filler : (offset : ℕ) (rows : List Row) → page_from offset rows ≡ code_from offset rows ++ filler (page_size - last_end offset rows)
+pub code_and_filler : (offset : ℕ) (rows : List Row)
+    → page_from offset rows ≡ code_from offset rows ++ filler (page_size - last_end offset rows)
 code_and_filler offset [] = refl
 code_and_filler offset (row ∷ rows) =
     ap (λ (rest : List ℕ). filler (row.offset - offset) ++ (spelling row.insn ++ rest)) (code_and_filler (end_of row) rows)
-    ∙ (ap (λ (rest : List ℕ). filler (row.offset - offset) ++ rest) (sym (append_assoc (spelling row.insn) (code_from (end_of row) rows) (filler (page_size - last_end (end_of row) rows))))
-    ∙ sym (append_assoc (filler (row.offset - offset)) (spelling row.insn ++ code_from (end_of row) rows) (filler (page_size - last_end (end_of row) rows))))
+    ∙ (ap (λ (rest : List ℕ). filler (row.offset - offset) ++ rest)
+    (sym (append_assoc (spelling row.insn) (code_from (end_of row) rows) (filler (page_size - last_end (end_of row) rows))))
+    ∙ sym (append_assoc (filler (row.offset - offset)) (spelling row.insn ++ code_from (end_of row) rows)
+    (filler (page_size - last_end (end_of row) rows))))
 
 page_length : (rows : List Row) (offset : ℕ) → in_order offset rows ≡ true → offset + length (page_from offset rows) ≡ page_size
 page_length [] offset e = omega (arith, leb-true offset page_size e, length_filler (page_size - offset))

@@ -17,9 +17,12 @@ no_phase phase above = ap (λ (row : Option Row). option_map place_of row) (slic
 -- the landing's rows and the switch are rows of the page
 phase_in_page : (row : Row) → Contains landed_rows row ⊎ Contains (switch_row ∷ []) row → Contains server_rows row
 phase_in_page row (inl landed) = Contains-append_right (return_rows ++ (switch_row ∷ [])) landed_rows row landed
-phase_in_page row (inr switch) = Contains-append_left (return_rows ++ (switch_row ∷ [])) landed_rows row (Contains-append_right return_rows (switch_row ∷ []) row switch)
+phase_in_page row (inr switch) =
+    Contains-append_left (return_rows ++ (switch_row ∷ [])) landed_rows row
+    (Contains-append_right return_rows (switch_row ∷ []) row switch)
 
 pub each_phase_stands : EachPhaseStands
 each_phase_stands phase row is =
-    let found : Contains phase_rows row = (phase, slice_get_within phase_rows phase row is, get_or_from_slice_get phase_rows phase row row is) in
+    let found : Contains phase_rows row =
+    (phase, slice_get_within phase_rows phase row is, get_or_from_slice_get phase_rows phase row row is) in
     server_stands row (phase_in_page row (Contains-append_cases landed_rows (switch_row ∷ []) row found))

@@ -30,7 +30,8 @@ not_other byte e is = let at = subst (λ (b : ℕ). other b ≡ true) is e in ab
 not_in_filler : (count index : ℕ) → get_or (filler count) index 0 ≡ 0xD4 → ⊥
 not_in_filler count index is =
     elim (leb_tells count index) [
-      | inl past ↦ let zeros = get_or-eq_default (filler count) 0 {n = index} (omega (arith, past.1, length_filler count)) in omega (arith, is, zeros)
+      | inl past ↦ let zeros = get_or-eq_default (filler count) 0 {n = index} (omega (arith, past.1, length_filler count)) in
+          omega (arith, is, zeros)
       | inr within ↦ let filled = in_filler count index within.1 in omega (arith, is, filled)
     ]
 
@@ -44,11 +45,14 @@ at_lone [] count at index e is = absurd (not_in_filler count index is)
 at_lone (byte ∷ code) count zero zero e is = refl
 at_lone (byte ∷ code) count zero (suc index) e is = absurd (not_behind code count index e is)
 at_lone (byte ∷ code) count (suc at) zero e is = absurd (not_other byte (and_parts (other byte) (lone code at) e).0 is)
-at_lone (byte ∷ code) count (suc at) (suc index) e is = let same = at_lone code count at index (and_parts (other byte) (lone code at) e).1 is in omega (arith, same)
+at_lone (byte ∷ code) count (suc at) (suc index) e is =
+    let same = at_lone code count at index (and_parts (other byte) (lone code at) e).1 is in omega (arith, same)
 
 -- the switch stands, and no other place has its last byte
-switches : (code : List ℕ) (count : ℕ) → lone code 0x42 ≡ true → HasPatternAt (code ++ filler count) 0x40 → SwitchesAlone (code ++ filler count)
-switches code count e here = (here, λ place found. let last = at_lone code count 0x42 (place + 2) e found.2 in omega (arith, last))
+switches : (code : List ℕ) (count : ℕ) → lone code 0x42 ≡ true → HasPatternAt (code ++ filler count) 0x40
+    → SwitchesAlone (code ++ filler count)
+switches code count e here =
+    (here, λ place found. let last = at_lone code count 0x42 (place + 2) e found.2 in omega (arith, last))
 
 home_lone : lone (code_from 0 home_rows) 0x42 ≡ true
 unfolding filler
@@ -67,7 +71,11 @@ unfolding filler
 server_here count = (refl, refl, refl)
 
 pub home_switches : SwitchesAlone (page_of home_rows)
-home_switches = subst SwitchesAlone (home_laid page_size refl) (switches (code_from 0 home_rows) (page_size - 0x6A) home_lone (home_here (page_size - 0x6A)))
+home_switches =
+    subst SwitchesAlone (home_laid page_size refl)
+    (switches (code_from 0 home_rows) (page_size - 0x6A) home_lone (home_here (page_size - 0x6A)))
 
 pub server_switches : SwitchesAlone (page_of server_rows)
-server_switches = subst SwitchesAlone (server_laid page_size refl) (switches (code_from 0 server_rows) (page_size - 0xA5) server_lone (server_here (page_size - 0xA5)))
+server_switches =
+    subst SwitchesAlone (server_laid page_size refl)
+    (switches (code_from 0 server_rows) (page_size - 0xA5) server_lone (server_here (page_size - 0xA5)))

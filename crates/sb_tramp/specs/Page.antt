@@ -55,7 +55,8 @@ Covers row offset = (row.offset ≤ offset) × (offset < end_of row)
 -- each byte that belongs to no row is CC
 abbrev pub FilledElsewhere : List Row → Type 0
 FilledElsewhere rows =
-    (offset : ℕ) → offset < page_size → ((row : Row) → Contains rows row → ¬ Covers row offset) → get_or (page_of rows) offset 0 ≡ 0xCC
+    (offset : ℕ) → offset < page_size → ((row : Row) → Contains rows row → ¬ Covers row offset)
+    → get_or (page_of rows) offset 0 ≡ 0xCC
 
 -- the page has the size of a page
 abbrev pub HasPageSize : List Row → Type 0

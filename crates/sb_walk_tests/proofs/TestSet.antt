@@ -20,7 +20,8 @@ later_frame (suc (suc (suc (suc (suc (suc (suc (suc (suc zero))))))))) within = 
 later_frame (suc (suc (suc (suc (suc (suc (suc (suc (suc (suc zero)))))))))) within = refl
 later_frame (suc (suc (suc (suc (suc (suc (suc (suc (suc (suc (suc table))))))))))) within = absurd (omega arith)
 
-inside : (memory : Physical) → 611 ≤ frame_count memory → (table : ℕ) → table < 12 → table_frame test_set table < frame_count memory
+inside : (memory : Physical) → 611 ≤ frame_count memory → (table : ℕ) → table < 12
+    → table_frame test_set table < frame_count memory
 inside memory enough zero within = omega arith
 inside memory enough (suc table) within = let frame = later_frame table (omega arith) in rw frame (omega arith)
 

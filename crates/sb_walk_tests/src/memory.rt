@@ -4,8 +4,7 @@ ghost use Rattle.std.specs.Prelude.{◌≡◌};
 ghost use Rattle.sb_memory.specs.Physical.{IsWordPlace};
 
 use crate::sparse::Sparse;
-use sb_memory::PAGE_SIZE;
-use sb_memory::{Frame, Linear, Memory, Missing, Phys, PhysAddr};
+use sb_memory::{Frame, Linear, Memory, Missing, PAGE_SIZE, Phys, PhysAddr};
 
 /// Copies a word of any memory.
 fn copy_word<P: Phys>(phys: &mut P, from: PhysAddr, to: PhysAddr) -> Result<(), Missing>

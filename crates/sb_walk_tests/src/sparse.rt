@@ -3,8 +3,7 @@
 ghost use Rattle.std.specs.Prelude.{◌≡◌, ◌≤◌, take};
 ghost use Rattle.sb_walk_tests.specs.TestMemory.{noted_place};
 
-use sb_memory::PAGE_SIZE;
-use sb_memory::{Frame, Memory, Missing, Phys, PhysAddr};
+use sb_memory::{Frame, Memory, Missing, PAGE_SIZE, Phys, PhysAddr};
 use std::alloc::{AllocError, Global};
 
 /// Memory of so many frames. Contracts do not see how many, so that no proof lists its bytes.

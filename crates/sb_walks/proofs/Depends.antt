@@ -20,9 +20,9 @@ use Rattle.sb_walks.specs.declared.stop.NestedStop.TheVariants as nested
 use Rattle.sb_walks.specs.Entry.{frame_in, entry_place, index_at, four_levels}
 use Rattle.sb_memory.specs.Outcome.{and_then}
 use Rattle.sb_walks.specs.Reads.{where_ok}
-use Rattle.sb_walks.specs.Ept.{ept_entry, ept_step, ept_levels, ept_reads, ept_walked, ept_walk_reads, phys_in}
-use Rattle.sb_walks.specs.Guest.{is_canonical, read_judged, walk_step, walk_levels, level_reads, walked, walk_reads, address_in}
-use Rattle.sb_walks.specs.Nested.{mapped, entry_answer, entry_behind, guest_entry, guest_entry_reads, page_behind, page_answer, translated, entries_reads, translation_reads}
+use Rattle.sb_walks.specs.Ept.{ept_entry, ept_step, ept_levels, ept_reads, ept_walk, ept_walk_reads, phys_in}
+use Rattle.sb_walks.specs.Guest.{is_canonical, guest_read_answer, walk_step, walk_levels, level_reads, guest_walk, walk_reads, address_in}
+use Rattle.sb_walks.specs.Nested.{mapped_answer, entry_answer, entry_behind, guest_entry, guest_entry_reads, page_behind, page_answer, translation, entries_reads, translation_reads}
 use Rattle.sb_walks.proofs.Page.{ept_offset}
 
 -- ---- stops that are missing frames
@@ -167,10 +167,10 @@ module _ (memory changed : Physical) (frames : frame_count changed ≡ frame_cou
       (end_no_gap ept_gap (phys_in at) (ept_levels memory at access four_levels (frame_in eptp)) g))
 
   pub ept_same : (eptp at : ℕ) (access : Access) → Each Holds (ept_walk_reads memory eptp at access)
-      → NoGap ept_gap (ept_walked memory eptp at access)
-      → Same There (ept_walked memory eptp at access) (ept_walked changed eptp at access)
+      → NoGap ept_gap (ept_walk memory eptp at access)
+      → Same There (ept_walk memory eptp at access) (ept_walk changed eptp at access)
       (ept_walk_reads memory eptp at access) (ept_walk_reads changed eptp at access)
-  unfolding ept_walked ept_walk_reads
+  unfolding ept_walk ept_walk_reads
   ept_same eptp at access h g = wide (nat_le (2 ^ 48) at) eptp at access h g
 
   -- ---- an entry of the guest
@@ -193,15 +193,15 @@ module _ (memory changed : Physical) (frames : frame_count changed ≡ frame_cou
   behind_no_gap (Ok place) g = tt
   behind_no_gap (Err e) g = g
 
-  pub entry_same : (eptp at : ℕ) → at % 8 ≡ 0 → Each Holds (guest_entry_reads (mapped memory eptp) at)
-      → NoGap table_gap (guest_entry (mapped memory eptp) at)
-      → Same There (guest_entry (mapped memory eptp) at) (guest_entry (mapped changed eptp) at)
-      (guest_entry_reads (mapped memory eptp) at) (guest_entry_reads (mapped changed eptp) at)
+  pub entry_same : (eptp at : ℕ) → at % 8 ≡ 0 → Each Holds (guest_entry_reads (mapped_answer memory eptp) at)
+      → NoGap table_gap (guest_entry (mapped_answer memory eptp) at)
+      → Same There (guest_entry (mapped_answer memory eptp) at) (guest_entry (mapped_answer changed eptp) at)
+      (guest_entry_reads (mapped_answer memory eptp) at) (guest_entry_reads (mapped_answer changed eptp) at)
   unfolding guest_entry guest_entry_reads
   entry_same eptp at even h g =
       let first = ept_same eptp at Read (each_left Holds (ept_walk_reads memory eptp at Read) _ h)
-      (behind_no_gap (ept_walked memory eptp at Read) g) in
-      let last = behind_same (ept_walked memory eptp at Read)
+      (behind_no_gap (ept_walk memory eptp at Read) g) in
+      let last = behind_same (ept_walk memory eptp at Read)
       (λ place led. let offset = (ept_offset memory eptp at Read place led).1 in omega arith)
       (each_right Holds (ept_walk_reads memory eptp at Read) _ h) g in
       record {
@@ -214,10 +214,10 @@ module _ (memory changed : Physical) (frames : frame_count changed ≡ frame_cou
 
 module _ (memory changed : Physical) (frames : frame_count changed ≡ frame_count memory) (eptp : ℕ) where
   abbrev old : ℕ → Result ℕ TableStop
-  old = guest_entry (mapped memory eptp)
+  old = guest_entry (mapped_answer memory eptp)
 
   abbrev new : ℕ → Result ℕ TableStop
-  new = guest_entry (mapped changed eptp)
+  new = guest_entry (mapped_answer changed eptp)
 
   abbrev HeldWord : ℕ → Type 0
   HeldWord = Holds memory changed frames
@@ -227,13 +227,14 @@ module _ (memory changed : Physical) (frames : frame_count changed ≡ frame_cou
 
   -- an entry that is read is the same
   abbrev HeldEntry : ℕ → Type 0
-  HeldEntry place = Each HeldWord (guest_entry_reads (mapped memory eptp) place)
+  HeldEntry place = Each HeldWord (guest_entry_reads (mapped_answer memory eptp) place)
 
   abbrev ThereEntry : ℕ → Type 0
-  ThereEntry place = (guest_entry_reads (mapped changed eptp) place ≡ guest_entry_reads (mapped memory eptp) place)
-      × Each ThereWord (guest_entry_reads (mapped memory eptp) place)
+  ThereEntry place = (guest_entry_reads (mapped_answer changed eptp) place ≡ guest_entry_reads (mapped_answer memory eptp) place)
+      × Each ThereWord (guest_entry_reads (mapped_answer memory eptp) place)
 
-  judged_gap : (access : Access) (level : ℕ) (answer : Result ℕ TableStop) → NoGap walk_gap (read_judged access level answer)
+  judged_gap : (access : Access) (level : ℕ) (answer : Result ℕ TableStop)
+      → NoGap walk_gap (guest_read_answer access level answer)
       → NoGap table_gap answer
   judged_gap access level (Ok entry) g = tt
   judged_gap access level (Err unread) g = g
@@ -249,7 +250,7 @@ module _ (memory changed : Physical) (frames : frame_count changed ≡ frame_cou
   guest_step_same linear access level frame h g =
       let same = entry_same memory changed frames eptp (entry_place frame level linear)
       (even_place frame (index_at level linear)) h (judged_gap access level (old (entry_place frame level linear)) g) in
-      (ap (λ r. read_judged access level r) same.answer, (same.reads, same.there))
+      (ap (λ r. guest_read_answer access level r) same.answer, (same.reads, same.there))
 
   guest_levels_same : (linear : ℕ) (access : Access) (levels : List ℕ) (frame : ℕ)
       → Each HeldEntry (level_reads old linear access levels frame)
@@ -293,32 +294,32 @@ module _ (memory changed : Physical) (frames : frame_count changed ≡ frame_cou
   canon false cr3 linear access h g = record { answer = refl; reads = refl; there = tt }
 
   guest_same : (cr3 linear : ℕ) (access : Access) → Each HeldEntry (walk_reads old cr3 linear access)
-      → NoGap walk_gap (walked old cr3 linear access)
-      → Same ThereEntry (walked old cr3 linear access) (walked new cr3 linear access) (walk_reads old cr3 linear access)
+      → NoGap walk_gap (guest_walk old cr3 linear access)
+      → Same ThereEntry (guest_walk old cr3 linear access) (guest_walk new cr3 linear access) (walk_reads old cr3 linear access)
       (walk_reads new cr3 linear access)
-  unfolding walked walk_reads
+  unfolding guest_walk walk_reads
   guest_same cr3 linear access h g = canon (is_canonical linear) cr3 linear access h g
 
   -- ---- both
 
-  entries_held : (places : List ℕ) → Each HeldWord (entries_reads (mapped memory eptp) places) → Each HeldEntry places
+  entries_held : (places : List ℕ) → Each HeldWord (entries_reads (mapped_answer memory eptp) places) → Each HeldEntry places
   entries_held [] h = tt
   entries_held (place ∷ places) h = (
-    each_left HeldWord (guest_entry_reads (mapped memory eptp) place) _ h,
+    each_left HeldWord (guest_entry_reads (mapped_answer memory eptp) place) _ h,
     entries_held places
-        (each_right HeldWord (guest_entry_reads (mapped memory eptp) place) _ h),
+        (each_right HeldWord (guest_entry_reads (mapped_answer memory eptp) place) _ h),
   )
 
   entries_there : (places : List ℕ) → Each ThereEntry places
-      → (entries_reads (mapped changed eptp) places ≡ entries_reads (mapped memory eptp) places)
-      × Each ThereWord (entries_reads (mapped memory eptp) places)
+      → (entries_reads (mapped_answer changed eptp) places ≡ entries_reads (mapped_answer memory eptp) places)
+      × Each ThereWord (entries_reads (mapped_answer memory eptp) places)
   entries_there [] h = (refl, tt)
   entries_there (place ∷ places) h =
       let rest = entries_there places h.1 in
       (rw (h.0.0, rest.0) refl, each_joined ThereWord _ _ h.0.1 rest.1)
 
   page_no_gap : (access : Access) (answer : Result GuestPhys WalkStop)
-      → NoGap nested_gap (page_behind (mapped memory eptp) access answer) → NoGap walk_gap answer
+      → NoGap nested_gap (page_behind (mapped_answer memory eptp) access answer) → NoGap walk_gap answer
   page_no_gap access (Ok at) g = tt
   page_no_gap access (Err e) g = g
 
@@ -328,28 +329,32 @@ module _ (memory changed : Physical) (frames : frame_count changed ≡ frame_cou
 
   page_same : (access : Access) (answer : Result GuestPhys WalkStop)
       → Each HeldWord (where_ok answer (λ at. ept_walk_reads memory eptp at.0 access))
-      → NoGap nested_gap (page_behind (mapped memory eptp) access answer)
-      → Same ThereWord (page_behind (mapped memory eptp) access answer) (page_behind (mapped changed eptp) access answer)
+      → NoGap nested_gap (page_behind (mapped_answer memory eptp) access answer)
+      → Same ThereWord (page_behind (mapped_answer memory eptp) access answer)
+      (page_behind (mapped_answer changed eptp) access answer)
       (where_ok answer (λ at. ept_walk_reads memory eptp at.0 access))
       (where_ok answer (λ at. ept_walk_reads changed eptp at.0 access))
   page_same access (Ok at) h g =
-      let same = ept_same memory changed frames eptp at.0 access h (answer_no_gap (ept_walked memory eptp at.0 access) g) in
+      let same = ept_same memory changed frames eptp at.0 access h (answer_no_gap (ept_walk memory eptp at.0 access) g) in
       record { answer = ap page_answer same.answer; reads = same.reads; there = same.there }
   page_same access (Err e) h g = record { answer = refl; reads = refl; there = tt }
 
   -- the nested walk depends on the words that it reads alone
-  pub walk_same : (cr3 linear : ℕ) (access : Access) → Each HeldWord (translation_reads (mapped memory eptp) cr3 linear access)
-      → NoGap nested_gap (translated (mapped memory eptp) cr3 linear access)
-      → Same ThereWord (translated (mapped memory eptp) cr3 linear access) (translated (mapped changed eptp) cr3 linear access)
-      (translation_reads (mapped memory eptp) cr3 linear access) (translation_reads (mapped changed eptp) cr3 linear access)
-  unfolding translated translation_reads
+  pub walk_same : (cr3 linear : ℕ) (access : Access)
+      → Each HeldWord (translation_reads (mapped_answer memory eptp) cr3 linear access)
+      → NoGap nested_gap (translation (mapped_answer memory eptp) cr3 linear access)
+      → Same ThereWord (translation (mapped_answer memory eptp) cr3 linear access)
+      (translation (mapped_answer changed eptp) cr3 linear access)
+      (translation_reads (mapped_answer memory eptp) cr3 linear access)
+      (translation_reads (mapped_answer changed eptp) cr3 linear access)
+  unfolding translation translation_reads
   walk_same cr3 linear access h g =
       let held = entries_held (walk_reads old cr3 linear access)
-      (each_left HeldWord (entries_reads (mapped memory eptp) (walk_reads old cr3 linear access)) _ h) in
-      let first = guest_same cr3 linear access held (page_no_gap access (walked old cr3 linear access) g) in
+      (each_left HeldWord (entries_reads (mapped_answer memory eptp) (walk_reads old cr3 linear access)) _ h) in
+      let first = guest_same cr3 linear access held (page_no_gap access (guest_walk old cr3 linear access) g) in
       let entries = entries_there (walk_reads old cr3 linear access) first.there in
-      let last = page_same access (walked old cr3 linear access)
-      (each_right HeldWord (entries_reads (mapped memory eptp) (walk_reads old cr3 linear access)) _ h) g in
+      let last = page_same access (guest_walk old cr3 linear access)
+      (each_right HeldWord (entries_reads (mapped_answer memory eptp) (walk_reads old cr3 linear access)) _ h) g in
       record {
         answer = rw first.answer last.answer;
         reads = rw (first.answer, first.reads, entries.0, last.reads) refl;

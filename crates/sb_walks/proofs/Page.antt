@@ -10,9 +10,9 @@ use Rattle.sb_memory.specs.declared.address.EptStop.{EptStop}
 use Rattle.sb_walks.specs.declared.stop.TableStop.{TableStop}
 use Rattle.sb_walks.specs.declared.stop.WalkStop.{WalkStop}
 use Rattle.sb_walks.specs.Entry.{frame_in, four_levels}
-use Rattle.sb_walks.specs.Ept.{ept_levels, ept_walked}
-use Rattle.sb_walks.specs.Guest.{is_canonical, walk_levels, walked}
-use Rattle.sb_walks.specs.Nested.{Mapped, guest_entry, page_answer, page_behind, translated}
+use Rattle.sb_walks.specs.Ept.{ept_levels, ept_walk}
+use Rattle.sb_walks.specs.Guest.{is_canonical, walk_levels, guest_walk}
+use Rattle.sb_walks.specs.Nested.{Mapped, guest_entry, page_answer, page_behind, translation}
 use Rattle.sb_walks.proofs.SamePage.{address, guest_address, unwrapped, ept_walked-page, walked-page}
 
 -- a walk that leads somewhere passed its first test
@@ -34,8 +34,8 @@ guest_offset (Ok frame) x page below e =
 guest_offset (Err stop) x page below e = cc
 
 walked_offset : (entries : ℕ → Result ℕ TableStop) (cr3 at : ℕ) (access : Access) (page : GuestPhys)
-    → walked entries cr3 at access ≡ Ok page → (is_canonical at ≡ true) × (page.0 % 4096 ≡ at % 4096)
-unfolding walked
+    → guest_walk entries cr3 at access ≡ Ok page → (is_canonical at ≡ true) × (page.0 % 4096 ≡ at % 4096)
+unfolding guest_walk
 walked_offset entries cr3 at access page e =
     let both = passed (is_canonical at) _ _ page e in
     (both.0, guest_offset (walk_levels entries at access four_levels (frame_in cr3)) (at % 4096) page (omega arith) both.1)
@@ -49,8 +49,8 @@ ept_offset_of (Err stop) x place below e = cc
 
 -- a walk that leads somewhere keeps where the address lies in its page, and the address has at most 48 bits
 pub ept_offset : (memory : Physical) (eptp at : ℕ) (access : Access) (place : PhysAddr)
-    → ept_walked memory eptp at access ≡ Ok place → (nat_le (2 ^ 48) at ≡ false) × (place.0 % 4096 ≡ at % 4096)
-unfolding ept_walked
+    → ept_walk memory eptp at access ≡ Ok place → (nat_le (2 ^ 48) at ≡ false) × (place.0 % 4096 ≡ at % 4096)
+unfolding ept_walk
 ept_offset memory eptp at access place e =
     let both = passed_not (nat_le (2 ^ 48) at) _ _ place e in
     (both.0, ept_offset_of (ept_levels memory at access four_levels (frame_in eptp)) (at % 4096) place (omega arith) both.1)
@@ -70,8 +70,8 @@ narrow_on at k h e =
     lt-leb (2 ^ 48) (at + k) (omega (arith, below, h))
 
 page_on : (memory : Mapped) (access : Access) (at k : ℕ) (place : PhysAddr) → at % 4096 + k < 4096
-    → page_answer (ept_walked memory.physical memory.eptp at access) ≡ Ok place
-    → page_answer (ept_walked memory.physical memory.eptp (at + k) access) ≡ Ok (address (place.0 + k))
+    → page_answer (ept_walk memory.physical memory.eptp at access) ≡ Ok place
+    → page_answer (ept_walk memory.physical memory.eptp (at + k) access) ≡ Ok (address (place.0 + k))
 page_on memory access at k place h e =
     let led = answered _ place e in
     let narrow = (ept_offset memory.physical memory.eptp at access place led).0 in
@@ -84,8 +84,8 @@ behind_on memory access at k place (Ok page) s h e = rw ((h page refl).1) (page_
 behind_on memory access at k place (Err stop) s h e = cc
 
 guest_on : (entries : ℕ → Result ℕ TableStop) (cr3 at k : ℕ) (access : Access) (page : GuestPhys) → at % 4096 + k < 4096
-    → walked entries cr3 at access ≡ Ok page
-    → (page.0 % 4096 + k < 4096) × (walked entries cr3 (at + k) access ≡ Ok (guest_address (page.0 + k)))
+    → guest_walk entries cr3 at access ≡ Ok page
+    → (page.0 % 4096 + k < 4096) × (guest_walk entries cr3 (at + k) access ≡ Ok (guest_address (page.0 + k)))
 guest_on entries cr3 at k access page h e =
     let both = walked_offset entries cr3 at access page e in
     let offset = both.1 in
@@ -93,8 +93,8 @@ guest_on entries cr3 at k access page h e =
 
 -- an address in the page of another one leads as far from where the other leads
 pub translated-page : (memory : Mapped) (cr3 at k : ℕ) (access : Access) (place : PhysAddr) → at % 4096 + k < 4096
-    → translated memory cr3 at access ≡ Ok place → translated memory cr3 (at + k) access ≡ Ok (address (place.0 + k))
-unfolding translated
+    → translation memory cr3 at access ≡ Ok place → translation memory cr3 (at + k) access ≡ Ok (address (place.0 + k))
+unfolding translation
 translated-page memory cr3 at k access place h e =
     behind_on memory access at k place _ _ (λ page led. guest_on (guest_entry memory) cr3 at k access page h led) e
 
@@ -107,7 +107,7 @@ behind_offset memory access at place (Err stop) h e = cc
 
 -- an address leads to a place that stands where it stands in its page
 pub place_offset : (memory : Mapped) (cr3 at : ℕ) (access : Access) (place : PhysAddr)
-    → translated memory cr3 at access ≡ Ok place → place.0 % 4096 ≡ at % 4096
-unfolding translated
+    → translation memory cr3 at access ≡ Ok place → place.0 % 4096 ≡ at % 4096
+unfolding translation
 place_offset memory cr3 at access place e =
     behind_offset memory access at place _ (λ page led. (walked_offset (guest_entry memory) cr3 at access page led).1) e

@@ -9,9 +9,9 @@ use Rattle.sb_walks.specs.Entry.{index_at, frame_in, four_levels}
 use Rattle.sb_memory.specs.declared.address.GuestPhys.{GuestPhys}
 use Rattle.sb_walks.specs.declared.stop.TableStop.{TableStop}
 use Rattle.sb_walks.specs.declared.stop.WalkStop.{WalkStop}
-use Rattle.sb_walks.specs.Guest.{is_canonical, read_judged, walk_step, walk_levels, walked}
+use Rattle.sb_walks.specs.Guest.{is_canonical, guest_read_answer, walk_step, walk_levels, guest_walk}
 use Rattle.sb_memory.specs.Outcome.{and_then}
-use Rattle.sb_walks.specs.Ept.{ept_entry, ept_step, ept_levels, ept_walked}
+use Rattle.sb_walks.specs.Ept.{ept_entry, ept_step, ept_levels, ept_walk}
 
 -- the indices of two addresses agree at these levels
 abbrev pub SameIndices : ℕ → ℕ → List ℕ → Type 0
@@ -57,9 +57,9 @@ led_on (Err stop) s x y k place e o h = cc
 
 -- an address in the page of another one leads as far from where the other leads
 pub ept_walked-page : (memory : Physical) (eptp at k : ℕ) (access : Access) (place : PhysAddr) → at % 4096 + k < 4096
-    → nat_le (2 ^ 48) at ≡ false → nat_le (2 ^ 48) (at + k) ≡ false → ept_walked memory eptp at access ≡ Ok place
-    → ept_walked memory eptp (at + k) access ≡ Ok (address (place.0 + k))
-unfolding ept_walked
+    → nat_le (2 ^ 48) at ≡ false → nat_le (2 ^ 48) (at + k) ≡ false → ept_walk memory eptp at access ≡ Ok place
+    → ept_walk memory eptp (at + k) access ≡ Ok (address (place.0 + k))
+unfolding ept_walk
 ept_walked-page memory eptp at k access place h below here e =
     rw here (led_on _ _ (at % 4096) ((at + k) % 4096) k place
     (ept_levels-page memory at (at + k) access four_levels (frame_in eptp) (page_indices at (at + k) (omega arith)))
@@ -68,7 +68,8 @@ ept_walked-page memory eptp at k access place h below here e =
 walk_step-page : (entries : ℕ → Result ℕ TableStop) (a b : ℕ) (access : Access) (level frame : ℕ)
     → index_at level a ≡ index_at level b → walk_step entries a access level frame ≡ walk_step entries b access level frame
 unfolding walk_step
-walk_step-page entries a b access level frame e = ap (λ (i : ℕ). read_judged access level (entries (4096 * frame + 8 * i))) e
+walk_step-page entries a b access level frame e =
+    ap (λ (i : ℕ). guest_read_answer access level (entries (4096 * frame + 8 * i))) e
 
 walk_levels-page : (entries : ℕ → Result ℕ TableStop) (a b : ℕ) (access : Access) (levels : List ℕ) (frame : ℕ)
     → SameIndices a b levels → walk_levels entries a access levels frame ≡ walk_levels entries b access levels frame
@@ -90,9 +91,9 @@ guest_led_on (Ok frame) s x y k place e o h =
 guest_led_on (Err stop) s x y k place e o h = cc
 
 pub walked-page : (entries : ℕ → Result ℕ TableStop) (cr3 at k : ℕ) (access : Access) (place : GuestPhys)
-    → at % 4096 + k < 4096 → is_canonical at ≡ true → is_canonical (at + k) ≡ true → walked entries cr3 at access ≡ Ok place
-    → walked entries cr3 (at + k) access ≡ Ok (guest_address (place.0 + k))
-unfolding walked
+    → at % 4096 + k < 4096 → is_canonical at ≡ true → is_canonical (at + k) ≡ true → guest_walk entries cr3 at access ≡ Ok place
+    → guest_walk entries cr3 (at + k) access ≡ Ok (guest_address (place.0 + k))
+unfolding guest_walk
 walked-page entries cr3 at k access place h here there e =
     rw there (guest_led_on _ _ (at % 4096) ((at + k) % 4096) k place
     (walk_levels-page entries at (at + k) access four_levels (frame_in cr3) (page_indices at (at + k) (omega arith)))

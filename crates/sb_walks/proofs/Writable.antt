@@ -12,18 +12,18 @@ use Rattle.sb_walks.specs.declared.stop.TableStop.{TableStop}
 use Rattle.sb_walks.specs.declared.stop.WalkStop.{WalkStop}
 use Rattle.sb_walks.specs.Entry.{entry_place, frame_in, four_levels}
 use Rattle.sb_memory.specs.Outcome.{and_then}
-use Rattle.sb_walks.specs.Ept.{ept_judged, ept_entry, ept_step, ept_levels, ept_walked}
-use Rattle.sb_walks.specs.Guest.{is_canonical, entry_judged, read_judged, walk_step, walk_levels, walked}
-use Rattle.sb_walks.specs.Nested.{Mapped, guest_entry, page_answer, page_behind, translated}
+use Rattle.sb_walks.specs.Ept.{ept_entry_answer, ept_entry, ept_step, ept_levels, ept_walk}
+use Rattle.sb_walks.specs.Guest.{is_canonical, guest_entry_answer, guest_read_answer, walk_step, walk_levels, guest_walk}
+use Rattle.sb_walks.specs.Nested.{Mapped, guest_entry, page_answer, page_behind, translation}
 
-pub ept_judged-read : (frames level entry next : ℕ) → ept_judged frames Write level entry ≡ Ok next
-    → ept_judged frames Read level entry ≡ Ok next
-unfolding ept_judged
+pub ept_judged-read : (frames level entry next : ℕ) → ept_entry_answer frames Write level entry ≡ Ok next
+    → ept_entry_answer frames Read level entry ≡ Ok next
+unfolding ept_entry_answer
 ept_judged-read frames level entry next e = grind (arith, common_steps)
 
-pub entry_judged-read : (level entry next : ℕ) → entry_judged Write level entry ≡ Ok next
-    → entry_judged Read level entry ≡ Ok next
-unfolding entry_judged
+pub entry_judged-read : (level entry next : ℕ) → guest_entry_answer Write level entry ≡ Ok next
+    → guest_entry_answer Read level entry ≡ Ok next
+unfolding guest_entry_answer
 entry_judged-read level entry next e = grind (arith, common_steps)
 
 ept_entry-read : (frames level next : ℕ) (word : Result ℕ Missing) → ept_entry frames Write level word ≡ Ok next
@@ -31,8 +31,8 @@ ept_entry-read : (frames level next : ℕ) (word : Result ℕ Missing) → ept_e
 ept_entry-read frames level next (Ok entry) e = ept_judged-read frames level entry next e
 ept_entry-read frames level next (Err gap) e = e
 
-read_judged-read : (level next : ℕ) (word : Result ℕ TableStop) → read_judged Write level word ≡ Ok next
-    → read_judged Read level word ≡ Ok next
+read_judged-read : (level next : ℕ) (word : Result ℕ TableStop) → guest_read_answer Write level word ≡ Ok next
+    → guest_read_answer Read level word ≡ Ok next
 read_judged-read level next (Ok entry) e = entry_judged-read level entry next e
 read_judged-read level next (Err stop) e = e
 
@@ -71,16 +71,16 @@ below_test : {A E : Type 0} (b : Bool) (r s t u : Result A E) (x : A) → (r ≡
 below_test true r s t u x h k e = h e
 below_test false r s t u x h k e = k e
 
-pub ept_walked-read : (memory : Physical) (eptp at : ℕ) (place : PhysAddr) → ept_walked memory eptp at Write ≡ Ok place
-    → ept_walked memory eptp at Read ≡ Ok place
-unfolding ept_walked
+pub ept_walked-read : (memory : Physical) (eptp at : ℕ) (place : PhysAddr) → ept_walk memory eptp at Write ≡ Ok place
+    → ept_walk memory eptp at Read ≡ Ok place
+unfolding ept_walk
 ept_walked-read memory eptp at place e =
     below_test (nat_le (2 ^ 48) at) _ _ _ _ place (λ h. h)
     (and_then_ok _ _ _ _ place (λ frame. ept_levels-read memory at frame four_levels (frame_in eptp)) (λ frame h. h)) e
 
 pub walked-read : (entries : ℕ → Result ℕ TableStop) (cr3 at : ℕ) (place : GuestPhys)
-    → walked entries cr3 at Write ≡ Ok place → walked entries cr3 at Read ≡ Ok place
-unfolding walked
+    → guest_walk entries cr3 at Write ≡ Ok place → guest_walk entries cr3 at Read ≡ Ok place
+unfolding guest_walk
 walked-read entries cr3 at place e =
     below_test (is_canonical at) _ _ _ _ place
     (and_then_ok _ _ _ _ place (λ frame. walk_levels-read entries at frame four_levels (frame_in cr3)) (λ frame h. h))
@@ -92,8 +92,8 @@ answered (Ok p) s place h e = rw (h p refl) e
 answered (Err stop) s place h e = cc
 
 page_behind-read : (memory : Mapped) (place : PhysAddr) (page : GuestPhys)
-    → page_answer (ept_walked memory.physical memory.eptp page.0 Write) ≡ Ok place
-    → page_answer (ept_walked memory.physical memory.eptp page.0 Read) ≡ Ok place
+    → page_answer (ept_walk memory.physical memory.eptp page.0 Write) ≡ Ok place
+    → page_answer (ept_walk memory.physical memory.eptp page.0 Read) ≡ Ok place
 page_behind-read memory place page e = answered _ _ place (ept_walked-read memory.physical memory.eptp page.0) e
 
 led : (memory : Mapped) (place : PhysAddr) (r s : Result GuestPhys WalkStop) → ((p : GuestPhys) → r ≡ Ok p → s ≡ Ok p)
@@ -101,7 +101,7 @@ led : (memory : Mapped) (place : PhysAddr) (r s : Result GuestPhys WalkStop) →
 led memory place (Ok page) s h e = rw (h page refl) (page_behind-read memory place page e)
 led memory place (Err stop) s h e = cc
 
-pub translated-read : (memory : Mapped) (cr3 at : ℕ) (place : PhysAddr) → translated memory cr3 at Write ≡ Ok place
-    → translated memory cr3 at Read ≡ Ok place
-unfolding translated
+pub translated-read : (memory : Mapped) (cr3 at : ℕ) (place : PhysAddr) → translation memory cr3 at Write ≡ Ok place
+    → translation memory cr3 at Read ≡ Ok place
+unfolding translation
 translated-read memory cr3 at place e = led memory place _ _ (walked-read (guest_entry memory) cr3 at) e

@@ -20,8 +20,8 @@ abbrev pub is_user : ℕ → Bool
 is_user entry = has_bit entry 2
 
 -- PS: at levels 3 and 2, the entry maps a large page
-abbrev pub has_page_size : ℕ → Bool
-has_page_size entry = has_bit entry PS
+abbrev pub maps_large_page : ℕ → Bool
+maps_large_page entry = has_bit entry PS
 
 -- XD: fetches are not permitted
 abbrev pub is_execute_disabled : ℕ → Bool

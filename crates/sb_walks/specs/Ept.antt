@@ -11,7 +11,7 @@ use Rattle.sb_memory.specs.declared.address.PhysAddr.{PhysAddr}
 use Rattle.sb_memory.specs.declared.address.EptStop.{EptStop}
 use Rattle.sb_memory.specs.declared.address.EptStop.TheVariants as stop
 use Rattle.sb_walks.specs.declared.entry.TheConstants.{EPTP_FLAGS, WRITE_BACK}
-use Rattle.sb_walks.specs.Entry.{has_bit, has_page_size, frame_in, entry_place, four_levels}
+use Rattle.sb_walks.specs.Entry.{has_bit, maps_large_page, frame_in, entry_place, four_levels}
 use Rattle.sb_walks.specs.Reads.{where_ok}
 
 -- reads are permitted
@@ -39,15 +39,15 @@ is_misconfigured level entry =
 
 -- a large page
 abbrev pub is_large : ℕ → ℕ → Bool
-is_large level entry = ((level == 3) || (level == 2)) && has_page_size entry
+is_large level entry = ((level == 3) || (level == 2)) && maps_large_page entry
 
 -- an EPT pointer: memory type 6, a walk of four levels, and an address below 2 ^ 52
 abbrev pub is_eptp : ℕ → Bool
 is_eptp word = (word % 2 ^ 12 == EPTP_FLAGS) && nat_lt word (2 ^ 52)
 
 -- what an entry leads to in a memory of so many frames: the next frame, or the first refusal that applies
-unfoldable pub ept_judged : ℕ → Access → ℕ → ℕ → Result ℕ EptStop
-ept_judged frames access level entry =
+unfoldable pub ept_entry_answer : ℕ → Access → ℕ → ℕ → Result ℕ EptStop
+ept_entry_answer frames access level entry =
     if entry % 8 == 0 then Err (stop.NotPresent level)
     else if is_misconfigured level entry then Err (stop.Misconfigured level)
     else if is_large level entry then Err (stop.Large level)
@@ -57,7 +57,7 @@ ept_judged frames access level entry =
 
 -- the same of what was read at the entry's place
 abbrev pub ept_entry : ℕ → Access → ℕ → Result ℕ Missing → Result ℕ EptStop
-ept_entry frames access level (Ok entry) = ept_judged frames access level entry
+ept_entry frames access level (Ok entry) = ept_entry_answer frames access level entry
 ept_entry frames access level (Err gap) = Err (stop.Missing gap.frame)
 
 -- one level: from the frame of a table to the frame to which the entry for the address leads
@@ -82,8 +82,8 @@ abbrev pub phys_in : ℕ → ℕ → PhysAddr
 phys_in at frame = record { 0 = PAGE_SIZE * frame + at % PAGE_SIZE }
 
 -- the walk from the table to which the EPT pointer leads
-unfoldable pub ept_walked : Physical → ℕ → ℕ → Access → Result PhysAddr EptStop
-ept_walked memory eptp at access =
+unfoldable pub ept_walk : Physical → ℕ → ℕ → Access → Result PhysAddr EptStop
+ept_walk memory eptp at access =
     if nat_le (2 ^ 48) at then Err stop.TooWide
     else and_then (ept_levels memory at access four_levels (frame_in eptp)) (λ frame. Ok (phys_in at frame))
 

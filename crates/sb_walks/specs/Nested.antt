@@ -1,7 +1,7 @@
 -- The guest walk in which each address first goes through the extended page tables.
 use Rattle.std.specs.Prelude.{ℕ, List, [], ◌∷◌, ◌++◌, Result, Ok, Err}
 use Rattle.sb_memory.specs.Physical.{Physical}
-use Rattle.sb_memory.specs.Accounts.{PhysCall, after_words}
+use Rattle.sb_memory.specs.Accounts.{PhysCall, account_after_words}
 use Rattle.sb_memory.specs.Reading.{word_read}
 use Rattle.sb_memory.specs.declared.address.Missing.{Missing}
 use Rattle.sb_memory.specs.declared.address.Access.{Access}
@@ -14,8 +14,8 @@ use Rattle.sb_walks.specs.declared.stop.TableStop.TheVariants as table
 use Rattle.sb_walks.specs.declared.stop.WalkStop.{WalkStop}
 use Rattle.sb_walks.specs.declared.stop.NestedStop.{NestedStop}
 use Rattle.sb_walks.specs.declared.stop.NestedStop.TheVariants as nested
-use Rattle.sb_walks.specs.Ept.{ept_walked, ept_walk_reads}
-use Rattle.sb_walks.specs.Guest.{walked, walk_reads}
+use Rattle.sb_walks.specs.Ept.{ept_walk, ept_walk_reads}
+use Rattle.sb_walks.specs.Guest.{guest_walk, walk_reads}
 use Rattle.sb_walks.specs.Reads.{where_ok}
 
 -- physical memory behind an EPT pointer
@@ -23,8 +23,8 @@ pub record Mapped : Type 0 where
   pub physical : Physical
   pub eptp : ℕ
 
-abbrev pub mapped : Physical → ℕ → Mapped
-mapped memory eptp = record { physical = memory; eptp = eptp }
+abbrev pub mapped_answer : Physical → ℕ → Mapped
+mapped_answer memory eptp = record { physical = memory; eptp = eptp }
 
 -- the answer of a read of an entry
 abbrev pub entry_answer : Result ℕ Missing → Result ℕ TableStop
@@ -38,17 +38,17 @@ entry_behind memory (Err stop) = Err (table.Ept stop)
 
 -- the entry at a guest-physical place
 unfoldable pub guest_entry : Mapped → ℕ → Result ℕ TableStop
-guest_entry memory at = entry_behind memory.physical (ept_walked memory.physical memory.eptp at Read)
+guest_entry memory at = entry_behind memory.physical (ept_walk memory.physical memory.eptp at Read)
 
 -- the words that are read for it
 unfoldable pub guest_entry_reads : Mapped → ℕ → List ℕ
 guest_entry_reads memory at =
     ept_walk_reads memory.physical memory.eptp at Read
-    ++ where_ok (ept_walked memory.physical memory.eptp at Read) (λ place. place.0 ∷ [])
+    ++ where_ok (ept_walk memory.physical memory.eptp at Read) (λ place. place.0 ∷ [])
 
 -- the account after the entry at a guest-physical place is read
 unfoldable pub entry_rule : {Account : Type 0} → (PhysCall → Physical → Account → Account) → Mapped → ℕ → Account → Account
-entry_rule rule memory at account = after_words rule memory.physical (guest_entry_reads memory at) account
+entry_rule rule memory at account = account_after_words rule memory.physical (guest_entry_reads memory at) account
 
 -- the last address goes through for the access
 abbrev pub page_answer : Result PhysAddr EptStop → Result PhysAddr NestedStop
@@ -56,12 +56,12 @@ page_answer (Ok place) = Ok place
 page_answer (Err stop) = Err (nested.Page stop)
 
 abbrev pub page_behind : Mapped → Access → Result GuestPhys WalkStop → Result PhysAddr NestedStop
-page_behind memory access (Ok at) = page_answer (ept_walked memory.physical memory.eptp at.0 access)
+page_behind memory access (Ok at) = page_answer (ept_walk memory.physical memory.eptp at.0 access)
 page_behind memory access (Err stop) = Err (nested.Walk stop)
 
 -- the nested walk
-unfoldable pub translated : Mapped → ℕ → ℕ → Access → Result PhysAddr NestedStop
-translated memory cr3 linear access = page_behind memory access (walked (guest_entry memory) cr3 linear access)
+unfoldable pub translation : Mapped → ℕ → ℕ → Access → Result PhysAddr NestedStop
+translation memory cr3 linear access = page_behind memory access (guest_walk (guest_entry memory) cr3 linear access)
 
 -- the words that are read for the entries at these places
 abbrev pub entries_reads : Mapped → List ℕ → List ℕ
@@ -72,4 +72,4 @@ entries_reads memory (place ∷ places) = guest_entry_reads memory place ++ entr
 unfoldable pub translation_reads : Mapped → ℕ → ℕ → Access → List ℕ
 translation_reads memory cr3 linear access =
     entries_reads memory (walk_reads (guest_entry memory) cr3 linear access)
-    ++ where_ok (walked (guest_entry memory) cr3 linear access) (λ at. ept_walk_reads memory.physical memory.eptp at.0 access)
+    ++ where_ok (guest_walk (guest_entry memory) cr3 linear access) (λ at. ept_walk_reads memory.physical memory.eptp at.0 access)

@@ -24,7 +24,8 @@ not_both bundle why (Err other) is refused = absurd cc
 
 -- what spells a bundle is not refused as none
 is_read : (bytes : List ℕ) (bundle : Bundle) (why : BundleRefusal) → SpellsBundle bytes bundle → ¬ (reading bytes ≡ Err why)
-is_read bytes bundle why (good, parts) refused = not_both bundle why (reading bytes) (ap reading parts ∙ reading_again bundle good) refused
+is_read bytes bundle why (good, parts) refused =
+    not_both bundle why (reading bytes) (ap reading parts ∙ reading_again bundle good) refused
 
 one_bundle : (bytes : List ℕ) (first second : Bundle) → SpellsBundle bytes first → SpellsBundle bytes second → first ≡ second
 one_bundle bytes first second (good, parts) (good', parts') = same_spelling first second good good' (sym parts ∙ parts')
@@ -49,12 +50,17 @@ is_loaded bytes first second why spelled (load, same, loadable) spelled' refused
     let loads = subst (λ (bundle : Bundle). Loads bundle (Err why)) (one_bundle bytes second first spelled' spelled) refused in
     let loaded : Answer = Ok load in
     let failed : Answer = Err why in
-    not_loaded load why loaded refl (one_answer first loaded failed (λ lack. not_loaded load Memory loaded refl lack) (no_lack why failed refl some) (same, loadable) loads)
+    not_loaded load why loaded refl
+    (one_answer first loaded failed (λ lack. not_loaded load Memory loaded refl lack) (no_lack why failed refl some) (
+      same,
+      loadable,
+    ) loads)
 
 -- ---- the bytes of a source
 
 -- what is claimed of the bytes that are told holds of those that were read
-told : (left left' : Option (List ℕ)) (bytes now : List ℕ) (Claim : List ℕ → Type 0) → ReadWhole left left' bytes → now ≡ bytes → IsTold left Claim → Claim now
+told : (left left' : Option (List ℕ)) (bytes now : List ℕ) (Claim : List ℕ → Type 0) → ReadWhole left left' bytes
+    → now ≡ bytes → IsTold left Claim → Claim now
 told None left' bytes now Claim read same claim = absurd claim
 told (Some old) left' bytes now Claim read same claim = subst Claim (sym (same ∙ read.0)) claim
 
@@ -64,13 +70,15 @@ told (Some old) left' bytes now Claim read same claim = subst Claim (sym (same �
 abbrev HasOutput : BundleCommand → List ℕ → List ℕ → Type 0
 HasOutput command bytes text = (bundle : Bundle) × SpellsBundle bytes bundle × IsLoaded bundle × IsOutput command bundle text
 
-pub reported_spelled : (command : BundleCommand) (left left' : Option (List ℕ)) (bytes now text : List ℕ) → ReadWhole left left' bytes → now ≡ bytes
+pub reported_spelled : (command : BundleCommand) (left left' : Option (List ℕ)) (bytes now text : List ℕ)
+    → ReadWhole left left' bytes → now ≡ bytes
     → HasOutput command now text → ¬ IsTold left SomeNoBundle
 reported_spelled command left left' bytes now text read same report claim =
     let (why, bad) = told left left' bytes now SomeNoBundle read same claim in
     is_read now report.0 why report.1 bad.1
 
-pub reported_loaded : (command : BundleCommand) (left left' : Option (List ℕ)) (bytes now text : List ℕ) → ReadWhole left left' bytes → now ≡ bytes
+pub reported_loaded : (command : BundleCommand) (left left' : Option (List ℕ)) (bytes now text : List ℕ)
+    → ReadWhole left left' bytes → now ≡ bytes
     → HasOutput command now text → ¬ IsTold left SomeNotLoadable
 reported_loaded command left left' bytes now text read same report claim =
     let (why, bad) = told left left' bytes now SomeNotLoadable read same claim in
@@ -78,16 +86,22 @@ reported_loaded command left left' bytes now text read same report claim =
 
 -- ---- no bundle
 
-read_refused : (command : BundleCommand) (now : List ℕ) (refusal : Refusal) (why : BundleRefusal) → refusal ≡ variant.Bundle why → Reports {A = Unit {0}} command now (Err refusal) → reading now ≡ Err why
-read_refused command now refusal why is refused = subst (λ (value : Refusal). Reports {A = Unit {0}} command now (Err value)) is refused
+read_refused : (command : BundleCommand) (now : List ℕ) (refusal : Refusal) (why : BundleRefusal)
+    → refusal ≡ variant.Bundle why → Reports {A = Unit {0}} command now (Err refusal) → reading now ≡ Err why
+read_refused command now refusal why is refused =
+    subst (λ (value : Refusal). Reports {A = Unit {0}} command now (Err value)) is refused
 
-pub unread_spelled : (command : BundleCommand) (left left' : Option (List ℕ)) (bytes now : List ℕ) (refusal : Refusal) (why : BundleRefusal) → ReadWhole left left' bytes → now ≡ bytes
+pub unread_spelled : (command : BundleCommand) (left left' : Option (List ℕ)) (bytes now : List ℕ) (refusal : Refusal)
+    (why : BundleRefusal)
+    → ReadWhole left left' bytes → now ≡ bytes
     → refusal ≡ variant.Bundle why → Reports {A = Unit {0}} command now (Err refusal) → ¬ IsTold left SomeNotLoadable
 unread_spelled command left left' bytes now refusal why read same is refused claim =
     let (other, bad) = told left left' bytes now SomeNotLoadable read same claim in
     is_read now bad.0 why (bad.1.1, bad.1.2) (read_refused command now refusal why is refused)
 
-pub unread_accepted : (command : BundleCommand) (left left' : Option (List ℕ)) (bytes now : List ℕ) (refusal : Refusal) (why : BundleRefusal) → ReadWhole left left' bytes → now ≡ bytes
+pub unread_accepted : (command : BundleCommand) (left left' : Option (List ℕ)) (bytes now : List ℕ) (refusal : Refusal)
+    (why : BundleRefusal)
+    → ReadWhole left left' bytes → now ≡ bytes
     → refusal ≡ variant.Bundle why → Reports {A = Unit {0}} command now (Err refusal) → ¬ IsTold left SomeAccepted
 unread_accepted command left left' bytes now refusal why read same is refused claim =
     let (bundle, good) = told left left' bytes now SomeAccepted read same claim in
@@ -99,17 +113,23 @@ unread_accepted command left left' bytes now refusal why read same is refused cl
 abbrev Unloaded : List ℕ → LoadRefusal → Type 0
 Unloaded bytes why = (bundle : Bundle) × SpellsBundle bytes bundle × Loads bundle (Err why) × (why ≢ Memory)
 
-load_refused : (command : BundleCommand) (now : List ℕ) (refusal : Refusal) (why : LoadRefusal) → refusal ≡ variant.Load why → Reports {A = Unit {0}} command now (Err refusal) → Unloaded now why
-load_refused command now refusal why is refused = subst (λ (value : Refusal). Reports {A = Unit {0}} command now (Err value)) is refused
+load_refused : (command : BundleCommand) (now : List ℕ) (refusal : Refusal) (why : LoadRefusal) → refusal ≡ variant.Load why
+    → Reports {A = Unit {0}} command now (Err refusal) → Unloaded now why
+load_refused command now refusal why is refused =
+    subst (λ (value : Refusal). Reports {A = Unit {0}} command now (Err value)) is refused
 
-pub unloaded_spelled : (command : BundleCommand) (left left' : Option (List ℕ)) (bytes now : List ℕ) (refusal : Refusal) (why : LoadRefusal) → ReadWhole left left' bytes → now ≡ bytes
+pub unloaded_spelled : (command : BundleCommand) (left left' : Option (List ℕ)) (bytes now : List ℕ) (refusal : Refusal)
+    (why : LoadRefusal)
+    → ReadWhole left left' bytes → now ≡ bytes
     → refusal ≡ variant.Load why → Reports {A = Unit {0}} command now (Err refusal) → ¬ IsTold left SomeNoBundle
 unloaded_spelled command left left' bytes now refusal why read same is answer claim =
     let refused = load_refused command now refusal why is answer in
     let (other, bad) = told left left' bytes now SomeNoBundle read same claim in
     is_read now refused.0 other refused.1 bad.1
 
-pub unloaded_accepted : (command : BundleCommand) (left left' : Option (List ℕ)) (bytes now : List ℕ) (refusal : Refusal) (why : LoadRefusal) → ReadWhole left left' bytes → now ≡ bytes
+pub unloaded_accepted : (command : BundleCommand) (left left' : Option (List ℕ)) (bytes now : List ℕ) (refusal : Refusal)
+    (why : LoadRefusal)
+    → ReadWhole left left' bytes → now ≡ bytes
     → refusal ≡ variant.Load why → Reports {A = Unit {0}} command now (Err refusal) → ¬ IsTold left SomeAccepted
 unloaded_accepted command left left' bytes now refusal why read same is answer claim =
     let refused = load_refused command now refusal why is answer in
@@ -117,9 +137,19 @@ unloaded_accepted command left left' bytes now refusal why read same is answer c
     is_loaded now bundle refused.0 why (good.0.1, good.0.2) good.1 refused.1 refused.2 refused.3
 
 -- what a refusal of the loader says of the bytes
-pub unloaded_told : (command : BundleCommand) (left left' : Option (List ℕ)) (bytes now : List ℕ) (refusal : Refusal) (why : LoadRefusal) → ReadWhole left left' bytes → now ≡ bytes
-    → length bytes ≤ input_limit → refusal ≡ variant.Load why → Reports {A = Unit {0}} command now (Err refusal) → WhereTold left (WasRefused left' (λ bytes. IsNotLoadable bytes why))
+pub unloaded_told : (command : BundleCommand) (left left' : Option (List ℕ)) (bytes now : List ℕ) (refusal : Refusal)
+    (why : LoadRefusal)
+    → ReadWhole left left' bytes → now ≡ bytes
+    → length bytes ≤ input_limit → refusal ≡ variant.Load why → Reports {A = Unit {0}} command now (Err refusal)
+    → WhereTold left (WasRefused left' (λ bytes. IsNotLoadable bytes why))
 unloaded_told command None left' bytes now refusal why read same within is answer = tt
 unloaded_told command (Some old) left' bytes now refusal why read same within is answer =
-    let (bundle, spelled, loads, some) = load_refused command now refusal why is answer in
-    ((bundle, (subst (λ (list : List ℕ). length list ≤ input_limit) read.0 within, spelled.0, sym read.0 ∙ sym same ∙ spelled.1), loads, some), read.1)
+    let (bundle, spelled, loads, some) = load_refused command now refusal why is answer in (
+      (
+        bundle,
+        (subst (λ (list : List ℕ). length list ≤ input_limit) read.0 within, spelled.0, sym read.0 ∙ sym same ∙ spelled.1),
+        loads,
+        some,
+      ),
+      read.1,
+    )

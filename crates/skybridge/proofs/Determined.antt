@@ -18,17 +18,22 @@ use Rattle.skybridge.specs.Generator.{generated}
 use Rattle.skybridge.specs.Summary.{summary_text, IsSummary}
 use Rattle.skybridge.specs.Output.{IsOutput}
 
-one_text : (text_of : List Line → EndState → List ℕ) (bundle : Bundle) (text other : List ℕ) → IsTextOfRun text_of bundle text → IsTextOfRun text_of bundle other → text ≡ other
+one_text : (text_of : List Line → EndState → List ℕ) (bundle : Bundle) (text other : List ℕ) → IsTextOfRun text_of bundle text
+    → IsTextOfRun text_of bundle other → text ≡ other
 one_text text_of bundle text other (load, lines, end, loads, runs, is) (load', lines', end', loads', runs', is') =
     let loaded : load ≡ load' = same_load bundle load load' loads loads' in
     let first = subst (λ (one : Load). Runs one lines end) loaded runs in
     let same = steps_run_once (first_state load') end end' load'.bundle.schedule lines lines' first runs' in
-    is ∙ ap (λ (lines : List Line). text_of lines (end_of end)) same.0 ∙ ap (λ (end : State). text_of lines' (end_of end)) same.1 ∙ sym is'
+    is ∙ ap (λ (lines : List Line). text_of lines (end_of end)) same.0 ∙ ap (λ (end : State). text_of lines' (end_of end)) same.1
+    ∙ sym is'
 
-one_listing : (list : Load → List ℕ) (bundle : Bundle) (text other : List ℕ) → IsCommandText list bundle text → IsCommandText list bundle other → text ≡ other
-one_listing list bundle text other (load, loads, is) (load', loads', is') = is ∙ ap list (same_load bundle load load' loads loads') ∙ sym is'
+one_listing : (list : Load → List ℕ) (bundle : Bundle) (text other : List ℕ) → IsCommandText list bundle text
+    → IsCommandText list bundle other → text ≡ other
+one_listing list bundle text other (load, loads, is) (load', loads', is') =
+    is ∙ ap list (same_load bundle load load' loads loads') ∙ sym is'
 
-pub one_output : (command : BundleCommand) (bundle : Bundle) (text other : List ℕ) → IsOutput command bundle text → IsOutput command bundle other → text ≡ other
+pub one_output : (command : BundleCommand) (bundle : Bundle) (text other : List ℕ) → IsOutput command bundle text
+    → IsOutput command bundle other → text ≡ other
 one_output Replay bundle text other first second = one_text report_text bundle text other first second
 one_output Plain bundle text other first second = one_text report_text bundle text other first second
 one_output Check bundle text other first second = one_listing check_text bundle text other first second

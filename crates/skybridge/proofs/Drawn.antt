@@ -19,7 +19,8 @@ drawn_once_more state count = rw add-one refl
 pub drawn_on : (state first more : ℕ) → state_after (state_after state first) more ≡ state_after state (first + more)
 unfolding state_after
 drawn_on state first zero = let none : first + 0 ≡ first = omega arith in rw none refl
-drawn_on state first (suc more) = let one : first + suc more ≡ suc (first + more) = omega arith in rw one (ap next_state (drawn_on state first more))
+drawn_on state first (suc more) = let one : first + suc more ≡ suc (first + more) = omega arith in
+    rw one (ap next_state (drawn_on state first more))
 
 pub drawn_twice : (state : ℕ) → state_after state 2 ≡ next_state (next_state state)
 unfolding state_after
@@ -27,7 +28,12 @@ drawn_twice state = refl
 
 -- the first client is drawn first
 pub first_client : (state : ℕ)
-    → client_image state 0 ≡ record { text = client_text (next_state state / 2 ^ 33 % 3) (200 + next_state (next_state state) / 2 ^ 33 % 100); initial = []; heap_pages = 0 }
+    → client_image state 0
+    ≡ record {
+      text = client_text (next_state state / 2 ^ 33 % 3) (200 + next_state (next_state state) / 2 ^ 33 % 100);
+      initial = [];
+      heap_pages = 0;
+    }
 unfolding client_image state_after
 first_client state = refl
 
@@ -78,4 +84,21 @@ unfolding cores_of
 more_cores count = map-range_with_len_more core_start 0 count count (omega arith)
 
 -- what the loops over draws go by
-pub ruleset drawing = (append-nil, append_assoc, not_drawn, drawn_once_more, drawn_twice, two_more, first_client, next_client, no_keys, more_keys, no_clients, more_clients, no_entries, more_entries, no_cores, more_cores)
+pub ruleset drawing = (
+  append-nil,
+  append_assoc,
+  not_drawn,
+  drawn_once_more,
+  drawn_twice,
+  two_more,
+  first_client,
+  next_client,
+  no_keys,
+  more_keys,
+  no_clients,
+  more_clients,
+  no_entries,
+  more_entries,
+  no_cores,
+  more_cores,
+)

@@ -9,12 +9,14 @@ use Rattle.skybridge.specs.Generator.{state_after, draw, server_image, client_te
 
 -- ---- lists
 
-all_append : {X : Type 0} (P : X → Type 0) (xs ys : List X) → AllByRecursion P xs → AllByRecursion P ys → AllByRecursion P (xs ++ ys)
+all_append : {X : Type 0} (P : X → Type 0) (xs ys : List X) → AllByRecursion P xs → AllByRecursion P ys
+    → AllByRecursion P (xs ++ ys)
 all_append P [] ys holds_x holds_y = holds_y
 all_append P (x ∷ xs) ys holds_x holds_y = (holds_x.0, all_append P xs ys holds_x.1 holds_y)
 
 -- what holds of each element that is made for a number of the range
-all_made : {X : Type 0} (P : X → Type 0) (f : ℕ → X) (start count : ℕ) → ((k : ℕ) → k < start + count → P (f k)) → AllByRecursion P (map f (range_with_len start count))
+all_made : {X : Type 0} (P : X → Type 0) (f : ℕ → X) (start count : ℕ) → ((k : ℕ) → k < start + count → P (f k))
+    → AllByRecursion P (map f (range_with_len start count))
 all_made P f start zero holds = tt
 all_made P f start (suc count) holds = (holds start (omega arith), all_made P f (start + 1) count (λ k lt. holds k (omega arith)))
 
@@ -31,7 +33,8 @@ state_fits state before = rw add-one (mod-lt _ (omega arith))
 
 keys_fit : (state count : ℕ) → AllBelow (2 ^ 64) (keys_of state count)
 unfolding keys_of
-keys_fit state count = all_made (λ n. n < 2 ^ 64) (λ before. state_after state (before + 1)) 0 count (λ before lt. state_fits state before)
+keys_fit state count =
+    all_made (λ n. n < 2 ^ 64) (λ before. state_after state (before + 1)) 0 count (λ before lt. state_fits state before)
 
 entry_count : (state count : ℕ) → length (schedule_of state count) ≡ count
 unfolding schedule_of
@@ -39,7 +42,8 @@ entry_count state count = length-map-range_with_len (λ before. draw state befor
 
 entries_fit : (state count : ℕ) → AllBelow 8 (schedule_of state count)
 unfolding schedule_of
-entries_fit state count = all_made (λ n. n < 8) (λ before. draw state before % 8) 0 count (λ before lt. mod-lt (draw state before) (omega arith))
+entries_fit state count =
+    all_made (λ n. n < 8) (λ before. draw state before % 8) 0 count (λ before lt. mod-lt (draw state before) (omega arith))
 
 core_count : (count : ℕ) → length (cores_of count) ≡ count
 unfolding cores_of
@@ -48,7 +52,8 @@ core_count count = length-map-range_with_len core_start 0 count
 -- the core of each number starts in the process of that number
 cores_fit : (count : ℕ) → AllByRecursion (IsCoreStart count) (cores_of count)
 unfolding cores_of
-cores_fit count = all_made (IsCoreStart count) core_start 0 count (λ core lt. record { process = omega arith; entry = omega arith })
+cores_fit count =
+    all_made (IsCoreStart count) core_start 0 count (λ core lt. record { process = omega arith; entry = omega arith })
 
 -- ---- images
 

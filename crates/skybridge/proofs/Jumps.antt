@@ -12,7 +12,9 @@ use Rattle.sb_rewrite.specs.Rewriting.{NoneOf, HasBadTarget}
 
 -- the target is in the trampoline or a start
 abbrev pub may_lead_to : List ℕ → ℕ → Bool
-may_lead_to starts target = (nat_le TRAMPOLINE_ADDRESS target && nat_lt target (TRAMPOLINE_ADDRESS + PAGE_SIZE)) || list_any (λ start. target == start) starts
+may_lead_to starts target =
+    (nat_le TRAMPOLINE_ADDRESS target && nat_lt target (TRAMPOLINE_ADDRESS + PAGE_SIZE)) || list_any
+    (λ start. target == start) starts
 
 -- and so is that of a jump; other instructions have none
 abbrev pub is_good_target : List ℕ → Option ℕ → Bool
@@ -32,7 +34,8 @@ may_lead starts target e =
     (λ inside. let parts = and_parts (nat_le TRAMPOLINE_ADDRESS target) (nat_lt target (TRAMPOLINE_ADDRESS + PAGE_SIZE)) inside in
     inl (leb-true TRAMPOLINE_ADDRESS target parts.0, ltb-true target (TRAMPOLINE_ADDRESS + PAGE_SIZE) parts.1))
     (λ listed. inr (Contains-from_any (λ x y same. eqb-true x y same) target starts listed))
-    (or_cases (nat_le TRAMPOLINE_ADDRESS target && nat_lt target (TRAMPOLINE_ADDRESS + PAGE_SIZE)) (list_any (λ start. target == start) starts) e)
+    (or_cases (nat_le TRAMPOLINE_ADDRESS target && nat_lt target (TRAMPOLINE_ADDRESS + PAGE_SIZE))
+    (list_any (λ start. target == start) starts) e)
 
 not_bad : (starts : List ℕ) (target : Option ℕ) → is_good_target starts target ≡ true → ¬ IsBadTarget starts target
 not_bad starts None e = λ bad. bad

@@ -42,7 +42,8 @@ unfolding form_of replacement
 stays insn at slot after_0f plain = rw (plain.other, plain.apart, plain.quiet.none) refl
 
 -- so no slot is made before the next one
-all_stay : (text : List ℕ) (at : ℕ) (insns : List Insn) → AllPlain insns → places_from text at area_address insns ≡ kept_from at insns
+all_stay : (text : List ℕ) (at : ℕ) (insns : List Insn) → AllPlain insns
+    → places_from text at area_address insns ≡ kept_from at insns
 unfolding places_from
 all_stay text at [] plain = refl
 all_stay text at (insn ∷ insns) plain =
@@ -83,12 +84,16 @@ none_in : (insns : List Insn) → AllPlain insns → HasNoPattern (spelled insns
 none_in insns plain = subst HasNoPattern (append-nil (spelled insns)) (in_place_clean insns (all_quiet insns plain) 0 0)
 
 -- plain instructions whose jumps lead well are rewritten to themselves
-pub rewrites_kept : (text : List ℕ) (insns : List Insn) → text ≡ spelled insns → AllValid insns → AllPlain insns → LeadsWell (kept insns)
+pub rewrites_kept : (text : List ℕ) (insns : List Insn) → text ≡ spelled insns → AllValid insns → AllPlain insns
+    → LeadsWell (kept insns)
     → Rewrites text (Ok (output (kept insns)))
 rewrites_kept text insns whole valid plain leads = (
   kept insns,
   record { insns = insns; valid = valid; whole = whole; places_are = sym (all_stay text text_address insns plain) },
   ((leads, none_unmovable text_address insns), none_behind text_address insns),
   refl,
-  (subst HasNoPattern (sym (area_empty text_address insns)) (in_place_clean [] tt 0 0), subst HasNoPattern (sym (text_kept text_address insns)) (none_in insns plain)),
+  (
+    subst HasNoPattern (sym (area_empty text_address insns)) (in_place_clean [] tt 0 0),
+    subst HasNoPattern (sym (text_kept text_address insns)) (none_in insns plain),
+  ),
 )

@@ -48,7 +48,8 @@ client_made server calls = output (kept (client_insns server calls))
 pub server_rewrites : Rewrites server_text (Ok server_made)
 server_rewrites = rewrites_kept server_text server_insns server_spelled server_valid server_plain server_leads
 
-pub client_rewrites : (server calls : ℕ) → server < 0xD40000 → calls < 0xD40000 → Rewrites (client_text server calls) (Ok (client_made server calls))
+pub client_rewrites : (server calls : ℕ) → server < 0xD40000 → calls < 0xD40000
+    → Rewrites (client_text server calls) (Ok (client_made server calls))
 client_rewrites server calls below few =
     rewrites_kept
     (client_text server calls)

@@ -32,15 +32,20 @@ servers_rewritten zero images made others = others
 servers_rewritten (suc count) images made others = (server_rewrites, servers_rewritten count images made others)
 
 -- A client has server 0, 1 or 2 and makes 299 calls at most.
-clients_rewritten : (state : ℕ) (clients : List ℕ) → AreRewritten (map (client_image state) clients) (map (client_of state) clients)
+clients_rewritten : (state : ℕ) (clients : List ℕ)
+    → AreRewritten (map (client_image state) clients) (map (client_of state) clients)
 unfolding client_image
 clients_rewritten state [] = tt
-clients_rewritten state (client ∷ clients) =
-    (client_rewrites (server_of state client) (calls_of state client) (omega arith) (omega arith), clients_rewritten state clients)
+clients_rewritten state (client ∷ clients) = (
+  client_rewrites (server_of state client) (calls_of state client) (omega arith) (omega arith),
+  clients_rewritten state clients,
+)
 
 texts : (state : ℕ) → AreRewritten (replicate 3 server_image ++ clients_of state 5) (made_from state)
 unfolding clients_of
-texts state = servers_rewritten 3 (clients_of state 5) (map (client_of state) (range_with_len 0 5)) (clients_rewritten state (range_with_len 0 5))
+texts state =
+    servers_rewritten 3 (clients_of state 5) (map (client_of state) (range_with_len 0 5))
+    (clients_rewritten state (range_with_len 0 5))
 
 -- ---- entries
 
@@ -101,8 +106,11 @@ never number why grammar some refused =
     not_loaded load why loaded refl one
 
 -- the loader refuses it for want of memory alone
-pub only_memory : (number : ℕ) (why : LoadRefusal) → IsBundle (generated number) → Loads (generated number) (Err why) → why ≡ Memory
+pub only_memory : (number : ℕ) (why : LoadRefusal) → IsBundle (generated number) → Loads (generated number) (Err why)
+    → why ≡ Memory
 only_memory number Memory grammar refused = refl
-only_memory number (Process process cause) grammar refused = absurd (never number (Process process cause) grammar (λ is. absurd cc) refused)
+only_memory number (Process process cause) grammar refused =
+    absurd (never number (Process process cause) grammar (λ is. absurd cc) refused)
 only_memory number (BadEntry core at) grammar refused = absurd (never number (BadEntry core at) grammar (λ is. absurd cc) refused)
-only_memory number (NoFrames need have) grammar refused = absurd (never number (NoFrames need have) grammar (λ is. absurd cc) refused)
+only_memory number (NoFrames need have) grammar refused =
+    absurd (never number (NoFrames need have) grammar (λ is. absurd cc) refused)

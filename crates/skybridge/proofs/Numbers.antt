@@ -28,7 +28,9 @@ no_zero (digit ∷ next ∷ digits) plain some leading =
     absurd (search (rules, not_true (digit == 48) (and_parts (not (digit == 43)) (not (digit == 48)) plain).1, leading))
 
 -- a plain text that is a number is what the number's digits are
-pub plain_number : (bs : List ℕ) (number : ℕ) → (IsNumeral 10 (without_leading_plus bs) × (digits_value 10 (without_leading_plus bs) < 2 ^ 64)) × (number ≡ digits_value 10 (without_leading_plus bs))
+pub plain_number : (bs : List ℕ) (number : ℕ)
+    → (IsNumeral 10 (without_leading_plus bs) × (digits_value 10 (without_leading_plus bs) < 2 ^ 64))
+    × (number ≡ digits_value 10 (without_leading_plus bs))
     → is_plain bs ≡ true → bs ≡ decimal number
 plain_number bs number parses plain =
     let same : without_leading_plus bs ≡ bs = no_plus bs plain in
@@ -50,8 +52,12 @@ pub number_plain : (bs : List ℕ) (number : ℕ) → number < 2 ^ 64 → bs ≡
 number_plain bs zero small is = rw (is, decimal_digit 0 (omega arith)) refl
 number_plain bs (suc before) small is =
     let high = first_decimal (suc before) (omega arith) small in
-    subst (λ (ds : List ℕ). is_plain ds ≡ true) (sym is) (plain_digits (decimal (suc before)) (digits_decimal own (suc before) small) (λ leading. absurd (omega (arith, high, leading))))
+    subst (λ (ds : List ℕ). is_plain ds ≡ true) (sym is)
+    (plain_digits (decimal (suc before)) (digits_decimal own (suc before) small)
+    (λ leading. absurd (omega (arith, high, leading))))
 
 -- and are read
-pub number_read : (E : Type 0) (bs : List ℕ) (number : ℕ) (error : E) → number < 2 ^ 64 → bs ≡ decimal number → ¬ ParsesUnsigned {E = E} 64 10 bs (Err error)
-number_read E bs number error small is parses = absurd (search (rules, parse-decimal 64 number bs (Err error) small small is parses))
+pub number_read : (E : Type 0) (bs : List ℕ) (number : ℕ) (error : E) → number < 2 ^ 64 → bs ≡ decimal number
+    → ¬ ParsesUnsigned {E = E} 64 10 bs (Err error)
+number_read E bs number error small is parses =
+    absurd (search (rules, parse-decimal 64 number bs (Err error) small small is parses))

@@ -8,7 +8,8 @@ use Rattle.skybridge.specs.declared.top.Status.{Status}
 use Rattle.skybridge.specs.declared.top.Status.TheVariants.{LoadRefused, NoMemory}
 use Rattle.skybridge.specs.Output.{PartlyAppended, WritesLine}
 
-front_appended : (held held' : Option (List ℕ)) (text : List ℕ) (count : ℕ) → Appended held held' (take count text) → PartlyAppended held held' text
+front_appended : (held held' : Option (List ℕ)) (text : List ℕ) (count : ℕ) → Appended held held' (take count text)
+    → PartlyAppended held held' text
 front_appended None held' text count appended = tt
 front_appended (Some held) held' text count appended = (count, appended)
 
@@ -19,7 +20,8 @@ whole_appended (Some held) held' text appended =
 
 -- what a transfer of a line says of it
 pub line_written : (held held' : Option (List ℕ)) (faults faults' : ℕ) (line : List ℕ) (result : Result (Unit {0}) WriteFault)
-    → OnOk result (Appended held held' line) → IfErr result (λ fault. Appended held held' (take fault.written line)) → OnErr result (Rose faults faults')
+    → OnOk result (Appended held held' line) → IfErr result (λ fault. Appended held held' (take fault.written line))
+    → OnErr result (Rose faults faults')
     → WritesLine held held' faults faults' line
 line_written held held' faults faults' line (Ok done) ok err rose = record {
   part = whole_appended held held' line ok;
@@ -31,9 +33,11 @@ line_written held held' faults faults' line (Err fault) ok err rose = record {
 }
 
 -- a refusal that did not run out of memory wrote its line
-pub line_of_refusal : {A E : Type 0} (held held' : Option (List ℕ)) (faults faults' : ℕ) (status : Status) (line : List ℕ) (made : Result (String A) E)
+pub line_of_refusal : {A E : Type 0} (held held' : Option (List ℕ)) (faults faults' : ℕ) (status : Status) (line : List ℕ)
+    (made : Result (String A) E)
     → IfOk made (λ text. string_bytes text ≡ line)
-    → MatchResult made (λ text. (status ≡ LoadRefused) × WritesLine held held' faults faults' (string_bytes text)) (λ _. (status ≡ NoMemory) × (held' ≡ held))
+    → MatchResult made (λ text. (status ≡ LoadRefused) × WritesLine held held' faults faults' (string_bytes text))
+    (λ _. (status ≡ NoMemory) × (held' ≡ held))
     → status ≡ LoadRefused → WritesLine held held' faults faults' line
 line_of_refusal held held' faults faults' status line (Ok text) is written refused =
     subst (λ (bytes : List ℕ). WritesLine held held' faults faults' bytes) is written.1

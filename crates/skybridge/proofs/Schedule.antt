@@ -7,7 +7,8 @@ use Rattle.sb_trace.specs.State.{State}
 use Rattle.sb_trace.specs.Start.{ThreadEntry, start_threads}
 use Rattle.sb_plain.specs.Start.{entry_of, first_state}
 
-pub entry_below : (bound : ℕ) (schedule : List ℕ) (index : ℕ) → AllBelow bound schedule → index < length schedule → get_or schedule index 0 < bound
+pub entry_below : (bound : ℕ) (schedule : List ℕ) (index : ℕ) → AllBelow bound schedule → index < length schedule
+    → get_or schedule index 0 < bound
 entry_below bound [] index all below = absurd (omega arith)
 entry_below bound (core ∷ cores) zero (one, others) below = one
 entry_below bound (core ∷ cores) (suc index) (one, others) below = entry_below bound cores index others (omega arith)
@@ -17,9 +18,12 @@ count_threads thread [] = refl
 count_threads thread (entry ∷ entries) = ap suc (count_threads (thread + 1) entries)
 
 -- the machine of what was loaded has a thread for each entry of its schedule
-pub threads_enough : (load : Load) (state : State) (schedule : List ℕ) → state ≡ first_state load → schedule ≡ load.bundle.schedule
+pub threads_enough : (load : Load) (state : State) (schedule : List ℕ) → state ≡ first_state load
+    → schedule ≡ load.bundle.schedule
     → AllBelow (length load.bundle.cores) load.bundle.schedule → AllBelow (length state.threads) schedule
 threads_enough load state schedule starts is all =
     let counts : length state.threads ≡ length load.bundle.cores =
-    ap (λ (value : State). length value.threads) starts ∙ count_threads 0 (map entry_of load.bundle.cores) ∙ length-map load.bundle.cores entry_of in
-    subst (λ (count : ℕ). AllBelow count schedule) (sym counts) (subst (λ (entries : List ℕ). AllBelow (length load.bundle.cores) entries) (sym is) all)
+    ap (λ (value : State). length value.threads) starts ∙ count_threads 0 (map entry_of load.bundle.cores)
+    ∙ length-map load.bundle.cores entry_of in
+    subst (λ (count : ℕ). AllBelow count schedule) (sym counts)
+    (subst (λ (entries : List ℕ). AllBelow (length load.bundle.cores) entries) (sym is) all)

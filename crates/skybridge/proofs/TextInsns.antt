@@ -35,7 +35,15 @@ syscall = record (opcode_alone 0) { op = Two 0x05 }
 
 -- lock xadd [800000], rdx
 abbrev pub count_call : Insn
-count_call = record (opcode_alone 0) { lock = true; rex = Some 0x48; op = Two 0xC1; modrm = Some 0x14; sib = Some 0x25; disp = disp.D32 (pos 0x800000) }
+count_call =
+    record (opcode_alone 0) {
+      lock = true;
+      rex = Some 0x48;
+      op = Two 0xC1;
+      modrm = Some 0x14;
+      sib = Some 0x25;
+      disp = disp.D32 (pos 0x800000);
+    }
 
 -- ---- the texts
 

@@ -28,7 +28,8 @@ SpellsBundle bytes bundle = IsBundle bundle × (bytes ≡ spelling bundle)
 
 -- the same for the bytes of an input
 abbrev pub Reports : {A : Type 0} → BundleCommand → List ℕ → Result (String A) Refusal → Type 0
-Reports command bytes (Ok text) = (bundle : Bundle) × SpellsBundle bytes bundle × IsLoaded bundle × IsOutput command bundle (string_bytes text)
+Reports command bytes (Ok text) =
+    (bundle : Bundle) × SpellsBundle bytes bundle × IsLoaded bundle × IsOutput command bundle (string_bytes text)
 Reports command bytes (Err (refusal.Bundle why)) = reading bytes ≡ Err why
 Reports command bytes (Err (refusal.Load why)) =
     (bundle : Bundle) × SpellsBundle bytes bundle × Loads bundle (Err why) × (why ≢ load_refusal.Memory)

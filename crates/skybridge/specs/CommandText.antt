@@ -33,7 +33,8 @@ bytes_at bytes first at count = take count (drop (at - first) bytes)
 -- the slot of a moved instruction
 abbrev pub slot_text : List ℕ → Option (ℕ × ℕ) → List ℕ
 slot_text area None = []
-slot_text area (Some slot) = codes "slot " ++ (hex slot.0 ++ (codes " " ++ (bytes_text (bytes_at area area_address slot.0 slot.1) ++ codes "\n")))
+slot_text area (Some slot) =
+    codes "slot " ++ (hex slot.0 ++ (codes " " ++ (bytes_text (bytes_at area area_address slot.0 slot.1) ++ codes "\n")))
 
 -- the old and the new bytes of an instruction, and its slot where it was moved
 unfoldable pub edit_text : List ℕ → Output → Edit → List ℕ

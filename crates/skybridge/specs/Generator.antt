@@ -77,7 +77,8 @@ abbrev pub calls_of : ℕ → ℕ → ℕ
 calls_of state client = 200 + draw state (2 * client + 1) % 100
 
 unfoldable pub client_image : ℕ → ℕ → Image
-client_image state client = record { text = client_text (server_of state client) (calls_of state client); initial = []; heap_pages = 0 }
+client_image state client =
+    record { text = client_text (server_of state client) (calls_of state client); initial = []; heap_pages = 0 }
 
 -- ---- lists, each drawn from a state on
 

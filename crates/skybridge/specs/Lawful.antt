@@ -21,17 +21,20 @@ use Rattle.skybridge.specs.Output.{IsOutput, ReportedAs}
 -- Without its landing lines and their entries of the schedule, the run is one of the machine that calls in one step.
 abbrev pub RunsAtOnce : Load → List Line → State → Type 0
 RunsAtOnce load lines end =
-    RunBy StepsOnce (without_flights (first_state load)) (map core_of (without_landings lines)) (without_landings lines) (without_flights end)
+    RunBy StepsOnce (without_flights (first_state load)) (map core_of (without_landings lines)) (without_landings lines)
+    (without_flights end)
 
 -- in each state of the run VMFUNC's bytes may be fetched at one address alone
 abbrev pub KeepsOneSwitch : Load → List Line → Type 0
 KeepsOneSwitch load lines =
-    (count : ℕ) (state : State) → RunBy Steps (first_state load) (take count load.bundle.schedule) (take count lines) state → HasOneSwitch state
+    (count : ℕ) (state : State) → RunBy Steps (first_state load) (take count load.bundle.schedule) (take count lines) state
+    → HasOneSwitch state
 
 -- the report of a run of which the laws hold
 abbrev pub IsLawfulReport : Bundle → List ℕ → Type 0
 IsLawfulReport bundle text =
-    (load : Load) × (lines : List Line) × (end : State) × Loads bundle (Ok load) × Runs load lines end × (text ≡ report_text lines (end_of end))
+    (load : Load) × (lines : List Line) × (end : State) × Loads bundle (Ok load) × Runs load lines end
+    × (text ≡ report_text lines (end_of end))
     × RunsAtOnce load lines end × KeepsOneSwitch load lines
 
 -- what a command writes, where the laws hold of the run that a report is of

@@ -51,7 +51,8 @@ abbrev pub WasRead : Option (List ℕ) → Bundle → List ℕ → Type 0
 WasRead left' bundle bytes = IsAccepted bytes bundle × (left' ≡ Some [])
 
 -- an accepted bundle was read, and a text of this kind was appended to what the sink held
-abbrev pub ReportedAs : (Bundle → List ℕ → Type 0) → Option (List ℕ) → Option (List ℕ) → Option (List ℕ) → Option (List ℕ) → Type 0
+abbrev pub ReportedAs : (Bundle → List ℕ → Type 0) → Option (List ℕ) → Option (List ℕ) → Option (List ℕ) → Option (List ℕ)
+    → Type 0
 ReportedAs IsText left left' held held' =
     (bundle : Bundle) × (text : List ℕ) × WhereTold left (WasRead left' bundle) × IsText bundle text × Appended held held' text
 
@@ -81,14 +82,16 @@ Wrote words left left' held held' = (command : Command) × AreWordsOf command wo
 -- the same with a front of the text
 abbrev pub PartlyReported : BundleCommand → Option (List ℕ) → Option (List ℕ) → Option (List ℕ) → Option (List ℕ) → Type 0
 PartlyReported command left left' held held' =
-    (bundle : Bundle) × (text : List ℕ) × WhereTold left (WasRead left' bundle) × IsOutput command bundle text × PartlyAppended held held' text
+    (bundle : Bundle) × (text : List ℕ) × WhereTold left (WasRead left' bundle) × IsOutput command bundle text
+    × PartlyAppended held held' text
 
 abbrev pub PartlyWroteOf : Command → Option (List ℕ) → Option (List ℕ) → Option (List ℕ) → Option (List ℕ) → Type 0
 PartlyWroteOf (OfBundle command) left left' held held' = PartlyReported command left left' held held'
 PartlyWroteOf command left left' held held' = (text : List ℕ) × IsMade command text × PartlyAppended held held' text
 
 abbrev pub PartlyWrote : List (List ℕ) → Option (List ℕ) → Option (List ℕ) → Option (List ℕ) → Option (List ℕ) → Type 0
-PartlyWrote words left left' held held' = (command : Command) × AreWordsOf command words × PartlyWroteOf command left left' held held'
+PartlyWrote words left left' held held' =
+    (command : Command) × AreWordsOf command words × PartlyWroteOf command left left' held held'
 
 -- ---- the refusals that name a place
 

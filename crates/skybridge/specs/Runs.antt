@@ -21,4 +21,5 @@ RunsTo load lines shown = (end : State) × Runs load lines end × (shown ≡ end
 -- the bundle is loaded and runs, and this is written of the run
 abbrev pub IsTextOfRun : (List Line → EndState → List ℕ) → Bundle → List ℕ → Type 0
 IsTextOfRun text_of bundle text =
-    (load : Load) × (lines : List Line) × (end : State) × Loads bundle (Ok load) × Runs load lines end × (text ≡ text_of lines (end_of end))
+    (load : Load) × (lines : List Line) × (end : State) × Loads bundle (Ok load) × Runs load lines end
+    × (text ≡ text_of lines (end_of end))

@@ -72,7 +72,8 @@ counts_text lines = flat_map (count_line lines) kinds
 -- the number from which the bundle was generated, the counts, and the frames that are free at the end
 abbrev pub summary_text : ℕ → List Line → EndState → List ℕ
 summary_text number lines end =
-    codes "gen " ++ (decimal number ++ (codes "\n" ++ (counts_text lines ++ (codes "free " ++ (decimal end.free ++ codes "\nend\n")))))
+    codes "gen " ++
+    (decimal number ++ (codes "\n" ++ (counts_text lines ++ (codes "free " ++ (decimal end.free ++ codes "\nend\n")))))
 
 -- The text is the summary of the plain machine's run of the generated bundle.
 abbrev pub IsSummary : ℕ → List ℕ → Type 0

@@ -1,7 +1,7 @@
 //! What `check` and `rewrite` write.
 
 ghost use Rattle.std.specs.Prelude.{◌≡◌, ◌++◌, IfOk, OnOk, take, drop, flat_map, string_bytes};
-ghost use Rattle.skybridge.specs.CommandText.{check_text as text_of_check, bytes_text, bytes_at as bytes_from, slot_text, edit_text, process_text, processes_text, rewrite_text as text_of_rewrite};
+ghost use Rattle.skybridge.specs.CommandText.{check_text, bytes_text, bytes_at, slot_text, edit_text, process_text, processes_text, rewrite_text};
 
 use sb_abi::KEPT_FRAMES;
 use sb_bundle::Image;
@@ -12,7 +12,7 @@ use std::alloc::{AllocError, Global};
 /// The line of `check`: `ok`, the frames that the bundle takes, and those that it has.
 #[tactic(auto, unfolding(crate::specs::CommandText::check_text))]
 pub fn check_text(alloc: Global, loaded: &Loaded) -> Result<String, AllocError>
-    ensures { IfOk result (λ text. string_bytes text ≡ text_of_check loaded.now) }
+    ensures { IfOk result (λ text. string_bytes text ≡ check_text loaded.now) }
 {
     let need = loaded.need();
     let have = loaded.bundle().frames.saturating_sub(KEPT_FRAMES);
@@ -21,7 +21,7 @@ pub fn check_text(alloc: Global, loaded: &Loaded) -> Result<String, AllocError>
 
 // So many bytes from an address on, as far as they go.
 fn bytes_at(bytes: &[u8], first: u64, at: u64, count: u8) -> &[u8]
-    ensures { result.now ≡ bytes_from bytes.now first at count }
+    ensures { result.now ≡ bytes_at bytes.now first at count }
 {
     front(behind(bytes, at.saturating_sub(first)), usize::from(count))
 }
@@ -113,7 +113,7 @@ fn push_processes(out: &mut String, loaded: &Loaded) -> Result<(), AllocError>
 /// its new bytes, and its slot where it was moved; last `end`.
 #[tactic(auto, unfolding(crate::specs::CommandText::rewrite_text))]
 pub fn rewrite_text(alloc: Global, loaded: &Loaded) -> Result<String, AllocError>
-    ensures { IfOk result (λ text. string_bytes text ≡ text_of_rewrite loaded.now) }
+    ensures { IfOk result (λ text. string_bytes text ≡ rewrite_text loaded.now) }
 {
     let mut out = String::new(alloc);
     push_processes(&mut out, loaded)?;

@@ -1,7 +1,7 @@
 //! The bundle that is generated from a number: three servers, five clients that call them, and a random schedule.
 
 ghost use Rattle.std.specs.Prelude.{◌≡◌, ◌/◌, ◌^◌, ◌++◌, IfOk, replicate};
-ghost use Rattle.skybridge.specs.Generator.{next_state as state_next, state_after, server_image as image_of_server, client_text as text_of_client, client_image as image_of_client, keys_of, clients_of, cores_of, schedule_of, generated, GeneratedIsLoadable};
+ghost use Rattle.skybridge.specs.Generator.{next_state, state_after, server_image, client_text, client_image, keys_of, clients_of, cores_of, schedule_of, generated, GeneratedIsLoadable};
 ghost use Rattle.sb_bundle.specs.Limits.{IsBundle};
 
 use sb_bundle::{Bundle, Bytes, CoreStart, CoreStarts, Image, Images, Words};
@@ -77,7 +77,7 @@ struct Draws {
 impl Draws {
     /// The next state.
     fn next_state(&mut self) -> u64
-        ensures next { self.new.state ≡ state_next self.old.state }
+        ensures next { self.new.state ≡ next_state self.old.state }
         ensures same { result ≡ self.new.state }
     {
         self.state = self.state.wrapping_mul(MULTIPLIER).wrapping_add(INCREMENT);
@@ -86,7 +86,7 @@ impl Draws {
 
     /// The upper 31 bits of the next state.
     fn draw(&mut self) -> u64
-        ensures next { self.new.state ≡ state_next self.old.state }
+        ensures next { self.new.state ≡ next_state self.old.state }
         ensures high { result ≡ self.new.state / 2 ^ 33 }
     {
         self.next_state() >> 33
@@ -107,7 +107,7 @@ fn keys(alloc: Global, draws: &mut Draws) -> Result<Words, AllocError>
 }
 
 fn server_image(alloc: Global) -> Result<Image, AllocError>
-    ensures { IfOk result (λ image. image ≡ image_of_server) }
+    ensures { IfOk result (λ image. image ≡ server_image) }
 {
     Ok(Image {
         text: Bytes::new(Vec::from_slice(alloc, &SERVER_TEXT)?),
@@ -119,7 +119,7 @@ fn server_image(alloc: Global) -> Result<Image, AllocError>
 /// The text of a client of this server that makes so many calls.
 #[tactic(auto, unfolding(sb_bundle::specs::Spelling::number_bytes))]
 fn client_text(alloc: Global, server: u32, calls: u32) -> Result<Vec<u8>, AllocError>
-    ensures { IfOk result (λ text. text.items ≡ text_of_client server calls) }
+    ensures { IfOk result (λ text. text.items ≡ client_text server calls) }
 {
     let mut text = Vec::new(alloc);
     text.push(0xBF)?; // mov edi, ..
@@ -133,7 +133,7 @@ fn client_text(alloc: Global, server: u32, calls: u32) -> Result<Vec<u8>, AllocE
 /// A client, whose server and number of calls are drawn.
 #[tactic(auto, using(crate::proofs::Drawn::drawing))]
 fn client_image(alloc: Global, draws: &mut Draws) -> Result<Image, AllocError>
-    ensures image { IfOk result (λ image. image ≡ image_of_client draws.old.state 0) }
+    ensures image { IfOk result (λ image. image ≡ client_image draws.old.state 0) }
     ensures drawn { IfOk result (λ image. draws.new.state ≡ state_after draws.old.state 2) }
 {
     let server = (draws.draw() % 3) as u32;
@@ -147,7 +147,7 @@ fn client_image(alloc: Global, draws: &mut Draws) -> Result<Image, AllocError>
 
 /// The servers, and then the clients.
 fn images(alloc: Global, draws: &mut Draws) -> Result<Images, AllocError>
-    ensures images { IfOk result (λ images. images ≡ replicate 3 image_of_server ++ clients_of draws.old.state 5) }
+    ensures images { IfOk result (λ images. images ≡ replicate 3 server_image ++ clients_of draws.old.state 5) }
     ensures drawn { IfOk result (λ images. draws.new.state ≡ state_after draws.old.state 10) }
 {
     let mut images = Vec::new(alloc);

@@ -1,7 +1,7 @@
 //! The lines of the refusals.
 
 ghost use Rattle.std.specs.Prelude.{◌≡◌, IfOk, string_bytes};
-ghost use Rattle.skybridge.specs.Lines.{bundle_line as line_of_bundle, load_line as line_of_load};
+ghost use Rattle.skybridge.specs.Lines.{bundle_line, load_line};
 
 use sb_bundle::BundleRefusal;
 use sb_load::LoadRefusal;
@@ -18,7 +18,7 @@ pub const TOO_LONG_LINE: &str = "input too long\n";
 
 /// The line of a bundle's refusal: its name and the offset of the field.
 pub fn bundle_line(alloc: Global, refusal: BundleRefusal) -> Result<String, AllocError>
-    ensures { IfOk result (λ line. string_bytes line ≡ line_of_bundle refusal) }
+    ensures { IfOk result (λ line. string_bytes line ≡ bundle_line refusal) }
 {
     match refusal {
         BundleRefusal::Short { at } => format!(in alloc; "bundle Short {at}\n"),
@@ -33,7 +33,7 @@ pub fn bundle_line(alloc: Global, refusal: BundleRefusal) -> Result<String, Allo
 
 /// The line of a loader's refusal.
 pub fn load_line(alloc: Global, refusal: LoadRefusal) -> Result<String, AllocError>
-    ensures { IfOk result (λ line. string_bytes line ≡ line_of_load refusal) }
+    ensures { IfOk result (λ line. string_bytes line ≡ load_line refusal) }
 {
     format!(in alloc; "{refusal}\n")
 }

@@ -1,7 +1,7 @@
 //! The summary of a run: how many lines of each kind its report has.
 
 ghost use Rattle.std.specs.Prelude.{◌≡◌, ◌++◌, IfOk, OnOk, flat_map, string_bytes};
-ghost use Rattle.skybridge.specs.Summary.{counts_as as counts_as_at, count_of as count_in, count_line, counts_text, summary_text as text_of_summary};
+ghost use Rattle.skybridge.specs.Summary.{counts_as, count_of, count_line, counts_text, summary_text};
 
 use sb_trace::{EndState, Event, Line, Lines};
 use std::alloc::{AllocError, Global};
@@ -80,7 +80,7 @@ impl fmt::Display for Kind {
 
 /// Whether a line with this event counts as one of the kind.
 fn counts_as(kind: Kind, event: Event) -> bool
-    ensures { result ≡ counts_as_at kind event }
+    ensures { result ≡ counts_as kind event }
 {
     match event {
         Event::Step { .. } | Event::Extra { .. } | Event::Stray { .. } => matches!(
@@ -107,7 +107,7 @@ fn counts_as(kind: Kind, event: Event) -> bool
 
 /// How many lines are of the kind.
 fn count_of(lines: &[Line], kind: Kind) -> usize
-    ensures { result ≡ count_in lines.now kind }
+    ensures { result ≡ count_of lines.now kind }
 {
     let mut count = 0;
     for line in lines {
@@ -144,7 +144,7 @@ pub fn summary_text(
     lines: &Lines,
     end: &EndState,
 ) -> Result<String, AllocError>
-    ensures { IfOk result (λ text. string_bytes text ≡ text_of_summary number lines.now end.now) }
+    ensures { IfOk result (λ text. string_bytes text ≡ summary_text number lines.now end.now) }
 {
     let mut out = String::new(alloc);
     write!(out, "gen {number}\n")?;

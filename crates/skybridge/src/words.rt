@@ -2,7 +2,7 @@
 
 ghost use Rattle.std.specs.Prelude.{◌≡◌, ◌↔◌, IsTrue, IfSome, IfNone, ◌<◌, ◌^◌, ◌∷◌, [], ℕ, string_bytes};
 ghost use Rattle.std.specs.Fmt.{decimal};
-ghost use Rattle.skybridge.specs.Words.{AreWordsOf, IsCommand, is_plain as is_plain_text, word_of, words_of, word_texts};
+ghost use Rattle.skybridge.specs.Words.{AreWordsOf, IsCommand, is_plain, word_of, words_of, word_texts};
 ghost use Rattle.skybridge.specs.declared.words.BundleCommand.{BundleCommand};
 
 /// A command, which writes text or bytes.
@@ -59,7 +59,7 @@ fn bundle_command(word: &String) -> Option<BundleCommand>
 
 // Whether neither a plus sign nor a leading zero stands in front.
 fn is_plain(digits: &[u8]) -> bool
-    ensures { result ≡ is_plain_text digits.now }
+    ensures { result ≡ is_plain digits.now }
 {
     match digits {
         [b'+', ..] | [b'0', _, ..] => false,

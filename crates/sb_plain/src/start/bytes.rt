@@ -1,7 +1,7 @@
 //! The bytes of pages at the start.
 
 ghost use Rattle.std.specs.Prelude.{◌≡◌, ◌*◌, ◌^◌, ◌<◌, ◌≤◌, IfOk, length, take};
-ghost use Rattle.sb_trace.specs.Start.{filled, page_of, home_words, record_bytes};
+ghost use Rattle.sb_trace.specs.Start.{page_padded, page_of, home_words, record_bytes};
 ghost use Rattle.sb_tramp.specs.Home.{home_page};
 ghost use Rattle.sb_tramp.specs.Server.{server_page};
 
@@ -29,7 +29,7 @@ fn first_page(bytes: &[u8]) -> &[u8]
 #[tactic(auto, using(crate::proofs::Starting::filled_more, crate::proofs::Starting::filled_whole))]
 fn filled_up(alloc: Global, filler: u8, chunk: &[u8]) -> Result<PageBytes, AllocError>
     requires { length chunk.now ≤ 4096 }
-    ensures bytes { IfOk result (λ bytes. bytes ≡ filled filler chunk.now) }
+    ensures bytes { IfOk result (λ bytes. bytes ≡ page_padded filler chunk.now) }
     ensures size { IfOk result (λ bytes. length bytes ≡ 4096) }
 {
     let mut bytes = Vec::from_slice(alloc, chunk)?;

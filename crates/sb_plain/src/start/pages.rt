@@ -2,14 +2,14 @@
 
 ghost use Rattle.std.specs.Prelude.{◌≡◌, ◌^◌, ◌<◌, ◌++◌, ◌∷◌, [], IfOk, OnOk, length, map};
 ghost use Rattle.sb_trace.specs.PageWords.{zeros};
-ghost use Rattle.sb_trace.specs.Start.{named, filled_pages, heap_pages, process_pages, thread_pages, trampoline_pages, images_pages, threads_pages};
+ghost use Rattle.sb_trace.specs.Start.{page_with, padded_pages, heap_pages, process_pages, thread_pages, trampoline_pages, images_pages, threads_pages};
 ghost use Rattle.sb_plain.specs.Start.{image_of, images_loaded, part_name, part_filler, entry_of};
 
 use super::bytes::{home_record, home_trampoline, page_bytes, server_trampoline};
 use crate::pages::{Pages, zero_bytes};
-use sb_memory::page_count;
 use sb_bundle::{CoreStart, Image};
 use sb_load::Loaded;
+use sb_memory::page_count;
 use sb_rewrite::Rewritten;
 use sb_trace::{Page, PageBytes, PageName};
 use std::alloc::{AllocError, Global};
@@ -47,7 +47,7 @@ impl Part {
 
 fn push_named(pages: &mut Pages, name: PageName, bytes: PageBytes) -> Result<(), AllocError>
     requires { length bytes ≡ 4096 }
-    ensures { OnOk result (pages.new.pages ≡ pages.old.pages ++ named name bytes ∷ []) }
+    ensures { OnOk result (pages.new.pages ≡ pages.old.pages ++ page_with name bytes ∷ []) }
 {
     pages.push(Page {
         name,
@@ -57,7 +57,7 @@ fn push_named(pages: &mut Pages, name: PageName, bytes: PageBytes) -> Result<(),
 }
 
 fn push_zeros(alloc: Global, pages: &mut Pages, name: PageName) -> Result<(), AllocError>
-    ensures { OnOk result (pages.new.pages ≡ pages.old.pages ++ named name zeros ∷ []) }
+    ensures { OnOk result (pages.new.pages ≡ pages.old.pages ++ page_with name zeros ∷ []) }
 {
     push_named(pages, name, zero_bytes(alloc)?)
 }
@@ -71,7 +71,7 @@ fn push_part(
     contents: &[u8],
 ) -> Result<(), AllocError>
     requires { length contents.now < 2 ^ 32 }
-    ensures { OnOk result (pages.new.pages ≡ pages.old.pages ++ filled_pages (part_name part process) (part_filler part) contents.now) }
+    ensures { OnOk result (pages.new.pages ≡ pages.old.pages ++ padded_pages (part_name part process) (part_filler part) contents.now) }
 {
     for page in 0..page_count(contents.len()) {
         let bytes = page_bytes(alloc, part.filler(), contents, page)?;

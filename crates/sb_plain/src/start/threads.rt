@@ -1,7 +1,7 @@
 //! The threads at the start.
 
 ghost use Rattle.std.specs.Prelude.{◌≡◌, ◌^◌, ◌<◌, None, IfOk, length, map, replicate};
-ghost use Rattle.sb_trace.specs.Start.{save_address as address_of_save, start_registers as registers_at_start, start_threads as threads_at_start};
+ghost use Rattle.sb_trace.specs.Start.{save_address, start_registers, start_threads};
 ghost use Rattle.sb_plain.specs.Start.{entry_of};
 
 use sb_abi::{STACKS_ADDRESS, THREAD_DISTANCE};
@@ -13,14 +13,14 @@ use std::alloc::{AllocError, Global};
 
 /// The linear address of a thread's save page.
 pub fn save_address(thread: u32) -> u64
-    ensures { result ≡ address_of_save thread }
+    ensures { result ≡ save_address thread }
 {
     STACKS_ADDRESS + u64::from(thread) * THREAD_DISTANCE
 }
 
 #[tactic(auto, unfolding(sb_trace::specs::Start::start_registers))]
 fn start_registers(thread: u32, address: u64) -> Regs
-    ensures { result ≡ registers_at_start thread address }
+    ensures { result ≡ start_registers thread address }
 {
     let mut general = [0u64; 16];
     general[RSP] = STACKS_ADDRESS + (u64::from(thread) + 1) * THREAD_DISTANCE;
@@ -35,7 +35,7 @@ fn start_registers(thread: u32, address: u64) -> Regs
 /// The threads at the start, one for each core.
 pub fn start_threads(alloc: Global, cores: &[CoreStart]) -> Result<Vec<Thread>, AllocError>
     requires { length cores.now < 2 ^ 32 }
-    ensures { IfOk result (λ threads. threads.items ≡ threads_at_start 0 (map entry_of cores.now)) }
+    ensures { IfOk result (λ threads. threads.items ≡ start_threads 0 (map entry_of cores.now)) }
 {
     let mut threads = Vec::new(alloc);
     for (thread, core) in cores.iter().enumerate() {

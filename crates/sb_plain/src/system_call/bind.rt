@@ -3,14 +3,14 @@
 ghost use Rattle.std.specs.Prelude.{◌≡◌, ◌<◌, ◌≤◌, ◌+◌, ◌-◌, ◌^◌, ◌++◌, ◌∷◌, None, length, drop};
 ghost use Rattle.sb_trace.specs.State.{thread_at};
 ghost use Rattle.sb_trace.specs.Registers.{rdi};
-ghost use Rattle.sb_trace.specs.SyscallBind.{refuses_bind, has_index as is_index_of, free_index as lowest_free, buffer_page, binding_pages, first_key, new_binding, with_binding, bound};
+ghost use Rattle.sb_trace.specs.SyscallBind.{refusal_of_bind, has_index, free_index, buffer_page, binding_pages, first_key, new_binding, with_binding, bind_outcome};
 
 use super::decline;
 use crate::pages::Pages;
 use crate::pool::{handler_of, registration_of};
 use crate::state::Plain;
 use sb_abi::{BIND_FRAMES, CallRefusal};
-use sb_calls::{bind_refusal, bound_regs, server_record};
+use sb_calls::{bind_refusal, regs_after_bind, server_record};
 use sb_insn::Regs;
 use sb_insn::registers::{RAX, RDI};
 use sb_trace::{Binding, Event, PageName, Thread};
@@ -24,7 +24,7 @@ const LAST_INDEX: u16 = 15;
 // Why the thread does not get a view of a process.
 #[tactic(auto, unfolding(sb_calls::specs::Refusals::bind_refusal))]
 fn refusal_of(state: &Plain, thread: &Thread, server: u64) -> Option<CallRefusal>
-    ensures refusal { result ≡ refuses_bind state.now thread.now server }
+    ensures refusal { result ≡ refusal_of_bind state.now thread.now server }
     ensures number { result ≡ None → server < 2 ^ 32 }
     ensures bindings { result ≡ None → length thread.now.bindings < 15 }
     ensures frames { result ≡ None → 10 ≤ state.now.free }
@@ -44,7 +44,7 @@ fn refusal_of(state: &Plain, thread: &Thread, server: u64) -> Option<CallRefusal
 // ---- the binding
 
 fn has_index(bindings: &[Binding], index: u16) -> bool
-    ensures { result ≡ is_index_of bindings.now index }
+    ensures { result ≡ has_index bindings.now index }
 {
     match bindings.split_first() {
         Some((first, others)) => first.index == index || has_index(others, index),
@@ -54,7 +54,7 @@ fn has_index(bindings: &[Binding], index: u16) -> bool
 
 // The lowest index from 1 to 15 that no binding has.
 fn free_index(bindings: &[Binding]) -> u16
-    ensures index { result ≡ lowest_free bindings.now }
+    ensures index { result ≡ free_index bindings.now }
     ensures range { result ≤ 15 }
 {
     let mut index = 1;
@@ -121,7 +121,7 @@ fn make_binding(state: &mut Plain, core: u8, server: u32) -> Binding
 /// buffer.
 pub fn bind(state: &mut Plain, core: u8, next: &Regs) -> Event
     requires { core < length state.old.threads }
-    ensures bound { (result, state.new) ≡ bound state.old core (thread_at state.old core) next.now (refuses_bind state.old (thread_at state.old core) (rdi next.now)) }
+    ensures bound { (result, state.new) ≡ bind_outcome state.old core (thread_at state.old core) next.now (refusal_of_bind state.old (thread_at state.old core) (rdi next.now)) }
     ensures count { length state.new.threads ≡ length state.old.threads }
 {
     let server = next.general[RDI];
@@ -129,7 +129,7 @@ pub fn bind(state: &mut Plain, core: u8, next: &Regs) -> Event
         return decline(state, core, next, refusal, 0);
     }
     let binding = make_binding(state, core, server as u32);
-    let regs = bound_regs(next, core, binding.index, binding.key);
+    let regs = regs_after_bind(next, core, binding.index, binding.key);
     state.set_regs(core, regs);
     Event::Sys {
         number: next.general[RAX],

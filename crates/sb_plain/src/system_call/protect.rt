@@ -3,14 +3,14 @@
 ghost use Rattle.std.specs.Prelude.{◌≡◌, ◌<◌, ◌+◌, ◌^◌, length};
 ghost use Rattle.sb_trace.specs.State.{thread_at, process_at};
 ghost use Rattle.sb_trace.specs.Registers.{rdi, rsi};
-ghost use Rattle.sb_trace.specs.Windows.{present_of as shown_now};
-ghost use Rattle.sb_trace.specs.Pattern.{heap_pattern as pattern_by};
-ghost use Rattle.sb_trace.specs.SyscallProtect.{heap_count as pages_of_heap, protected, made_executable, protects};
+ghost use Rattle.sb_trace.specs.Windows.{process_now};
+ghost use Rattle.sb_trace.specs.Pattern.{heap_pattern};
+ghost use Rattle.sb_trace.specs.SyscallProtect.{heap_count, with_heap_mode, execute_mode_outcome, protect_outcome};
 
 use super::{accept, decline};
 use crate::pattern::heap_pattern;
 use crate::state::Plain;
-use crate::windows::present_of;
+use crate::windows::process_now;
 use sb_abi::CallRefusal;
 use sb_calls::{EXECUTE_MODE, protect_refusal};
 use sb_insn::Regs;
@@ -19,7 +19,7 @@ use sb_trace::{Event, PageName};
 
 #[tactic(auto, unfolding(sb_state::specs::State::process_at))]
 fn heap_count(state: &Plain, process: u32) -> u32
-    ensures { result ≡ pages_of_heap (process_at state.now process) }
+    ensures { result ≡ heap_count (process_at state.now process) }
 {
     match state.processes.get(process as usize) {
         Some(process) => process.heap_pages,
@@ -27,9 +27,9 @@ fn heap_count(state: &Plain, process: u32) -> u32
     }
 }
 
-#[tactic(auto, unfolding(sb_trace::specs::SyscallProtect::protected))]
+#[tactic(auto, unfolding(sb_trace::specs::SyscallProtect::with_heap_mode))]
 fn set_executable(state: &mut Plain, process: u32, page: u32, executable: bool)
-    ensures protected { state.new ≡ protected state.old process page executable }
+    ensures protected { state.new ≡ with_heap_mode state.old process page executable }
     ensures threads { state.new.threads ≡ state.old.threads }
 {
     let name = PageName::Heap(process, page);
@@ -40,7 +40,7 @@ fn set_executable(state: &mut Plain, process: u32, page: u32, executable: bool)
 fn make_executable(state: &mut Plain, core: u8, next: &Regs, process: u32, page: u32) -> Event
     requires inside { core < length state.old.threads }
     requires behind { page + 1 < 2 ^ 32 }
-    ensures made { (result, state.new) ≡ made_executable state.old core next.now process page (pattern_by state.old process page) }
+    ensures made { (result, state.new) ≡ execute_mode_outcome state.old core next.now process page (heap_pattern state.old process page) }
     ensures count { length state.new.threads ≡ length state.old.threads }
 {
     if let Some(address) = heap_pattern(state, process, page) {
@@ -55,10 +55,10 @@ fn make_executable(state: &mut Plain, core: u8, next: &Regs, process: u32, page:
 /// Where the bytes of VMFUNC refuse it, RDX has the lowest address at which they stand.
 pub fn protect(state: &mut Plain, core: u8, next: &Regs) -> Event
     requires { core < length state.old.threads }
-    ensures protected { (result, state.new) ≡ protects state.old core next.now (shown_now (thread_at state.old core)) (rdi next.now) (rsi next.now) }
+    ensures protected { (result, state.new) ≡ protect_outcome state.old core next.now (process_now (thread_at state.old core)) (rdi next.now) (rsi next.now) }
     ensures count { length state.new.threads ≡ length state.old.threads }
 {
-    let process = present_of(state.thread(core));
+    let process = process_now(state.thread(core));
     let (page, mode) = (next.general[RDI], next.general[RSI]);
     if let Some(refusal) = protect_refusal(heap_count(state, process), page, mode) {
         return decline(state, core, next, refusal, 0);

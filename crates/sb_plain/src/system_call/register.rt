@@ -3,9 +3,9 @@
 ghost use Rattle.std.specs.Prelude.{◌≡◌, ◌<◌, ◌≤◌, ◌-◌, ◌*◌, ◌++◌, None, length, slice_get};
 ghost use Rattle.sb_trace.specs.State.{thread_at, process_at};
 ghost use Rattle.sb_trace.specs.Registers.{rdi, rsi};
-ghost use Rattle.sb_trace.specs.Windows.{present_of as shown_now};
+ghost use Rattle.sb_trace.specs.Windows.{process_now};
 ghost use Rattle.sb_trace.specs.Start.{pages_from};
-ghost use Rattle.sb_trace.specs.SyscallRegister.{is_start as is_start_of, refuses_register, server_stack_page, with_registration, with_server, registered};
+ghost use Rattle.sb_trace.specs.SyscallRegister.{is_start, refusal_of_register, server_stack_page, with_registration, with_server, register_outcome};
 ghost use Rattle.sb_plain.specs.Store.{added};
 
 use super::{accept, decline};
@@ -13,7 +13,7 @@ use crate::pages::Pages;
 use crate::pool::{registration_of, set_pool_word};
 use crate::process::Process;
 use crate::state::Plain;
-use crate::windows::present_of;
+use crate::windows::process_now;
 use sb_abi::{CallRefusal, EXIT_STUB, STACK_PAGES, TOP_WORD};
 use sb_calls::register_refusal;
 use sb_insn::Regs;
@@ -27,7 +27,7 @@ const PAGES: u32 = STACK_PAGES as u32;
 
 #[tactic(auto, unfolding(sb_state::specs::State::process_at))]
 fn is_start(state: &Plain, process: u32, address: u64) -> bool
-    ensures { result ≡ is_start_of (process_at state.now process) address }
+    ensures { result ≡ is_start (process_at state.now process) address }
 {
     match state.processes.get(process as usize) {
         Some(process) => process.is_start(address),
@@ -43,7 +43,7 @@ fn refusal_of(
     handler: u64,
     stacks: u64,
 ) -> Option<CallRefusal>
-    ensures refusal { result ≡ refuses_register state.now view process handler stacks }
+    ensures refusal { result ≡ refusal_of_register state.now view process handler stacks }
     ensures stacks { result ≡ None → stacks ≤ 16 }
     ensures frames { result ≡ None → 4 * stacks ≤ state.now.free }
 {
@@ -119,11 +119,11 @@ fn make_server(state: &mut Plain, process: u32, handler: u64, stacks: u32)
 /// Makes the process that the view shows a server: its handler is in RDI, its number of stacks in RSI.
 pub fn register(state: &mut Plain, core: u8, next: &Regs) -> Event
     requires { core < length state.old.threads }
-    ensures registered { (result, state.new) ≡ registered state.old core next.now (shown_now (thread_at state.old core)) (refuses_register state.old (thread_at state.old core).view (shown_now (thread_at state.old core)) (rdi next.now) (rsi next.now)) }
+    ensures registered { (result, state.new) ≡ register_outcome state.old core next.now (process_now (thread_at state.old core)) (refusal_of_register state.old (thread_at state.old core).view (process_now (thread_at state.old core)) (rdi next.now) (rsi next.now)) }
     ensures count { length state.new.threads ≡ length state.old.threads }
 {
     let thread = state.thread(core);
-    let (view, process) = (thread.view, present_of(thread));
+    let (view, process) = (thread.view, process_now(thread));
     let (handler, stacks) = (next.general[RDI], next.general[RSI]);
     if let Some(refusal) = refusal_of(state, view, process, handler, stacks) {
         return decline(state, core, next, refusal, 0);

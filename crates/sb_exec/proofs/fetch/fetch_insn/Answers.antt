@@ -1,12 +1,13 @@
 use Rattle.std.proofs.Common.{◌≡◌, ◌<◌, ℕ, suc, Ok, Err, length, take, rules, refl, ap, inr, sym}
 use Rattle.std.proofs.lemmas.Result.{err_from_is_err_and}
 use Rattle.sb_insn.specs.Grammar.{Spells, IsShort}
-use Rattle.sb_exec.specs.Fetching.{further, fetch_of}
+use Rattle.sb_exec.specs.Fetching.{bytes_from_fetch, fetch_of}
 use Rattle.sb_exec.proofs.Fetched.{no_fronts, more_fronts, more_stands, spelled_whole}
 use Rattle.sb_exec.proofs.fetch.fetch_insn.Goals as goal
 
 pub loop-insn-init : goal.loop-insn-init
-loop-insn-init g c = record { stands = search rules; fronts = no_fronts; within = search rules; same = refl; kept = refl; account = refl }
+loop-insn-init g c =
+    record { stands = search rules; fronts = no_fronts; within = search rules; same = refl; kept = refl; account = refl }
 
 pub returns-in-Ok-clause-fetched : goal.returns-in-Ok-clause-fetched
 returns-in-Ok-clause-fetched g c =
@@ -27,10 +28,14 @@ returns-in-Ok-clause-fetched g c =
 pub returns-in_err-bytes-in-Err-Short-clause-fetched :
     goal.returns-in_err-bytes-in-Err-Short-clause-fetched
 returns-in_err-bytes-in-Err-Short-clause-fetched g c =
-    let short : IsShort (take c.loop-insn.len c.loop-insn.bytes) = rw c.in-Err-Short.field-0-is at c.in-Err-Short.ensures.answer in
+    let short : IsShort (take c.loop-insn.len c.loop-insn.bytes) =
+    rw c.in-Err-Short.field-0-is at c.in-Err-Short.ensures.answer in
     let long : length (take c.loop-insn.len c.loop-insn.bytes) ≡ c.loop-insn.len = search rules in
-    let next : fetch_of g.B.Bus.interface (g.B.Bus.meaning c.args.bus.now) (further c.args.rip c.loop-insn.len) ≡ Err c.in_err-bytes-in-Err-Short.field-0.0 = search rules in
-    let at_end : fetch_of g.B.Bus.interface (g.B.Bus.meaning c.args.bus.now) (further c.args.rip (length (take c.loop-insn.len c.loop-insn.bytes))) ≡ Err c.in_err-bytes-in-Err-Short.field-0.0 =
+    let next : fetch_of g.B.Bus.interface (g.B.Bus.meaning c.args.bus.now) (bytes_from_fetch c.args.rip c.loop-insn.len)
+    ≡ Err c.in_err-bytes-in-Err-Short.field-0.0 = search rules in
+    let at_end : fetch_of g.B.Bus.interface (g.B.Bus.meaning c.args.bus.now)
+    (bytes_from_fetch c.args.rip (length (take c.loop-insn.len c.loop-insn.bytes)))
+    ≡ Err c.in_err-bytes-in-Err-Short.field-0.0 =
     rw long next in
     let answer = err_from_is_err_and c.from_residual.result c.from_residual.ensures.1 in
     rw (answer.1, answer.2) record {
@@ -47,12 +52,18 @@ returns-in_err-bytes-in-Err-Short-clause-fetched g c =
 pub loop-insn-preserved : goal.loop-insn-preserved
 loop-insn-preserved g c =
     let inside : c.loop-insn.len < length c.loop-insn.bytes = search rules in
-    let short : IsShort (take c.loop-insn.len c.loop-insn.bytes) = rw c.in-Err-Short.field-0-is at c.in-Err-Short.ensures.answer in
-    let next : fetch_of g.B.Bus.interface (g.B.Bus.meaning c.args.bus.now) (further c.args.rip c.loop-insn.len) ≡ Ok c.in_ok-bytes-in-Err-Short.field-0 = search rules in
+    let short : IsShort (take c.loop-insn.len c.loop-insn.bytes) =
+    rw c.in-Err-Short.field-0-is at c.in-Err-Short.ensures.answer in
+    let next : fetch_of g.B.Bus.interface (g.B.Bus.meaning c.args.bus.now) (bytes_from_fetch c.args.rip c.loop-insn.len)
+    ≡ Ok c.in_ok-bytes-in-Err-Short.field-0 = search rules in
     record {
-      stands = more_stands (fetch_of g.B.Bus.interface (g.B.Bus.meaning c.args.bus.now)) c.args.rip c.loop-insn.len c.in_ok-bytes-in-Err-Short.field-0
+      stands =
+          more_stands (fetch_of g.B.Bus.interface (g.B.Bus.meaning c.args.bus.now)) c.args.rip c.loop-insn.len
+          c.in_ok-bytes-in-Err-Short.field-0
           c.loop-insn.bytes inside c.loop-insn.invariant.stands next;
-      fronts = more_fronts c.loop-insn.len c.in_ok-bytes-in-Err-Short.field-0 c.loop-insn.bytes inside c.loop-insn.invariant.fronts short;
+      fronts =
+          more_fronts c.loop-insn.len c.in_ok-bytes-in-Err-Short.field-0 c.loop-insn.bytes inside c.loop-insn.invariant.fronts
+          short;
       within = search rules;
       same = search rules;
       kept = search rules;

@@ -9,7 +9,8 @@ invariant-loop-insn g l = record {
   within : l.len ≤ 13;
   same : g.B.Bus.meaning l.bus ≡ g.B.Bus.meaning l.fn.bus;
   kept : g.B.Bus.kept l.bus ≡ g.B.Bus.kept l.fn.bus;
-  account : g.B.Bus.account l.bus ≡ after_fetches g.B.Bus.interface (g.B.Bus.meaning l.fn.bus) l.rip l.len (g.B.Bus.account l.fn.bus);
+  account : g.B.Bus.account l.bus
+      ≡ after_fetches g.B.Bus.interface (g.B.Bus.meaning l.fn.bus) l.rip l.len (g.B.Bus.account l.fn.bus);
 }
 
 abbrev pub decreases-loop-insn : goal.decreases-loop-insn

@@ -4,10 +4,12 @@ use Rattle.sb_exec_tests.proofs.board.+number.Goals as goal
 
 pub overflow_mul-result : goal.overflow_mul-result
 overflow_mul-result t c =
-    let below : c.in_ok-others.others < 2 ^ 56 = number_below _ c.args.size (c.args.size - 1) (omega arith) c.requires c.in_ok-others.ensures.range in
+    let below : c.in_ok-others.others < 2 ^ 56 =
+    number_below _ c.args.size (c.args.size - 1) (omega arith) c.requires c.in_ok-others.ensures.range in
     omega (arith, below)
 
 pub overflow_add-result : goal.overflow_add-result
 overflow_add-result t c =
-    let below : c.in_ok-others.others < 2 ^ 56 = number_below _ c.args.size (c.args.size - 1) (omega arith) c.requires c.in_ok-others.ensures.range in
+    let below : c.in_ok-others.others < 2 ^ 56 =
+    number_below _ c.args.size (c.args.size - 1) (omega arith) c.requires c.in_ok-others.ensures.range in
     omega (arith, below)

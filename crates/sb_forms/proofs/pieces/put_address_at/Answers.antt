@@ -5,8 +5,8 @@ use Rattle.std.proofs.lemmas.Bool.{cond-false}
 use Rattle.sb_insn.specs.declared.insn.Insn.{Insn}
 use Rattle.sb_insn.specs.declared.insn.Disp.TheVariants as disp
 use Rattle.sb_forms.specs.Registers.{modrm_of}
-use Rattle.sb_forms.specs.Pieces.{is_from_next, load_address, lowered, raise, address_from, address_at}
-use Rattle.sb_forms.specs.Table.{spelled}
+use Rattle.sb_forms.specs.Pieces.{is_from_next, load_address, lowered_displacement, add_step_back, address_from, address_at}
+use Rattle.sb_forms.specs.Table.{spelled_bytes}
 use Rattle.sb_forms.proofs.Spelled.{one_then}
 use Rattle.sb_forms.proofs.pieces.put_address_at.Goals as goal
 
@@ -16,8 +16,8 @@ returns-else-is_from_next-clause-code c =
     let fits : FitsSigned w32 c.args.distance = c.ranges.distance in
     let from_base : is_from_next (modrm_of c.args.insn.now) ≡ false =
     ap (λ m. is_from_next m) (sym c.modrm_of.ensures) ∙ sym c.is_from_next.ensures ∙ c.if-is_from_next.false in
-    let first = load_address c.args.helper c.args.insn.now (disp.D32 (lowered c.args.distance)) in
-    let rest = raise c.args.helper c.args.distance in
+    let first = load_address c.args.helper c.args.insn.now (disp.D32 (lowered_displacement c.args.distance)) in
+    let rest = add_step_back c.args.helper c.args.distance in
     one_then
     c.args.code.now
     c.put.new.self
@@ -29,5 +29,6 @@ returns-else-is_from_next-clause-code c =
     c.put.ensures.code
     (simp to_z-of_z at c.put_raise.ensures.code)
     ∙ ap
-    (λ (insns : List Insn). c.args.code.now ++ spelled insns)
-    (sym (cond-false (is_from_next (modrm_of c.args.insn.now)) (address_from c.args.helper c.args.next c.args.distance) (first ∷ rest) from_base))
+    (λ (insns : List Insn). c.args.code.now ++ spelled_bytes insns)
+    (sym (cond-false (is_from_next (modrm_of c.args.insn.now)) (address_from c.args.helper c.args.next c.args.distance)
+    (first ∷ rest) from_base))

@@ -1,7 +1,7 @@
 use Rattle.std.proofs.Common.{◌+◌, [], ◌∷◌, pos, FitsSigned}
 use Rattle.std.specs.Int.{w32}
 use Rattle.std.proofs.Math.Facts.{to_z-of_z}
-use Rattle.sb_forms.specs.Pieces.{load_number, add_number, lowered, lacking, address_from}
+use Rattle.sb_forms.specs.Pieces.{load_number, add_number, lowered_displacement, lacking, address_from}
 use Rattle.sb_forms.proofs.Spelled.{one, one_then}
 use Rattle.sb_forms.proofs.pieces.put_address_from.Goals as goal
 
@@ -14,7 +14,7 @@ returns-clause-code c =
     c.args.code.now
     c.put.new.self
     c.put-2.new.self
-    (load_number c.args.helper (lowered c.args.distance))
+    (load_number c.args.helper (lowered_displacement c.args.distance))
     c.load_lowered.result
     (last ∷ [])
     (simp to_z-of_z at c.load_lowered.ensures.value)

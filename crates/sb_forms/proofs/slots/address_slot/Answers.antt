@@ -1,5 +1,5 @@
 use Rattle.std.proofs.Common.{[], ◌∷◌}
-use Rattle.sb_forms.specs.Pieces.{first_saved, save, restore, address}
+use Rattle.sb_forms.specs.Pieces.{first_saved, save, restore, load_address_of_operand}
 use Rattle.sb_forms.specs.Mains.{with_helper}
 use Rattle.sb_forms.specs.Table.{address_form}
 use Rattle.sb_forms.proofs.Spelled.{alone, more, moved_is}
@@ -17,10 +17,10 @@ returns-clause-table c =
     c.put_address.new.code
     c.of-post.result
     c.with_helper.result
-    (save helper first_saved ∷ address helper c.args.insn.now c.args.site.next)
+    (save helper first_saved ∷ load_address_of_operand helper c.args.insn.now c.args.site.next)
     (with_helper helper c.args.insn.now)
     (restore helper first_saved ∷ [])
-    (more c.of-pre.result c.put_address.new.code (save helper first_saved ∷ []) (address helper c.args.insn.now c.args.site.next) (alone c.of-pre.result (save helper first_saved) c.save.result c.save.ensures.value c.of-pre.ensures.code) c.put_address.ensures.code)
+    (more c.of-pre.result c.put_address.new.code (save helper first_saved ∷ []) (load_address_of_operand helper c.args.insn.now c.args.site.next) (alone c.of-pre.result (save helper first_saved) c.save.result c.save.ensures.value c.of-pre.ensures.code) c.put_address.ensures.code)
     c.with_helper.ensures.value
     (alone c.of-post.result (restore helper first_saved) c.restore.result c.restore.ensures.value c.of-post.ensures.code)
     c.moved.ensures.moved)

@@ -4,10 +4,12 @@ use Rattle.sb_nested.proofs.look.+bytes.Goals as goal
 
 pub overflow_mul-result : goal.overflow_mul-result
 overflow_mul-result g t c =
-    let h : c.in_ok-high.high < 2 ^ 56 = number_below _ c.args.size (c.args.size - 1) (omega arith) c.requires.size c.in_ok-high.ensures.range in
+    let h : c.in_ok-high.high < 2 ^ 56 =
+    number_below _ c.args.size (c.args.size - 1) (omega arith) c.requires.size c.in_ok-high.ensures.range in
     omega (arith, h)
 
 pub overflow_add-result : goal.overflow_add-result
 overflow_add-result g t c =
-    let h : c.in_ok-high.high < 2 ^ 56 = number_below _ c.args.size (c.args.size - 1) (omega arith) c.requires.size c.in_ok-high.ensures.range in
+    let h : c.in_ok-high.high < 2 ^ 56 =
+    number_below _ c.args.size (c.args.size - 1) (omega arith) c.requires.size c.in_ok-high.ensures.range in
     omega (arith, h)

@@ -4,5 +4,6 @@ use Rattle.sb_origin_run.proofs.laws.rewritten_runs.Goals as goal
 
 pub returns : goal.returns
 returns g c has beside made =
-    run_alike g.R.Codes.bus g.R.Codes.original g.R.Codes.holds g.R.Codes.outside g.R.Codes.naming g.R.Codes.target g.R.Codes.source g.R.Codes.place beside
+    run_alike g.R.Codes.bus g.R.Codes.original g.R.Codes.holds g.R.Codes.outside g.R.Codes.naming g.R.Codes.target
+    g.R.Codes.source g.R.Codes.place beside
     (made_stands g.R.Codes.bus g.R.Codes.holds g.R.Codes.target g.R.Codes.source g.R.Codes.place has made)

@@ -8,5 +8,8 @@ returns g c has beside made =
     let system = g.R.Systems.system in
     let original = g.R.Systems.original in
     let places = g.R.Systems.places in
-    served_alike system original g.R.Systems.holds g.R.Systems.outside g.R.Systems.naming places
-    (beside, λ mode number. made_stands (system.buses mode number) (HoldsOf g.R.Systems.holds number) (system.codes mode number) (original.codes mode number) (places mode number) (has mode number) (made mode number))
+    served_alike system original g.R.Systems.holds g.R.Systems.outside g.R.Systems.naming places (
+      beside,
+      λ mode number. made_stands (system.buses mode number) (HoldsOf g.R.Systems.holds number) (system.codes mode number)
+          (original.codes mode number) (places mode number) (has mode number) (made mode number),
+    )

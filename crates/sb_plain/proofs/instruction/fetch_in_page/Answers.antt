@@ -9,7 +9,9 @@ use Rattle.sb_plain.proofs.instruction.fetch_in_page.Goals as goal
 
 pub returns-in-Ok-clause-fetched : goal.returns-in-Ok-clause-fetched
 returns-in-Ok-clause-fetched c =
-    let is : reached c.args.thread c.args.view c.args.state.now c.args.rip Fetch ≡ Ok c.in-Ok.field-0-0 = sym c.in-Ok.ensures.name in
-    let begins : IfSome c.first_insn.result (λ insn. BeginsWith (drop (c.args.rip % 4096) c.in-Ok.page.now.bytes) insn) = search rules in
+    let is : reached c.args.thread c.args.view c.args.state.now c.args.rip Fetch ≡ Ok c.in-Ok.field-0-0 =
+    sym c.in-Ok.ensures.name in
+    let begins : IfSome c.first_insn.result (λ insn. BeginsWith (drop (c.args.rip % 4096) c.in-Ok.page.now.bytes) insn) =
+    search rules in
     found_in_page c.args.thread c.args.view c.args.state.now c.args.rip c.in-Ok.field-0-0 c.in-Ok.page.now c.first_insn.result
     c.ranges.rip.fits c.in-Ok.ensures.size is c.in-Ok.ensures.page begins

@@ -6,5 +6,6 @@ use Rattle.sb_plain.proofs.instruction.fetch_next.Goals as goal
 
 pub returns-clause-fault : goal.returns-clause-fault
 returns-clause-fault c =
-    let fetched : FetchesOn (plain c.args.thread c.args.view) c.args.state.now c.args.rip tt tt c.fetch_insn.result = search rules in
+    let fetched : FetchesOn (plain c.args.thread c.args.view) c.args.state.now c.args.rip tt tt c.fetch_insn.result =
+    search rules in
     fetch_faults c.args.thread c.args.view c.args.state.now c.args.rip c.fetch_insn.result fetched

@@ -17,5 +17,6 @@ returns-clause-known c =
     index_pushed (get equal_names c.args.places.now) (get equal_names c.note.new.places)
     c.args.pages.now.items c.args.page c.len.result c.requires.index (search rules) c.note.ensures.noted in
     let is : c.copied.result ≡ get equal_names c.note.new.places c.args.page.name = search rules in
-    rw c.push_reserved.ensures.items (c.remember.ensures (c.args.pages.now.items ++ c.args.page ∷ []) (is ∙ index c.args.page.name)
+    rw c.push_reserved.ensures.items
+    (c.remember.ensures (c.args.pages.now.items ++ c.args.page ∷ []) (is ∙ index c.args.page.name)
     (known_pushed c.args.pages.now.items c.args.page c.args.known.now.items c.requires.known))

@@ -10,4 +10,5 @@ returns-then-not-contains_key-clause-noted c =
     (on_ok c.insert.result (c.insert.ensures.succeeds c.requires) c.insert.ensures.updates).0
 
 pub returns-else-not-contains_key-clause-noted : goal.returns-else-not-contains_key-clause-noted
-returns-else-not-contains_key-clause-noted c = noted_there (get equal_names c.args.places.now) c.args.name c.args.place (search rules)
+returns-else-not-contains_key-clause-noted c =
+    noted_there (get equal_names c.args.places.now) c.args.name c.args.place (search rules)

@@ -11,10 +11,17 @@ loop-number-preserved c =
     let load : Load = c.args.loaded.now in
     let image : Image = c.image-item.result in
     let becomes : Output = c.rewritten-made.result.now in
-    let images : c.items-image-items.result.now ≡ load.bundle.images = c.items-image-items.ensures ∙ ap (λ (bundle : Bundle). bundle.images) c.bundle.ensures.same in
+    let images : c.items-image-items.result.now ≡ load.bundle.images =
+    c.items-image-items.ensures ∙ ap (λ (bundle : Bundle). bundle.images) c.bundle.ensures.same in
     let read : IsReadAt load c.loop-number.number image becomes =
-    record { loadable = c.bundle.ensures.loadable; below = rw images at c.loop-number-test.true; of_bundle = rw images at c.image-item.is; of_text = c.rewritten-made.ensures.same } in
     record {
-      whole = process_pushed load c.loop-number.number image becomes _ _ _ _ read c.in_ok-start_process.ensures c.in_ok-push.ensures.items c.loop-number.invariant.whole;
+      loadable = c.bundle.ensures.loadable;
+      below = rw images at c.loop-number-test.true;
+      of_bundle = rw images at c.image-item.is;
+      of_text = c.rewritten-made.ensures.same;
+    } in
+    record {
+      whole = process_pushed load c.loop-number.number image becomes _ _ _ _ read c.in_ok-start_process.ensures
+          c.in_ok-push.ensures.items c.loop-number.invariant.whole;
       count = search rules;
     }

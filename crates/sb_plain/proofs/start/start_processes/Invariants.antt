@@ -6,7 +6,8 @@ use Rattle.sb_plain.proofs.start.start_processes.Given as goal
 
 abbrev pub invariant-loop-number : goal.invariant-loop-number
 invariant-loop-number l = record {
-  whole : l.processes.items ++ map start_process (images_of (drop l.number l.loaded.bundle.images) (drop l.number l.loaded.rewritten))
+  whole : l.processes.items ++ map start_process
+      (images_of (drop l.number l.loaded.bundle.images) (drop l.number l.loaded.rewritten))
       ≡ map start_process (images_loaded l.loaded);
   count : length l.processes.items ≡ l.number;
 }

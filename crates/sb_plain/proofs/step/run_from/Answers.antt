@@ -2,14 +2,16 @@ use Rattle.std.proofs.Common.{ℕ, Ok, subst}
 use Rattle.sb_exec.specs.Fetching.{FetchesOn}
 use Rattle.sb_trace.specs.State.{State}
 use Rattle.sb_trace.specs.PlainMemory.{plain}
-use Rattle.sb_trace.specs.Flight.{switched}
+use Rattle.sb_trace.specs.Flight.{vmfunc_outcome}
 use Rattle.sb_trace.specs.Step.{Performs}
 use Rattle.sb_plain.proofs.step.run_from.Goals as goal
 
 pub returns-in-Ok-clause-ran : goal.returns-in-Ok-clause-ran
 returns-in-Ok-clause-ran c = (
   Ok c.in-Ok.insn,
-  subst (λ (thread : ℕ). FetchesOn (plain thread c.args.view) c.args.state.now c.args.regs.now.rip tt tt (Ok c.in-Ok.insn)) c.from.ensures c.in-Ok.ensures.fetched,
-  subst (λ (state : State). Performs switched state c.args.core c.args.view c.in-Ok.insn c.args.regs.now (c.execute_next.result, c.execute_next.new.state))
+  subst (λ (thread : ℕ). FetchesOn (plain thread c.args.view) c.args.state.now c.args.regs.now.rip tt tt (Ok c.in-Ok.insn))
+      c.from.ensures c.in-Ok.ensures.fetched,
+  subst (λ (state : State). Performs vmfunc_outcome state c.args.core c.args.view c.in-Ok.insn c.args.regs.now
+      (c.execute_next.result, c.execute_next.new.state))
       c.in-Ok.ensures.same c.execute_next.ensures.performed,
 )

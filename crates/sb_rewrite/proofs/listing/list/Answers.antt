@@ -9,7 +9,8 @@ loop-rest-init c = none_listed _ _ c.new-starts.ensures.items
 
 pub loop-rest-preserved : goal.loop-rest-preserved
 loop-rest-preserved c =
-    let items : c.push.new.self.items ≡ c.loop-rest.starts.items ++ (0x400000 + (length c.args.text.now - length c.loop-rest.rest.now)) ∷ [] = search rules in
+    let items : c.push.new.self.items
+    ≡ c.loop-rest.starts.items ++ (0x400000 + (length c.args.text.now - length c.loop-rest.rest.now)) ∷ [] = search rules in
     rw items (one_more _ _ _ _ _ c.loop-rest.invariant c.in-Ok.ensures.answer)
 
 pub returns-in-Err : goal.returns-in-Err

@@ -24,7 +24,8 @@ form-requires-clause-taken c =
 pub returns-in-Unmovable : goal.returns-in-Unmovable
 returns-in-Unmovable c =
     let front = c.in_ok-front.front in
-    let is : form_of front.insn front.at 0x1000 (is_after_0f c.args.text.now front.at) ≡ form.Unmovable = sym (rw c.is_after_0f-after_0f.ensures at c.in-Unmovable.ensures.table) in
+    let is : form_of front.insn front.at 0x1000 (is_after_0f c.args.text.now front.at) ≡ form.Unmovable =
+    sym (rw c.is_after_0f-after_0f.ensures at c.in-Unmovable.ensures.table) in
     first_unmovable _ _ _ 0x1000 c.loop-rest.invariant c.in_ok-front.ensures is
 
 pub loop-rest-preserved : goal.loop-rest-preserved

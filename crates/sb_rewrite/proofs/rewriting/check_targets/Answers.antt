@@ -15,7 +15,8 @@ returns-in_err-front c =
 
 pub returns-then-is_bad_target : goal.returns-then-is_bad_target
 returns-then-is_bad_target c =
-    bad_target_here _ _ _ _ c.loop-rest.invariant c.in_ok-front.ensures (rw c.direct_target.ensures at (c.is_bad_target.ensures.0 c.if-is_bad_target.true))
+    bad_target_here _ _ _ _ c.loop-rest.invariant c.in_ok-front.ensures
+    (rw c.direct_target.ensures at (c.is_bad_target.ensures.0 c.if-is_bad_target.true))
 
 pub loop-rest-preserved : goal.loop-rest-preserved
 loop-rest-preserved c =

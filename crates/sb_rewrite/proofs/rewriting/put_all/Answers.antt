@@ -19,7 +19,12 @@ returns-in_err-front c =
 pub returns-in_err-remember_jump : goal.returns-in_err-remember_jump
 returns-in_err-remember_jump c =
     let error = err_from_is_err_and c.from_residual-in_err-remember_jump.result c.from_residual-in_err-remember_jump.ensures.1 in
-    rw (error.1, error.2) (jump_refused _ _ _ _ c.remember_jump.new.jumps.items _ _ c.loop-rest.invariant c.in_ok-front.ensures c.requires c.in_err-remember_jump.ensures)
+    rw (
+      error.1,
+      error.2,
+    )
+    (jump_refused _ _ _ _ c.remember_jump.new.jumps.items _ _ c.loop-rest.invariant c.in_ok-front.ensures c.requires
+    c.in_err-remember_jump.ensures)
 
 pub put_front-requires-clause-form : goal.put_front-requires-clause-form
 put_front-requires-clause-form c =
@@ -29,7 +34,11 @@ put_front-requires-clause-form c =
 pub returns-in_err-put_front : goal.returns-in_err-put_front
 returns-in_err-put_front c =
     let error = err_from_is_err_and c.from_residual-in_err-put_front.result c.from_residual-in_err-put_front.ensures.1 in
-    rw (error.1, error.2) (put_refused _ _ _ c.put_front.new.draft _ _ _ c.loop-rest.invariant c.in_ok-front.ensures c.in_err-put_front.ensures)
+    rw (
+      error.1,
+      error.2,
+    )
+    (put_refused _ _ _ c.put_front.new.draft _ _ _ c.loop-rest.invariant c.in_ok-front.ensures c.in_err-put_front.ensures)
 
 pub loop-rest-preserved : goal.loop-rest-preserved
 loop-rest-preserved c =
@@ -44,8 +53,12 @@ check_jumps-requires c =
 pub returns-in_err-check_jumps : goal.returns-in_err-check_jumps
 returns-in_err-check_jumps c =
     let none : length c.loop-rest.rest.now ≡ 0 = search rules in
-    let checks = subst (λ jumps. ChecksJumps jumps c.starts.result.now (Err c.in_err-check_jumps.field-0.0)) c.deref.ensures.value c.in_err-check_jumps.ensures in
-    let checks_starts = subst (λ starts. ChecksJumps c.loop-rest.jumps.items starts (Err c.in_err-check_jumps.field-0.0)) c.starts.ensures checks in
+    let checks =
+    subst (λ jumps. ChecksJumps jumps c.starts.result.now (Err c.in_err-check_jumps.field-0.0)) c.deref.ensures.value
+    c.in_err-check_jumps.ensures in
+    let checks_starts =
+    subst (λ starts. ChecksJumps c.loop-rest.jumps.items starts (Err c.in_err-check_jumps.field-0.0)) c.starts.ensures
+    checks in
     let error = err_from_is_err_and c.from_residual-in_err-check_jumps.result c.from_residual-in_err-check_jumps.ensures.1 in
     rw (error.1, error.2) (check_refused _ _ _ _ _ c.loop-rest.invariant none checks_starts)
 

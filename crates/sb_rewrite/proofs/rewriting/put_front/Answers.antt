@@ -16,5 +16,8 @@ returns-else-contains c =
     let none : list_any (λ one. one == 0xD4) front.bytes.now ≡ false = sym c.contains.ensures.value ∙ c.if-contains.false in
     let is_kept = kept front.insn front.at (area_address + length draft.area) (is_after_0f c.args.text.now front.at)
     (subst (λ (bytes : List ℕ). list_any (λ one. one == 0xD4) bytes ≡ false) c.requires.front.bytes none) in
-    let puts = subst (λ (old : Output). Puts old c.keep.new.self (next_place old front.insn front.at keep) c.keep.result) c.in_ok-start.ensures c.keep.ensures in
-    subst (λ (form : Form). Puts (with_start draft front.at) c.keep.new.self (next_place draft front.insn front.at form) c.keep.result) (sym is_kept) puts
+    let puts =
+    subst (λ (old : Output). Puts old c.keep.new.self (next_place old front.insn front.at keep) c.keep.result)
+    c.in_ok-start.ensures c.keep.ensures in
+    subst (λ (form : Form). Puts (with_start draft front.at) c.keep.new.self
+    (next_place draft front.insn front.at form) c.keep.result) (sym is_kept) puts

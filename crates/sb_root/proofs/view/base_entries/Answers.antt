@@ -8,10 +8,12 @@ pub loop-page-preserved : goal.loop-page-preserved
 loop-page-preserved c =
     let size = c.loop-page.invariant.0 in (
       length-set c.loop-page.entries c.loop-page.page c.base_entry.result ∙ size,
-      tabled_more c.loop-page.entries c.loop-page.page c.base_entry.result base_entries (omega arith) c.base_entry.ensures c.loop-page.invariant.1,
+      tabled_more c.loop-page.entries c.loop-page.page c.base_entry.result base_entries
+          (omega arith) c.base_entry.ensures c.loop-page.invariant.1,
     )
 
 pub returns : goal.returns
 returns c =
     let size = c.loop-page.invariant.0 in
-    tabled_all c.loop-page.entries base_entries (λ page below. c.loop-page.invariant.1 page (omega arith)) (λ page beyond. base_beyond page (omega arith))
+    tabled_all c.loop-page.entries base_entries (λ page below. c.loop-page.invariant.1 page (omega arith))
+    (λ page beyond. base_beyond page (omega arith))

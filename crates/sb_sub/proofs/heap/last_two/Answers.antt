@@ -3,7 +3,8 @@ use Rattle.std.proofs.lemmas.List.{take_all, drop_min, length-drop}
 use Rattle.sb_sub.proofs.heap.last_two.Goals as goal
 
 -- what is left behind a place, which is no further than the end
-behind : (place : ℕ) (bytes : List ℕ) → take (length bytes - min place (length bytes)) (drop (min place (length bytes)) bytes) ≡ drop place bytes
+behind : (place : ℕ) (bytes : List ℕ)
+    → take (length bytes - min place (length bytes)) (drop (min place (length bytes)) bytes) ≡ drop place bytes
 behind place bytes =
     let start = min place (length bytes) in
     let size = length-drop start bytes in

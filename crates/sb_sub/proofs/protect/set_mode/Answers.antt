@@ -11,7 +11,9 @@ set_page-requires-clause-window c = rw c.heap_address.ensures (window_at c.args.
 
 pub expose-requires-clause-stands : goal.expose-requires-clause-stands
 expose-requires-clause-stands c =
-    let apart = subst (λ (entry : Entry). IsApart c.args.root.now (table_frame entry.set 7 ∷ [])) (sym c.process.view_is) c.requires.apart in
+    let apart =
+    subst (λ (entry : Entry). IsApart c.args.root.now (table_frame entry.set 7 ∷ []))
+    (sym c.process.view_is) c.requires.apart in
     let written = rw (c.heap_address.ensures, c.page_frame-frame.ensures.same) at c.set_page.ensures.entry in
     stands_kept c.args.root.now _ c.args.memory.now c.set_page.new.memory c.requires.stands
     (table_word _ c.args.memory.now c.set_page.new.memory c.args.page _ _ c.requires.page c.requires.finds.few written) apart

@@ -15,9 +15,13 @@ returns-then-top-ne0-clause-held c = λ offset below.
     rw (written, test) (held_topped c.args.memory.now c.args.frame.0 c.requires.inside c.requires.size c.args.top offset below)
 
 pub returns-else-top-ne0-clause-same : goal.returns-else-top-ne0-clause-same
-returns-else-top-ne0-clause-same c = rw c.clear_frame.ensures.written (same_cleared c.args.memory.now c.args.frame.0 c.requires.inside c.requires.size)
+returns-else-top-ne0-clause-same c =
+    rw c.clear_frame.ensures.written (same_cleared c.args.memory.now c.args.frame.0 c.requires.inside c.requires.size)
 
 pub returns-else-top-ne0-clause-held : goal.returns-else-top-ne0-clause-held
 returns-else-top-ne0-clause-held c = λ offset below.
     let test : (c.args.top == 0) ≡ true = grind (arith, common_steps) in
-    rw (c.clear_frame.ensures.written, test) (held_cleared c.args.memory.now c.args.frame.0 c.requires.inside c.requires.size offset below)
+    rw (
+      c.clear_frame.ensures.written,
+      test,
+    ) (held_cleared c.args.memory.now c.args.frame.0 c.requires.inside c.requires.size offset below)

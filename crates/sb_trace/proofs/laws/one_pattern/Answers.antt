@@ -6,4 +6,5 @@ pub returns-clause-only : goal.returns-clause-only
 returns-clause-only c = λ state sound thread view address stands. one_pattern state thread view address sound.pages stands
 
 pub returns-clause-there : goal.returns-clause-there
-returns-clause-there c = λ state thread view process address sound shows at. switch_stands state thread view process address sound.pages shows at
+returns-clause-there c =
+    λ state thread view process address sound shows at. switch_stands state thread view process address sound.pages shows at

@@ -14,7 +14,9 @@ step-requires c =
 pub loop-core-preserved : goal.loop-core-preserved
 loop-core-preserved c =
     record {
-      run = rw c.in_ok-push.ensures.items (run_more State Steps _ _ _ _ _ _ c.step.result (search rules) c.step.ensures.core c.loop-core.invariant.run
-          (subst (λ (core : ℕ). Steps c.loop-core.plain core c.step.result.event c.step.new.self) (sym c.step.ensures.core) c.step.ensures.step));
+      run = rw c.in_ok-push.ensures.items
+          (run_more State Steps _ _ _ _ _ _ c.step.result (search rules) c.step.ensures.core c.loop-core.invariant.run
+          (subst (λ (core : ℕ). Steps c.loop-core.plain core c.step.result.event c.step.new.self)
+          (sym c.step.ensures.core) c.step.ensures.step));
       count = c.step.ensures.count ∙ c.loop-core.invariant.count;
     }

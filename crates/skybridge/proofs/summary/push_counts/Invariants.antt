@@ -4,4 +4,5 @@ use Rattle.skybridge.specs.Summary.{count_line}
 use Rattle.skybridge.proofs.summary.push_counts.Given as goal
 
 abbrev pub invariant-loop-kind : goal.invariant-loop-kind
-invariant-loop-kind l = string_bytes l.out ≡ string_bytes l.initial.out ++ flat_map (count_line l.lines) (take l.kind-index l.kinds)
+invariant-loop-kind l =
+    string_bytes l.out ≡ string_bytes l.initial.out ++ flat_map (count_line l.lines) (take l.kind-index l.kinds)

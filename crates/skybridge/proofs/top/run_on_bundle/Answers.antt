@@ -12,23 +12,28 @@ returns-in-Ok-output_of-clause-not_loadable g c told quiet =
 
 pub returns-in-Err-Bundle-clause-not_loadable : goal.returns-in-Err-Bundle-clause-not_loadable
 returns-in-Err-Bundle-clause-not_loadable g c told quiet =
-    absurd (unread_spelled c.args.command _ _ _ _ _ _ c.in-Ok.ensures.read c.deref.ensures.value c.in-Err-Bundle.field-0-is c.in-Err-Bundle.ensures told)
+    absurd (unread_spelled c.args.command _ _ _ _ _ _ c.in-Ok.ensures.read c.deref.ensures.value c.in-Err-Bundle.field-0-is
+    c.in-Err-Bundle.ensures told)
 
 pub returns-in-Err-Bundle-clause-complete : goal.returns-in-Err-Bundle-clause-complete
 returns-in-Err-Bundle-clause-complete g c told quiet silent =
-    absurd (unread_accepted c.args.command _ _ _ _ _ _ c.in-Ok.ensures.read c.deref.ensures.value c.in-Err-Bundle.field-0-is c.in-Err-Bundle.ensures told)
+    absurd (unread_accepted c.args.command _ _ _ _ _ _ c.in-Ok.ensures.read c.deref.ensures.value c.in-Err-Bundle.field-0-is
+    c.in-Err-Bundle.ensures told)
 
 pub returns-in-Err-Load-clause-no_bundle : goal.returns-in-Err-Load-clause-no_bundle
 returns-in-Err-Load-clause-no_bundle g c told quiet =
-    absurd (unloaded_spelled c.args.command _ _ _ _ _ _ c.in-Ok.ensures.read c.deref.ensures.value c.in-Err-Load.field-0-is c.in-Err-Load.ensures told)
+    absurd (unloaded_spelled c.args.command _ _ _ _ _ _ c.in-Ok.ensures.read c.deref.ensures.value c.in-Err-Load.field-0-is
+    c.in-Err-Load.ensures told)
 
 pub returns-in-Err-Load-clause-load_refused : goal.returns-in-Err-Load-clause-load_refused
 returns-in-Err-Load-clause-load_refused g c refused = (
   c.in-Err-Load.why,
-  unloaded_told c.args.command _ _ _ _ _ _ c.in-Ok.ensures.read c.deref.ensures.value c.in-Ok.ensures.within c.in-Err-Load.field-0-is c.in-Err-Load.ensures,
+  unloaded_told c.args.command _ _ _ _ _ _ c.in-Ok.ensures.read c.deref.ensures.value c.in-Ok.ensures.within
+      c.in-Err-Load.field-0-is c.in-Err-Load.ensures,
   line_of_refusal _ _ _ _ _ _ c.load_line.result c.load_line.ensures c.refuse_by-in-Err-Load.ensures.written refused,
 )
 
 pub returns-in-Err-Load-clause-complete : goal.returns-in-Err-Load-clause-complete
 returns-in-Err-Load-clause-complete g c told quiet silent =
-    absurd (unloaded_accepted c.args.command _ _ _ _ _ _ c.in-Ok.ensures.read c.deref.ensures.value c.in-Err-Load.field-0-is c.in-Err-Load.ensures told)
+    absurd (unloaded_accepted c.args.command _ _ _ _ _ _ c.in-Ok.ensures.read c.deref.ensures.value c.in-Err-Load.field-0-is
+    c.in-Err-Load.ensures told)

@@ -11,7 +11,8 @@ returns-in-Ok-clause-some c =
 
 pub returns-in_default-clause-none : goal.returns-in_default-clause-none
 returns-in_default-clause-none c = λ number small is.
-    false≢true (sym c.if-is_plain.false ∙ c.is_plain.ensures ∙ number_plain c.as_bytes.result.now number small (c.as_bytes.ensures.value ∙ is))
+    false≢true (sym c.if-is_plain.false ∙ c.is_plain.ensures
+    ∙ number_plain c.as_bytes.result.now number small (c.as_bytes.ensures.value ∙ is))
 
 pub returns-in_default-2-clause-none : goal.returns-in_default-2-clause-none
 returns-in_default-2-clause-none c = λ number small is.

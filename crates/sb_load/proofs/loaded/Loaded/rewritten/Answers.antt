@@ -15,23 +15,27 @@ pub returns-clause-same : goal.returns-clause-same
 returns-clause-same c =
     let load : Load = record { bundle = c.self.inside.bundle; rewritten = c.self.inside.rewritten } in
     let within : c.args.process < length load.bundle.images = rw (← c.self.view_is) at c.requires in
-    is_of load c.args.process c.index-items-process.result within c.self.invariant.0 (rw c.items.ensures at c.index-items-process.is)
+    is_of load c.args.process c.index-items-process.result within c.self.invariant.0
+    (rw c.items.ensures at c.index-items-process.is)
     ∙ ap (λ (one : Load). rewritten_of one.rewritten c.args.process) c.self.view_is
 
 pub returns-clause-text : goal.returns-clause-text
 returns-clause-text c =
     let load : Load = record { bundle = c.self.inside.bundle; rewritten = c.self.inside.rewritten } in
     let within : c.args.process < length load.bundle.images = rw (← c.self.view_is) at c.requires in
-    (known load c.args.process c.index-items-process.result within c.self.invariant.0 (rw c.items.ensures at c.index-items-process.is)).text
+    (known load c.args.process c.index-items-process.result within c.self.invariant.0
+    (rw c.items.ensures at c.index-items-process.is)).text
 
 pub returns-clause-area : goal.returns-clause-area
 returns-clause-area c =
     let load : Load = record { bundle = c.self.inside.bundle; rewritten = c.self.inside.rewritten } in
     let within : c.args.process < length load.bundle.images = rw (← c.self.view_is) at c.requires in
-    (known load c.args.process c.index-items-process.result within c.self.invariant.0 (rw c.items.ensures at c.index-items-process.is)).area
+    (known load c.args.process c.index-items-process.result within c.self.invariant.0
+    (rw c.items.ensures at c.index-items-process.is)).area
 
 pub returns-clause-starts : goal.returns-clause-starts
 returns-clause-starts c =
     let load : Load = record { bundle = c.self.inside.bundle; rewritten = c.self.inside.rewritten } in
     let within : c.args.process < length load.bundle.images = rw (← c.self.view_is) at c.requires in
-    (known load c.args.process c.index-items-process.result within c.self.invariant.0 (rw c.items.ensures at c.index-items-process.is)).starts
+    (known load c.args.process c.index-items-process.result within c.self.invariant.0
+    (rw c.items.ensures at c.index-items-process.is)).starts

@@ -8,5 +8,6 @@ put_words-requires-clause-size c =
 
 pub invariant_of-self : goal.invariant_of-self
 invariant_of-self c =
-    rw c.attach.ensures.room (sound_added _ _ _ _ _ _ _ _ _ _ _ _ _ c.self.invariant c.take_last-bytes.ensures.items c.attach.ensures.pages
+    rw c.attach.ensures.room
+    (sound_added _ _ _ _ _ _ _ _ _ _ _ _ _ c.self.invariant c.take_last-bytes.ensures.items c.attach.ensures.pages
     c.put_words.ensures.size c.attach.ensures.index c.attach.ensures.known c.attach.ensures.spare)

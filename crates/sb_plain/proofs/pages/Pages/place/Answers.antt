@@ -12,7 +12,8 @@ returns-in-Some-clause-within c =
     let items : List Page = c.self.inside.pages.items in
     let same : items ≡ c.args.self.now.pages = ap (λ (store : Store). store.pages) c.self.view_is in
     let there : Contains c.self.inside.known.items (Some (known_at c.args.name c.in-Some.place)) = search rules in
-    let is : place_of items c.args.name ≡ Some c.in-Some.place = known_place items c.self.inside.known.items c.args.name c.in-Some.place c.self.invariant.known there in
+    let is : place_of items c.args.name ≡ Some c.in-Some.place =
+    known_place items c.self.inside.known.items c.args.name c.in-Some.place c.self.invariant.known there in
     rw (← same) (place_below items c.args.name c.in-Some.place is)
 
 pub returns-in-None-clause-within : goal.returns-in-None-clause-within

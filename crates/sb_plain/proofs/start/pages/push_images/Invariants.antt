@@ -6,5 +6,6 @@ use Rattle.sb_plain.proofs.start.pages.push_images.Given as goal
 
 abbrev pub invariant-loop-process : goal.invariant-loop-process
 invariant-loop-process l =
-    l.pages.pages ++ images_pages l.process (images_of (drop l.process l.loaded.bundle.images) (drop l.process l.loaded.rewritten))
+    l.pages.pages ++ images_pages l.process
+    (images_of (drop l.process l.loaded.bundle.images) (drop l.process l.loaded.rewritten))
     ≡ l.initial.pages.pages ++ images_pages 0 (images_loaded l.loaded)

@@ -1,5 +1,5 @@
 use Rattle.std.proofs.Common.{◌<◌, ◌++◌, ◌∷◌, [], List, ℕ, length, ap, ◌∙◌, rules}
-use Rattle.sb_trace.specs.Start.{filled_page, named, page_of, page_count}
+use Rattle.sb_trace.specs.Start.{padded_page, page_with, page_of, page_count}
 use Rattle.sb_plain.specs.Start.{part_name, part_filler}
 use Rattle.sb_plain.proofs.Starting.{pages_more}
 use Rattle.sb_plain.proofs.start.pages.push_part.Goals as goal
@@ -9,6 +9,7 @@ loop-page-preserved c =
     let contents = c.args.contents.now in
     let below : c.loop-page.page < page_count (length contents) = search rules in
     let bytes = c.in_ok-bytes.ensures.bytes ∙ ap (λ (filler : ℕ). page_of filler contents c.loop-page.page) c.filler.ensures in
-    pages_more (filled_page (part_name c.args.part c.args.process) (part_filler c.args.part) contents) c.loop-page.page (page_count (length contents)) c.loop-page.pages.pages _ _ below
-    (c.in_ok-push_named.ensures ∙ (λ i. c.loop-page.pages.pages ++ named (c.page.ensures i) (bytes i) ∷ []))
+    pages_more (padded_page (part_name c.args.part c.args.process) (part_filler c.args.part) contents) c.loop-page.page
+    (page_count (length contents)) c.loop-page.pages.pages _ _ below
+    (c.in_ok-push_named.ensures ∙ (λ i. c.loop-page.pages.pages ++ page_with (c.page.ensures i) (bytes i) ∷ []))
     c.loop-page.invariant

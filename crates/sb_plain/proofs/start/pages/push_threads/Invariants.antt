@@ -6,4 +6,5 @@ use Rattle.sb_plain.proofs.start.pages.push_threads.Given as goal
 
 abbrev pub invariant-loop-thread : goal.invariant-loop-thread
 invariant-loop-thread l =
-    l.pages.pages ++ threads_pages l.thread (map entry_of (drop l.thread l.cores)) ≡ l.initial.pages.pages ++ threads_pages 0 (map entry_of l.cores)
+    l.pages.pages ++ threads_pages l.thread (map entry_of (drop l.thread l.cores))
+    ≡ l.initial.pages.pages ++ threads_pages 0 (map entry_of l.cores)

@@ -4,4 +4,5 @@ use Rattle.sb_plain.proofs.state.Plain.new.Goals as goal
 
 pub returns : goal.returns
 returns c =
-    machine_started c.args.loaded.now _ _ _ _ _ _ (search rules) (search rules) (search rules) (search rules) (search rules) (search rules)
+    machine_started c.args.loaded.now _ _ _ _ _ _ (search rules) (search rules) (search rules) (search rules) (search rules)
+    (search rules)

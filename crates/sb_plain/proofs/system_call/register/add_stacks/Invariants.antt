@@ -6,6 +6,7 @@ use Rattle.sb_plain.proofs.system_call.register.add_stacks.Given as goal
 
 abbrev pub invariant-loop-page : goal.invariant-loop-page
 invariant-loop-page l = record {
-  pages : l.pages.pages ++ pages_from (server_stack_page l.process) l.page (l.count - l.page) ≡ l.initial.pages.pages ++ pages_from (server_stack_page l.process) 0 l.count;
+  pages : l.pages.pages ++ pages_from (server_stack_page l.process) l.page (l.count - l.page)
+      ≡ l.initial.pages.pages ++ pages_from (server_stack_page l.process) 0 l.count;
   room : l.pages.room + l.page ≡ l.initial.pages.room;
 }

@@ -3,9 +3,13 @@ use Rattle.sb_root.specs.Root.{with_list}
 use Rattle.sb_root.proofs.AddingList.{ListAdded, list_added}
 use Rattle.sb_root.proofs.root_kernel.RootKernel.add_list.Goals as goal
 
-done : (c : goal.After-way_told-1) → ListAdded c.args.self.now (with_list c.args.self.now c.from.result c.take_free-frame.result) c.args.book.now c.take_free-frame.new.self c.args.memory.now c.clear_frame.new.self c.args.thread c.take_free-frame.result
+done : (c : goal.After-way_told-1)
+    → ListAdded c.args.self.now (with_list c.args.self.now c.from.result c.take_free-frame.result) c.args.book.now
+    c.take_free-frame.new.self c.args.memory.now c.clear_frame.new.self c.args.thread c.take_free-frame.result
 done c =
-    list_added _ _ _ _ _ _ _ _ c.requires.stands c.requires.booked c.requires.thread c.requires.none c.take_free-frame.ensures.lowest (rw c.from-owner.ensures at c.take_free-frame.ensures.taken) c.clear_frame.ensures.written
+    list_added _ _ _ _ _ _ _ _ c.requires.stands c.requires.booked c.requires.thread c.requires.none
+    c.take_free-frame.ensures.lowest
+    (rw c.from-owner.ensures at c.take_free-frame.ensures.taken) c.clear_frame.ensures.written
     (ap (λ (thread : ℕ). with_list c.args.self.now thread c.take_free-frame.result) c.from.ensures)
 
 pub returns-clause-added : goal.returns-clause-added

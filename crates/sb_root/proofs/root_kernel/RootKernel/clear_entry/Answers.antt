@@ -1,16 +1,17 @@
 use Rattle.std.proofs.Common.{◌≡◌, ◌<◌}
 use Rattle.std.specs.Prelude.{Some}
 use Rattle.sb_memory.specs.declared.address.Frame.{Frame}
-use Rattle.sb_root.specs.Root.{list_of, view_of, ListOf}
+use Rattle.sb_root.specs.Root.{eptp_list_frame, view_of, ListOf}
 use Rattle.sb_root.proofs.AddingView.{list_found}
 use Rattle.sb_root.proofs.ClearingEntry.{set_few, stands_without, booked_without, views_without}
 use Rattle.sb_root.proofs.Uses.{used_list}
 use Rattle.sb_root.proofs.root_kernel.RootKernel.clear_entry.Goals as goal
 
 pub put_view-requires-clause-inside : goal.put_view-requires-clause-inside
-put_view-requires-clause-inside c = λ list is. (c.requires.stands.inside (ListOf c.args.thread) list.0 (used_list c.args.self.now c.args.thread list is)).1
+put_view-requires-clause-inside c =
+    λ list is. (c.requires.stands.inside (ListOf c.args.thread) list.0 (used_list c.args.self.now c.args.thread list is)).1
 
-list : (c : goal.After-put_view) → (list : Frame) × (list_of c.args.self.now c.args.thread ≡ Some list)
+list : (c : goal.After-put_view) → (list : Frame) × (eptp_list_frame c.args.self.now c.args.thread ≡ Some list)
 list c = list_found _ c.requires.list
 
 few : (c : goal.After-put_view) → c.args.index < 16
@@ -23,16 +24,26 @@ pub returns-in-Some-clause-stands : goal.returns-in-Some-clause-stands
 returns-in-Some-clause-stands c =
     let list = list c in
     let entry = c.put_view.ensures.entry list.0 list.1 in
-    rw (c.put_view.ensures.root, entry) (stands_without c.args.self.now c.args.memory.now c.args.thread c.args.index list.0 c.in-Some.view c.requires.stands c.requires.thread (few c) list.1 (kept c))
+    rw (
+      c.put_view.ensures.root,
+      entry,
+    ) (stands_without c.args.self.now c.args.memory.now c.args.thread c.args.index list.0 c.in-Some.view
+    c.requires.stands c.requires.thread (few c) list.1 (kept c))
 
 pub returns-in-Some-clause-booked : goal.returns-in-Some-clause-booked
 returns-in-Some-clause-booked c =
     let list = list c in
     let entry = c.put_view.ensures.entry list.0 list.1 in
-    rw (c.put_view.ensures.root, entry) (booked_without c.args.self.now c.args.memory.now c.args.thread c.args.index list.0 c.in-Some.view c.requires.stands c.requires.thread (few c) list.1 (kept c))
+    rw (
+      c.put_view.ensures.root,
+      entry,
+    ) (booked_without c.args.self.now c.args.memory.now c.args.thread c.args.index list.0 c.in-Some.view
+    c.requires.stands c.requires.thread (few c) list.1 (kept c))
 
 pub returns-in-Some-clause-views : goal.returns-in-Some-clause-views
 returns-in-Some-clause-views c =
     let list = list c in
     let entry = c.put_view.ensures.entry list.0 list.1 in
-    rw entry (views_without c.args.self.now c.args.memory.now c.args.thread c.args.index list.0 c.in-Some.view c.requires.stands c.requires.thread (few c) list.1 (kept c))
+    rw entry
+    (views_without c.args.self.now c.args.memory.now c.args.thread c.args.index list.0 c.in-Some.view c.requires.stands
+    c.requires.thread (few c) list.1 (kept c))

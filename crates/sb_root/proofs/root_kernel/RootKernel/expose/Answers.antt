@@ -5,15 +5,20 @@ use Rattle.sb_root.specs.Answers.{Exposes}
 use Rattle.sb_root.proofs.Exposing.{exposed, stands_exposed, exposes}
 use Rattle.sb_root.proofs.root_kernel.RootKernel.expose.Goals as goal
 
-written : (c : goal.After-set_word) → c.set_word.new.self ≡ exposed c.args.self.now c.args.memory.now c.args.frame.0 c.args.rights c.requires.stands c.requires.from c.requires.inside c.requires.rights
+written : (c : goal.After-set_word)
+    → c.set_word.new.self
+    ≡ exposed c.args.self.now c.args.memory.now c.args.frame.0 c.args.rights c.requires.stands c.requires.from
+    c.requires.inside c.requires.rights
 written c = rw (c.word.ensures, c.region_table-table.ensures, c.from.ensures, c.leaf.ensures) at c.set_word.ensures.written
 
 pub returns-clause-stands : goal.returns-clause-stands
 returns-clause-stands c =
     subst (Stands c.args.self.now) (sym (written c))
-    (stands_exposed c.args.self.now c.args.memory.now c.args.frame.0 c.args.rights c.requires.stands c.requires.from c.requires.inside c.requires.rights)
+    (stands_exposed c.args.self.now c.args.memory.now c.args.frame.0 c.args.rights c.requires.stands c.requires.from
+    c.requires.inside c.requires.rights)
 
 pub returns-clause-exposes : goal.returns-clause-exposes
 returns-clause-exposes c =
     subst (λ (new : Physical). Exposes c.args.self.now c.args.memory.now new c.args.frame.0 c.args.rights) (sym (written c))
-    (exposes c.args.self.now c.args.memory.now c.args.frame.0 c.args.rights c.requires.stands c.requires.from c.requires.inside c.requires.rights)
+    (exposes c.args.self.now c.args.memory.now c.args.frame.0 c.args.rights c.requires.stands c.requires.from c.requires.inside
+    c.requires.rights)

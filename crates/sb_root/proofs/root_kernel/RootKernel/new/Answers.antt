@@ -4,7 +4,8 @@ use Rattle.sb_root.proofs.root_kernel.RootKernel.new.Goals as goal
 
 finished : (c : goal.After-has_all_frames) → IsBuilt c.args.memory.now c.clear_shared.new.memory
 finished c =
-    built c.args.memory.now c.put_upper.new.memory c.put_page.new.memory c.clear_shared.new.memory c.base_entries.result c.requires.least c.requires.most
+    built c.args.memory.now c.put_upper.new.memory c.put_page.new.memory c.clear_shared.new.memory c.base_entries.result
+    c.requires.least c.requires.most
     c.put_upper.ensures.root c.put_upper.ensures.pointers c.put_upper.ensures.directory c.put_upper.ensures.same
     c.base_entries.ensures c.put_page.ensures.page c.put_page.ensures.same
     c.clear_shared.ensures.zeros c.clear_shared.ensures.size c.clear_shared.ensures.same c.has_all_frames.ensures

@@ -4,7 +4,7 @@ use Rattle.sb_memory.proofs.Changes.{same_outside_then}
 use Rattle.sb_root.proofs.Frames.{not_one, same_within_one}
 use Rattle.sb_root.proofs.LowPages.{upper_page}
 use Rattle.sb_root.proofs.Stays.{page_stays, stays_outside}
-use Rattle.sb_root.proofs.tables.EptTables.put_upper.Goals as goal
+use Rattle.sb_root.proofs.tables.ViewTables.put_upper.Goals as goal
 
 pub returns-clause-root : goal.returns-clause-root
 returns-clause-root c =

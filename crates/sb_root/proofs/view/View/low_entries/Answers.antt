@@ -8,7 +8,8 @@ pub loop-page-preserved : goal.loop-page-preserved
 loop-page-preserved c =
     let size = c.loop-page.invariant.0 in (
       length-set c.loop-page.entries c.loop-page.page c.low_entry.result ∙ size,
-      tabled_more c.loop-page.entries c.loop-page.page c.low_entry.result (view_entries c.args.self.now) (omega arith) c.low_entry.ensures c.loop-page.invariant.1,
+      tabled_more c.loop-page.entries c.loop-page.page c.low_entry.result (view_entries c.args.self.now)
+          (omega arith) c.low_entry.ensures c.loop-page.invariant.1,
     )
 
 pub returns : goal.returns

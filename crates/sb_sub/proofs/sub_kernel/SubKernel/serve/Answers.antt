@@ -8,7 +8,8 @@ use Rattle.sb_sub.proofs.sub_kernel.SubKernel.serve.Goals as goal
 
 pub returns-in-1-clause-served : goal.returns-in-1-clause-served
 returns-in-1-clause-served c = λ state stands view.
-    subst (Serves c.args.self.now c.args.root.now c.args.book.now c.args.memory.now c.args.thread (Printed (rdi c.args.regs.now)) c.go_on.new.regs)
+    subst (Serves c.args.self.now c.args.root.now c.args.book.now c.args.memory.now c.args.thread
+    (Printed (rdi c.args.regs.now)) c.go_on.new.regs)
     (sym (called_print state c.args.thread (entered c.args.regs.now) (rax_entered c.args.regs.now ∙ c.in-1.is)))
     (goes_on _ _ _ _ state c.args.thread (entered c.args.regs.now) c.go_on.new.regs 0 0 stands c.requires.thread c.go_on.ensures
     (Printed (rdi c.args.regs.now)) _ (ap event.Printed (sym (rdi_entered c.args.regs.now))))
@@ -20,7 +21,8 @@ returns-in-4-clause-served c = λ state stands view.
     ∙ shown_same c.args.self.now c.args.root.now c.args.book.now c.args.memory.now state c.args.thread c.args.view stands view in
     let now = rw c.answer_of-answer.ensures at c.go_on-in-4.ensures in
     rw (c.protect_page-refusal.ensures.root, c.answer_of-answer.ensures)
-    (protect_served c.protect_page-refusal.result c.args.self.now c.args.root.now c.args.book.now c.protect_page-refusal.new.memory state c.args.thread
+    (protect_served c.protect_page-refusal.result c.args.self.now c.args.root.now c.args.book.now
+    c.protect_page-refusal.new.memory state c.args.thread
     c.args.regs.now c.go_on-in-4.new.regs c.shown-process.result by c.requires.thread shows c.in-4.is now)
 
 pub returns-in_default-clause-served : goal.returns-in_default-clause-served
@@ -31,7 +33,8 @@ returns-in_default-clause-served c = λ state stands view.
     let fourth : rax c.args.regs.now ≢ 4 = search rules in
     let now = rw c.number-answer.ensures at c.go_on-in_default.ensures in
     rw c.number-answer.ensures
-    (subst (Serves c.args.self.now c.args.root.now c.args.book.now c.args.memory.now c.args.thread (Back (rax c.args.regs.now) 21) c.go_on-in_default.new.regs)
+    (subst (Serves c.args.self.now c.args.root.now c.args.book.now c.args.memory.now c.args.thread
+    (Back (rax c.args.regs.now) 21) c.go_on-in_default.new.regs)
     (sym (called_none state c.args.thread (entered c.args.regs.now) (λ is. zeroth (sym same ∙ is)) (λ is. first (sym same ∙ is))
     (λ is. c.requires.built.0 (sym same ∙ is)) (λ is. c.requires.built.1 (sym same ∙ is)) (λ is. fourth (sym same ∙ is))))
     (goes_on _ _ _ _ state c.args.thread (entered c.args.regs.now) c.go_on-in_default.new.regs 21 0 stands c.requires.thread
@@ -39,5 +42,6 @@ returns-in_default-clause-served c = λ state stands view.
 
 pub returns-in-0-clause-served : goal.returns-in-0-clause-served
 returns-in-0-clause-served c = λ state stands view.
-    rw c.exit.ensures.answer (exit_served c.args.self.now c.args.root.now c.args.book.now c.args.memory.now state c.args.thread c.args.regs.now
+    rw c.exit.ensures.answer
+    (exit_served c.args.self.now c.args.root.now c.args.book.now c.args.memory.now state c.args.thread c.args.regs.now
     c.exit.new.regs stands c.requires.thread c.args.view view c.in-0.is c.exit.ensures.regs)
