@@ -6,3 +6,4 @@ pub mod Windows
 pub mod PlainMemory
 pub mod Registers
 pub mod Pattern
+pub mod Start
