@@ -19,31 +19,20 @@
 //! ```
 #![tactic(auto)]
 
-mod bus;
 mod call;
 mod end;
 mod flight;
 mod home;
 mod instruction;
-mod load;
-mod page_words;
-mod pages;
-mod pattern;
+mod plain;
 mod pool;
-mod process;
-mod reach;
 mod registers;
 #[cfg(test)]
 mod samples;
 mod start;
-mod state;
 mod step;
-mod store;
 mod system_call;
 #[cfg(test)]
 mod tests;
-mod thread;
-mod windows;
 
-pub use pages::Pages;
-pub use state::Plain;
+pub use plain::Plain;

@@ -2,14 +2,12 @@
 
 ghost use Rattle.std.specs.Prelude.{◌≡◌, IfOk, length};
 
-use crate::bus::PlainBus;
 use crate::instruction::{fetch_next, perform};
-use crate::{Pages, Plain};
 use sb_exec::{Bus, BusStop, Effect, FaultKind};
 use sb_insn::{Flags, Op, Regs};
 use sb_list::Listed;
 use sb_memory::Linear;
-use sb_trace::{Bindings, EndKind, Page, PageName, Thread};
+use sb_state::{Bindings, EndKind, Page, PageName, Pages, PlainBus, PlainState, Thread};
 use sb_tramp::KeyWords;
 use std::alloc::Global;
 use std::test::Fail;
@@ -58,7 +56,7 @@ fn thread(home: u32) -> Thread {
 }
 
 /// Two processes with a page of data each: threads 0 and 1 are at home in the first, thread 2 in the second.
-fn state(alloc: Global) -> Result<Plain, Fail> {
+fn state(alloc: Global) -> Result<PlainState, Fail> {
     let mut pages = Pages::new(alloc);
     pages.push(page(alloc, PageName::Text(0, 0), &[0x31, 0xC0], 0xCC)?)?;
     pages.push(page(alloc, PageName::Data(0, 0), &[], 0)?)?;
@@ -70,7 +68,7 @@ fn state(alloc: Global) -> Result<Plain, Fail> {
     threads.push(thread(0))?;
     threads.push(thread(0))?;
     threads.push(thread(1))?;
-    Ok(Plain {
+    Ok(PlainState {
         pages,
         processes: Vec::new(alloc),
         threads,

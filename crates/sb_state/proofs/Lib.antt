@@ -1,5 +1,16 @@
 pub mod Cases
 pub mod Names
-pub mod Pages
+pub mod PageLists
+pub mod Modes
+pub mod EqualNames
+pub mod Places
+pub mod Known
+pub mod Listed
+pub mod Reached
+pub mod InPage
+pub mod Spots
+pub mod WordBytes
+pub mod WholeWord
+pub mod Writing
 pub mod Pattern
 pub mod Threads

@@ -14,12 +14,30 @@
 //! ```
 #![tactic(auto)]
 
+mod address_space;
 mod bindings;
+mod bus;
 mod end_kind;
+mod heap_pattern;
 mod page;
+mod page_words;
+mod pages;
+mod plain_state;
+mod process;
+mod read;
 mod state;
+mod thread;
+mod translate;
+mod write;
 
+pub use address_space::process_now;
 pub use bindings::{Bindings, MAX_BINDINGS};
+pub use bus::PlainBus;
 pub use end_kind::EndKind;
 pub use page::{Mode, Page, PageBytes, PageName, Seen};
+pub use page_words::put_words;
+pub use pages::{PAGE_SIZE, Pages, zero_bytes};
+pub use plain_state::PlainState;
+pub use process::Process;
 pub use state::{Binding, Decision, Flight, Registration, Thread};
+pub use translate::reach;

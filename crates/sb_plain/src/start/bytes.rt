@@ -6,9 +6,7 @@ ghost use Rattle.sb_tramp.specs.Home.{home_page};
 ghost use Rattle.sb_tramp.specs.Server.{server_page};
 
 use super::threads::save_address;
-use crate::page_words::put_words;
-use crate::pages::{PAGE_SIZE, zero_bytes};
-use sb_trace::PageBytes;
+use sb_state::{PAGE_SIZE, PageBytes, put_words, zero_bytes};
 use sb_tramp::{RecordWords, put_home, put_server};
 use std::alloc::{AllocError, Global};
 

@@ -1,17 +1,17 @@
 //! The pages at the start.
 
 ghost use Rattle.std.specs.Prelude.{◌≡◌, ◌^◌, ◌<◌, ◌++◌, ◌∷◌, [], IfOk, OnOk, length, map};
+ghost use Rattle.sb_state.specs.State.{page_with};
 ghost use Rattle.sb_trace.specs.PageWords.{zeros};
-ghost use Rattle.sb_trace.specs.Start.{page_with, padded_pages, heap_pages, process_pages, thread_pages, trampoline_pages, images_pages, threads_pages};
+ghost use Rattle.sb_trace.specs.Start.{padded_pages, heap_pages, process_pages, thread_pages, trampoline_pages, images_pages, threads_pages};
 ghost use Rattle.sb_plain.specs.Start.{image_of, images_loaded, part_name, part_filler, entry_of};
 
 use super::bytes::{home_record, home_trampoline, page_bytes, server_trampoline};
-use crate::pages::{Pages, zero_bytes};
 use sb_bundle::{CoreStart, Image};
 use sb_load::Loaded;
 use sb_memory::page_count;
 use sb_rewrite::Rewritten;
-use sb_trace::{Page, PageBytes, PageName};
+use sb_state::{Page, PageBytes, PageName, Pages, zero_bytes};
 use std::alloc::{AllocError, Global};
 
 /// A part of a process that has bytes at the start.

@@ -8,7 +8,7 @@ use sb_abi::{STACKS_ADDRESS, THREAD_DISTANCE};
 use sb_bundle::CoreStart;
 use sb_insn::registers::{RDI, RSP};
 use sb_insn::{Flags, Regs};
-use sb_trace::{Bindings, EndKind, Flight, Thread};
+use sb_state::{Bindings, EndKind, Flight, Thread};
 use std::alloc::{AllocError, Global};
 
 /// The linear address of a thread's save page.
