@@ -22,7 +22,7 @@ mod operation;
 mod shift;
 mod size;
 
-pub use arithmetic::{added, subtracted, sum};
+pub use arithmetic::{sum_outcome, difference_outcome, sum};
 pub use operated::operate;
 pub use operation::{Operation, Outcome};
 pub use size::Size;

@@ -1,6 +1,8 @@
 //! Transfers over a source and a sink in memory: whole, or refused where a call fails.
 
-use sb_port::{MemorySink, MemorySource, ReadAll, WriteFault, read_all, write_all};
+ghost use Rattle.std.specs.Prelude.{None};
+
+use sb_port::{Failed, MemorySink, MemorySource, ReadAll, Source, WriteFault, read_all, write_all};
 use std::test::Fail;
 
 /// Calls are counted from 1.
@@ -71,14 +73,68 @@ fn a_sink_in_memory_takes_all_or_a_front(rt: HostRuntime) -> Result<(), Fail> {
     Ok(())
 }
 
+/// A source of one byte a call, which has two, and counts how often it is asked.
+#[derive(Drop)]
+struct Counting {
+    calls: u8,
+}
+
+impl Source for Counting {
+    ghost left = { λ source. None };
+
+    ghost faults = { λ source. 0 };
+
+    fn take(&mut self, into: &mut [u8]) -> Result<usize, Failed> {
+        self.calls = self.calls.saturating_add(1);
+        match into.first_mut() {
+            Some(place) if self.calls <= 2 => {
+                *place = self.calls;
+                Ok(1)
+            }
+            _ => Ok(0),
+        }
+    }
+}
+
+#[test]
+fn nothing_is_asked_for_after_the_end(rt: HostRuntime) -> Result<(), Fail> {
+    for limit in [2, 3, 5000] {
+        let mut source = Counting { calls: 0 };
+        let bytes = read_all(rt.alloc(), &mut source, limit)?;
+        assert_eq!(rt; bytes.as_slice(), [1, 2].as_slice());
+        assert_eq!(rt; source.calls, 3);
+    }
+    Ok(())
+}
+
+#[test]
+fn nothing_is_asked_for_past_the_limit(rt: HostRuntime) {
+    for (limit, calls) in [(0, 1), (1, 2)] {
+        let mut source = Counting { calls: 0 };
+        let refused = read_all(rt.alloc(), &mut source, limit).err();
+        assert_eq!(rt; refused, Some(ReadAll::TooLong));
+        assert_eq!(rt; source.calls, calls);
+    }
+}
+
+#[rattlefmt::skip]
+const READ_TEXTS: [(ReadAll, &str); 3] = [
+    (ReadAll::ReadFault, "the source failed"),
+    (ReadAll::TooLong, "the input is longer than the limit"),
+    (ReadAll::Memory, "out of memory"),
+];
+
 #[test]
 fn faults_say_what_happened(rt: HostRuntime) -> Result<(), Fail> {
     let alloc = rt.alloc();
-    let fault = WriteFault { written: 32 };
-    let message = format!(in alloc; "{}; {}", ReadAll::TooLong, fault)?;
+    for (refusal, text) in READ_TEXTS {
+        assert_eq!(rt; format!(in alloc; "{refusal}")?.as_str(), text);
+    }
+    let fault = format!(in alloc; "{}", WriteFault { written: 32 })?;
+    assert_eq!(rt; fault.as_str(), "the sink failed after 32 bytes");
     assert_eq!(rt;
-        message.as_str(),
-        "the input is longer than the limit; the sink failed after 32 bytes"
+        format!(in alloc; "{}", Failed)?.as_str(),
+        "the device failed"
     );
     Ok(())
 }

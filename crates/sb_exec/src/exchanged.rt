@@ -16,7 +16,7 @@ use crate::action::{After, Exchange, Place};
 use crate::address::rm_place;
 use crate::operand::{reg_number, register, set_register};
 use crate::write_back::{regs_at_next, rm_value, written};
-use sb_alu::{Size, added, subtracted, sum};
+use sb_alu::{Size, difference_outcome, sum, sum_outcome};
 use sb_insn::registers::RAX;
 use sb_insn::{Insn, Regs};
 
@@ -46,7 +46,7 @@ fn xadd_result(size: Size, number: usize, place: Place, old: u64, source: u64, r
     ensures { result ≡ xadd_result size number place old source regs }
 {
     let next = Regs {
-        flags: added(size, old, source).flags,
+        flags: sum_outcome(size, old, source).flags,
         ..regs
     };
     xchg_result(size, number, place, old, sum(size, old, source), next)
@@ -71,7 +71,7 @@ fn cmpxchg_result(size: Size, place: Place, old: u64, source: u64, regs: Regs) -
 {
     let accumulator = register(size, RAX, &regs);
     let next = Regs {
-        flags: subtracted(size, accumulator, old).flags,
+        flags: difference_outcome(size, accumulator, old).flags,
         ..regs
     };
     if accumulator == old {

@@ -9,6 +9,7 @@ use Rattle.std.proofs.lemmas.Grind.{flat_map-append}
 use Rattle.sb_insn.specs.declared.insn.Insn.{Insn}
 use Rattle.sb_insn.specs.declared.insn.Imm.TheVariants as imm
 use Rattle.sb_insn.specs.declared.opcode_map.Instruction.{Instruction}
+use Rattle.sb_insn.specs.Listing.{instruction_of}
 use Rattle.sb_insn.specs.Spelling.{disp_bytes, imm_bytes, spelling}
 use Rattle.sb_insn.specs.Fields.{has_sib, is_sib_field}
 use Rattle.sb_insn.specs.Grammar.{FitsImm, IsValid}
@@ -24,9 +25,11 @@ use Rattle.sb_forms.specs.Table.{spelled_bytes, Replacement, InPlace, move_outco
 use Rattle.sb_forms.specs.Answers.{IsSite, IsSmall, IsCleanForm}
 use Rattle.sb_forms.proofs.Held.{not_held}
 use Rattle.sb_forms.proofs.ByTable.{IsHeld, TableCases, by_table}
-use Rattle.sb_forms.proofs.Operands.{no_sib_0f, no_memory}
-use Rattle.sb_forms.proofs.Quiet.{last_one, IsQuiet, AreQuiet, MayFollow, skip, in_place_clean, slot_clean}
+use Rattle.sb_forms.proofs.Operands.{no_sib_0f}
+use Rattle.sb_forms.proofs.Quiet.{last_one, IsQuiet, AreQuiet, MayFollow, in_place_clean, slot_clean}
 use Rattle.sb_forms.proofs.Fronts.{valid_rex, valid_op, exchanged_rex, front_holds, front_quiet}
+use Rattle.sb_forms.proofs.Behind.{imm_holds}
+use Rattle.sb_forms.proofs.Small.{address_small, constant_small, both_small, wide_small, displaced_small, quiet_memory}
 use Rattle.sb_forms.proofs.QuietPieces.{save_first, save_second, save_word, save_low, save_high, restore_first, restore_second, jump_through_word, constant_quiet, address_quiet, jump_quiet}
 use Rattle.sb_forms.proofs.QuietMains.{any_start, on_memory_quiet, on_register_holds, behind_quiet, with_helper_quiet, load_target_quiet, load_word_quiet, displaced_quiet}
 
@@ -51,35 +54,6 @@ moved_clean site pre main post place before work behind small insn =
     let quiet : IsQuiet (spelling back) =
     jump_quiet from site.next (omega (arith, whole, parts, place.slot, place.behind)) (omega (arith, place.next)) in
     slot_clean pre main (post ++ back ∷ []) before work (both_quiet post (back ∷ []) behind (quiet, tt))
-
--- ---- the instruction is valid, and holds the pattern
-
--- the bytes behind the opcode
-abbrev pub behind_opcode : Insn → List ℕ
-behind_opcode insn = option_to_list insn.modrm ++ (option_to_list insn.sib ++ (disp_bytes insn.disp ++ imm_bytes insn.imm))
-
--- In another instruction than VMFUNC the pattern stands behind the opcode.
-pub behind_holds : (insn : Insn) → IsValid insn → is_vmfunc insn.op ≡ false
-    → holds_pattern (spelling insn) ≡ holds_pattern (behind_opcode insn)
-behind_holds insn valid other =
-    front_holds insn.lock insn.rex insn.op (behind_opcode insn) (valid_rex insn.rex valid.rex)
-    (valid_op insn.op insn.lock insn.rex insn.modrm other valid.modrm)
-
-register_holds : (modrm : Option ℕ) (rest : List ℕ) → has_memory modrm ≡ false
-    → holds_pattern (option_to_list modrm ++ rest) ≡ holds_pattern rest
-register_holds None rest e = refl
-register_holds (Some modrm) rest e =
-    skip modrm rest (λ is. both_ways (has_memory (Some modrm)) e (ap (λ (m : ℕ). has_memory (Some m)) is))
-
--- without a memory operand it stands in the immediate
-pub imm_holds : (insn : Insn) → IsValid insn → is_vmfunc insn.op ≡ false → has_memory insn.modrm ≡ false
-    → holds_pattern (spelling insn) ≡ holds_pattern (imm_bytes insn.imm)
-imm_holds insn valid other e =
-    let none = no_memory insn.modrm insn.sib insn.disp e valid.sib valid.disp in
-    behind_holds insn valid other
-    ∙ register_holds insn.modrm (option_to_list insn.sib ++ (disp_bytes insn.disp ++ imm_bytes insn.imm)) e
-    ∙ ap (λ sib. holds_pattern (option_to_list sib ++ (disp_bytes insn.disp ++ imm_bytes insn.imm))) none.0
-    ∙ ap (λ d. holds_pattern (disp_bytes d ++ imm_bytes insn.imm)) none.1
 
 -- ---- in place
 
@@ -120,12 +94,12 @@ exchanged_quiet insn valid other e none =
 
 -- what is said of a replacement
 abbrev IsGood : Insn → Replacement → Type 0
-IsGood insn form = IsSmall (bytes_of form) → IsCleanForm insn (bytes_of form)
+IsGood insn form = IsCleanForm insn (bytes_of form)
 
 jump_good : (instruction : Instruction) (insn : Insn) (site : Site) → IsValid insn → IsSite site
     → IsGood insn (jump_form instruction insn site)
 unfolding jump_form
-jump_good instruction insn site valid place small =
+jump_good instruction insn site valid place =
     let helper = first_helper instruction.form insn in
     slot_clean
     (save helper first_saved ∷ load_address_of_operand helper insn site.next)
@@ -148,7 +122,7 @@ high_fits value fits =
 wide_good : (instruction : Instruction) (insn : Insn) (site : Site) (value : ℤ) → IsSite site → FitsSigned w64 value
     → IsGood insn (wide_constant_form instruction insn site value)
 unfolding wide_constant_form
-wide_good instruction insn site value place fits small =
+wide_good instruction insn site value place fits =
     let helper = first_helper instruction.form insn in
     let low = load_constant helper (low_half value) in
     let high = load_constant helper (high_half value) in
@@ -168,13 +142,14 @@ wide_good instruction insn site value place fits small =
     (save_half helper upper_half ∷ []) again (save_high helper, tt))
     (inl (load_word_quiet insn))
     (restore_first helper, tt)
-    small
+    (wide_small instruction insn site value)
     insn
 
-address_and_constant_good : (instruction : Instruction) (insn : Insn) (site : Site) (value : ℤ) → IsValid insn → IsSite site
-    → FitsSigned w32 value → IsGood insn (address_and_constant_form instruction insn site value)
+address_and_constant_good : (instruction : Instruction) (insn : Insn) (site : Site) (value : ℤ) → IsValid insn
+    → instruction_of insn ≡ Some instruction → IsSite site → FitsSigned w32 value
+        → IsGood insn (address_and_constant_form instruction insn site value)
 unfolding address_and_constant_form
-address_and_constant_good instruction insn site value valid place fits small =
+address_and_constant_good instruction insn site value valid listed place fits =
     let helper = first_helper instruction.form insn in
     let second = second_helper instruction.form insn in
     moved_clean
@@ -194,13 +169,13 @@ address_and_constant_good instruction insn site value valid place fits small =
     (inl (on_memory_quiet instruction.mnemonic insn helper second))
     (both_quiet (behind_main instruction.mnemonic insn second) (restore helper first_saved ∷ restore second second_saved ∷ [])
     (behind_quiet instruction.mnemonic insn second) (restore_first helper, (restore_second second, tt)))
-    small
+    (both_small instruction insn site value valid listed)
     insn
 
-address_good : (instruction : Instruction) (insn : Insn) (site : Site) → IsValid insn → is_vmfunc insn.op ≡ false
-    → IsSite site → holds_pattern (imm_bytes insn.imm) ≡ false → IsGood insn (address_form instruction insn site)
+address_good : (instruction : Instruction) (insn : Insn) (site : Site) → IsHeld insn → IsSite site
+    → holds_pattern (imm_bytes insn.imm) ≡ false → IsGood insn (address_form instruction insn site)
 unfolding address_form
-address_good instruction insn site valid other place none small =
+address_good instruction insn site held place none =
     let helper = first_helper instruction.form insn in
     moved_clean
     site
@@ -208,11 +183,11 @@ address_good instruction insn site valid other place none small =
     (with_helper helper insn)
     (restore helper first_saved ∷ [])
     place
-    (save_first helper, address_quiet helper insn site.next valid place.next)
-    (inl (with_helper_quiet helper insn (valid_rex insn.rex valid.rex)
-    (valid_op insn.op insn.lock insn.rex insn.modrm other valid.modrm) none))
+    (save_first helper, address_quiet helper insn site.next held.valid place.next)
+    (inl (with_helper_quiet helper insn (valid_rex insn.rex held.valid.rex)
+    (valid_op insn.op insn.lock insn.rex insn.modrm held.other held.valid.modrm) none))
     (restore_first helper, tt)
-    small
+    (address_small instruction insn site held.valid (quiet_memory insn held none))
     insn
 
 -- a lowered constant is raised last, which ends with 00
@@ -232,7 +207,7 @@ lowered_end helper value e =
 constant_good : (instruction : Instruction) (insn : Insn) (site : Site) (value : ℤ) → IsSite site → FitsSigned w32 value
     → is_lowered value ≡ true → IsGood insn (constant_form instruction insn site value)
 unfolding constant_form
-constant_good instruction insn site value place fits lowers small =
+constant_good instruction insn site value place fits lowers =
     let helper = first_helper instruction.form insn in
     moved_clean
     site
@@ -244,7 +219,7 @@ constant_good instruction insn site value place fits lowers small =
     (inr (on_register_holds instruction.mnemonic instruction.form insn helper, lowered_end helper value lowers))
     (both_quiet (behind_main instruction.mnemonic insn helper) (restore helper first_saved ∷ [])
     (behind_quiet instruction.mnemonic insn helper) (restore_first helper, tt))
-    small
+    (constant_small instruction insn site value)
     insn
 
 -- ---- which form applies
@@ -257,16 +232,16 @@ imm_lowered insn value held is alone =
 
 displaced_good : (insn : Insn) (site : Site) → IsHeld insn → IsSite site → begins_at_modrm insn ≡ true
     → IsGood insn (move_outcome site [] (with_displacement insn) [])
-displaced_good insn site held place e small =
+displaced_good insn site held place e =
     let parts = and_parts (is_modrm 0x0F insn.modrm) (begins_with_01_d4 insn.imm) e in
     let known = valid_op insn.op insn.lock insn.rex insn.modrm held.other held.valid.modrm in
     let quiet =
     displaced_quiet insn (valid_rex insn.rex held.valid.rex) known
     (no_sib_0f insn.modrm insn.sib parts.0 held.valid.sib) parts.1 in
-    moved_clean site [] (with_displacement insn) [] place tt (inl quiet) tt small insn
+    moved_clean site [] (with_displacement insn) [] place tt (inl quiet) tt (displaced_small insn site held.valid e) insn
 
 exchanged_good : (insn : Insn) → IsHeld insn → is_exchangeable insn ≡ true → IsGood insn (InPlace (sib_exchanged insn ∷ []))
-exchanged_good insn held e small =
+exchanged_good insn held e =
     let parts = and_parts (is_sib_0f insn.sib) (not (holds_pattern (spelling (sib_exchanged insn)))) e in
     in_place_clean (sib_exchanged insn ∷ []) (
       exchanged_quiet insn held.valid held.other parts.0 (not-true (holds_pattern (spelling (sib_exchanged insn))) parts.1),
@@ -275,22 +250,22 @@ exchanged_good insn held e small =
 
 good_cases : (insn : Insn) (site : Site) → IsSite site → TableCases (IsGood insn) insn site
 good_cases insn site place = record {
-  vmfunc = λ _ small. in_place_clean (nop ∷ nop ∷ nop ∷ []) nops_quiet;
-  completes = λ _ small. in_place_clean (add_from_rm ∷ []) add_quiet;
-  keep = λ none small. not_held (spelling insn) none;
+  vmfunc = λ _. in_place_clean (nop ∷ nop ∷ nop ∷ []) nops_quiet;
+  completes = λ _. in_place_clean (add_from_rm ∷ []) add_quiet;
+  keep = λ none. not_held (spelling insn) none;
   exchange = λ held e. exchanged_good insn held e;
   displace = λ held e. displaced_good insn site held place e;
-  unmovable = λ small. tt;
+  unmovable = tt;
   through = λ instruction known memory jumps. jump_good instruction insn site known.held.valid place;
   wide = λ instruction value known is. wide_good instruction insn site value place
       (subst (λ i. FitsImm i) is known.held.valid.imm_fits);
   both = λ instruction value known is memory.
-      address_and_constant_good instruction insn site value known.held.valid place
+      address_and_constant_good instruction insn site value known.held.valid known.listed place
       (subst (λ i. FitsImm i) is known.held.valid.imm_fits);
   alone = λ instruction value known is alone.
       constant_good instruction insn site value place (subst (λ i. FitsImm i) is known.held.valid.imm_fits)
       (imm_lowered insn value known.held is alone);
-  memory = λ instruction known none. address_good instruction insn site known.held.valid known.held.other place none;
+  memory = λ instruction known none. address_good instruction insn site known.held place none;
 }
 
 replacement_good : (insn : Insn) (site : Site) (after_0f : Bool) → IsValid insn → IsSite site
@@ -299,10 +274,7 @@ replacement_good insn site after_0f valid place = by_table (IsGood insn) insn si
 
 -- what stands in place of an instruction
 pub form_clean : (insn : Insn) (at slot : ℕ) (after_0f : Bool) (form : Form) → IsValid insn → IsSite (site_of insn at slot)
-    → form ≡ form_of insn at slot after_0f → IsSmall form → IsCleanForm insn form
+    → form ≡ form_of insn at slot after_0f → IsCleanForm insn form
 unfolding form_of
-form_clean insn at slot after_0f form valid place is small =
-    subst
-    (λ f. IsCleanForm insn f)
-    (sym is)
-    (replacement_good insn (site_of insn at slot) after_0f valid place (subst (λ f. IsSmall f) is small))
+form_clean insn at slot after_0f form valid place is =
+    subst (λ f. IsCleanForm insn f) (sym is) (replacement_good insn (site_of insn at slot) after_0f valid place)

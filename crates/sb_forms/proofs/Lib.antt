@@ -9,6 +9,7 @@ pub mod Fronts
 pub mod QuietPieces
 pub mod QuietMains
 pub mod ByTable
+pub mod Behind
 pub mod CleanForms
 pub mod Room
 pub mod Where

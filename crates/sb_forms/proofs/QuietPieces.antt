@@ -146,7 +146,8 @@ unfolding address_from
 from_quiet helper next distance near fits = (
   load_holds helper (lowered_displacement distance) (lowered_holds distance fits),
   (
-    add_holds helper (pos (next + lacking distance)) (small_holds (next + lacking distance) (omega (arith, lacking_100 distance))),
+    add_holds helper (pos (next + lacking distance))
+        (small_holds (next + lacking distance) (omega (arith, lacking_100 distance))),
     tt,
   ),
 )

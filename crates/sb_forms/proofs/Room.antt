@@ -25,8 +25,9 @@ use Rattle.sb_scan.proofs.Places.{read_within}
 use Rattle.sb_forms.proofs.Held.{holds_at}
 use Rattle.sb_forms.proofs.Lengths.{spelling_length, exchanged_length}
 use Rattle.sb_forms.proofs.Operands.{bare_0f, modrm_is}
-use Rattle.sb_forms.proofs.CleanForms.{behind_opcode, behind_holds}
+use Rattle.sb_forms.proofs.Behind.{behind_opcode, behind_holds}
 use Rattle.sb_forms.proofs.ByTable.{IsHeld, TableCases, by_table}
+use Rattle.sb_forms.proofs.Small.{address_small, constant_small, both_small, jump_small, wide_small, displaced_small, quiet_memory}
 
 -- ---- an instruction that holds the pattern has five bytes
 
@@ -174,28 +175,30 @@ add_2 insn valid e =
 
 -- what is said of a replacement
 abbrev IsRoomy : Insn → Replacement → Type 0
-IsRoomy insn form = IsSmall (bytes_of form) → HasRoom insn (bytes_of form)
+IsRoomy insn form = HasRoom insn (bytes_of form)
 
 roomy_cases : (insn : Insn) (site : Site) → IsValid insn → TableCases (IsRoomy insn) insn site
 unfolding jump_form wide_constant_form address_and_constant_form address_form constant_form
 roomy_cases insn site valid = record {
-  vmfunc = λ is small. sym (vmfunc_3 insn valid is);
-  completes = λ is small. sym (add_2 insn valid is);
-  keep = λ none small. tt;
-  exchange = λ held e small.
+  vmfunc = λ is. sym (vmfunc_3 insn valid is);
+  completes = λ is. sym (add_2 insn valid is);
+  keep = λ none. tt;
+  exchange = λ held e.
       let one = length-append (spelling (sib_exchanged insn)) [] in
       omega (
         arith,
         one,
         exchanged_length insn (and_parts (is_sib_0f insn.sib) (not (holds_pattern (spelling (sib_exchanged insn)))) e).0,
       );
-  displace = λ held e small. (held_5 insn held, small);
-  unmovable = λ small. tt;
-  through = λ instruction known memory jumps small. (held_5 insn known.held, small);
-  wide = λ instruction value known is small. (held_5 insn known.held, small);
-  both = λ instruction value known is memory small. (held_5 insn known.held, small);
-  alone = λ instruction value known is alone small. (held_5 insn known.held, small);
-  memory = λ instruction known none small. (held_5 insn known.held, small);
+  displace = λ held e. (held_5 insn held, displaced_small insn site valid e);
+  unmovable = tt;
+  through = λ instruction known memory jumps. (held_5 insn known.held, jump_small instruction insn site);
+  wide = λ instruction value known is. (held_5 insn known.held, wide_small instruction insn site value);
+  both = λ instruction value known is memory.
+      (held_5 insn known.held, both_small instruction insn site value valid known.listed);
+  alone = λ instruction value known is alone. (held_5 insn known.held, constant_small instruction insn site value);
+  memory = λ instruction known none.
+      (held_5 insn known.held, address_small instruction insn site valid (quiet_memory insn known.held none));
 }
 
 replacement_roomy : (insn : Insn) (site : Site) (after_0f : Bool) → IsValid insn → IsRoomy insn (replacement insn site after_0f)
@@ -203,8 +206,7 @@ replacement_roomy insn site after_0f valid = by_table (IsRoomy insn) insn site a
 
 -- what stands in place of an instruction
 pub form_roomy : (insn : Insn) (at slot : ℕ) (after_0f : Bool) (form : Form) → IsValid insn
-    → form ≡ form_of insn at slot after_0f → IsSmall form → HasRoom insn form
+    → form ≡ form_of insn at slot after_0f → HasRoom insn form
 unfolding form_of
-form_roomy insn at slot after_0f form valid is small =
-    subst (λ f. HasRoom insn f) (sym is)
-    (replacement_roomy insn (site_of insn at slot) after_0f valid (subst (λ f. IsSmall f) is small))
+form_roomy insn at slot after_0f form valid is =
+    subst (λ f. HasRoom insn f) (sym is) (replacement_roomy insn (site_of insn at slot) after_0f valid)

@@ -27,7 +27,7 @@ use Rattle.sb_forms.specs.Answers.{IsSmall}
 use Rattle.sb_insn.proofs.Longest.{one_field}
 use Rattle.sb_forms.proofs.Lengths.{spelling_length, with_helper_9, constant_main_8, alone_5, displaced_9}
 use Rattle.sb_scan.proofs.Held.{nothing_holds, byte_holds}
-use Rattle.sb_forms.proofs.CleanForms.{imm_holds}
+use Rattle.sb_forms.proofs.Behind.{imm_holds}
 use Rattle.sb_forms.proofs.ByTable.{IsHeld, TableCases, by_table}
 use Rattle.sb_forms.proofs.Maps.{short_5, imul_unlocked}
 use Rattle.sb_forms.proofs.Lengths.{product_3}
@@ -346,7 +346,7 @@ displaced_small insn site valid e = let nine = displaced_9 insn valid e in
     moved_small site [] (with_displacement insn) [] (omega arith) nine (omega arith) (omega (arith, nine))
 
 -- one whose immediate does not hold the pattern has a memory operand
-quiet_memory : (insn : Insn) → IsHeld insn → holds_pattern (imm_bytes insn.imm) ≡ false → has_memory insn.modrm ≡ true
+pub quiet_memory : (insn : Insn) → IsHeld insn → holds_pattern (imm_bytes insn.imm) ≡ false → has_memory insn.modrm ≡ true
 quiet_memory insn held none =
     true_from_ne_false (has_memory insn.modrm) (λ alone.
     both_ways (holds_pattern (imm_bytes insn.imm)) none (sym (imm_holds insn held.valid held.other alone) ∙ held.held))

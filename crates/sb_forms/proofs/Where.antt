@@ -35,7 +35,7 @@ use Rattle.sb_forms.proofs.Lowered.{IsInFour, in_four}
 use Rattle.sb_forms.proofs.Maps.{of_operand, narrow, is_narrow, is_bare, one_narrow, two_bare, bare_imm}
 use Rattle.sb_forms.proofs.Operands.{bare_0f}
 use Rattle.sb_forms.proofs.Fronts.{IsRex, IsOpcode, valid_rex, valid_op}
-use Rattle.sb_forms.proofs.CleanForms.{behind_opcode, imm_holds}
+use Rattle.sb_forms.proofs.Behind.{behind_opcode, imm_holds}
 
 -- ---- behind the opcode
 

@@ -83,7 +83,7 @@ pub fn wide(opcode: u8, modrm: u8) -> Insn
 /// Register reg, and memory at an address: SIB 25 is no base and no index.
 fn at_address(opcode: u8, reg: u8, address: i32) -> Insn
     requires { reg ≤ 7 }
-    ensures { result ≡ at_address opcode reg load_address_of_operand }
+    ensures { result ≡ at_address opcode reg address }
 {
     Insn {
         modrm: Some(8 * reg + 4),
@@ -96,7 +96,7 @@ fn at_address(opcode: u8, reg: u8, address: i32) -> Insn
 /// The same with REX.W.
 pub fn wide_at_address(opcode: u8, reg: u8, address: i32) -> Insn
     requires { reg ≤ 7 }
-    ensures { result ≡ wide_at_address opcode reg load_address_of_operand }
+    ensures { result ≡ wide_at_address opcode reg address }
 {
     Insn {
         rex: Some(0x48),
@@ -107,7 +107,7 @@ pub fn wide_at_address(opcode: u8, reg: u8, address: i32) -> Insn
 /// `mov [address], helper`.
 #[tactic(auto, unfolding(crate::specs::Pieces::save))]
 pub fn save(helper: Helper, address: i32) -> Insn
-    ensures value { result ≡ save helper load_address_of_operand }
+    ensures value { result ≡ save helper address }
     ensures size { length (spelling result) ≡ 8 }
 {
     wide_at_address(0x89, helper.number(), address)
@@ -116,7 +116,7 @@ pub fn save(helper: Helper, address: i32) -> Insn
 /// `mov helper, [address]`.
 #[tactic(auto, unfolding(crate::specs::Pieces::restore))]
 pub fn restore(helper: Helper, address: i32) -> Insn
-    ensures value { result ≡ restore helper load_address_of_operand }
+    ensures value { result ≡ restore helper address }
     ensures size { length (spelling result) ≡ 8 }
 {
     wide_at_address(0x8B, helper.number(), address)
@@ -125,7 +125,7 @@ pub fn restore(helper: Helper, address: i32) -> Insn
 /// `mov [address], the helper's lower half`.
 #[tactic(auto, unfolding(crate::specs::Pieces::save_half))]
 pub fn save_half(helper: Helper, address: i32) -> Insn
-    ensures value { result ≡ save_half helper load_address_of_operand }
+    ensures value { result ≡ save_half helper address }
     ensures size { length (spelling result) ≡ 7 }
 {
     at_address(0x89, helper.number(), address)
@@ -363,7 +363,7 @@ pub fn jump(from: u64, to: u64) -> Insn
 /// `jmp [address]`.
 #[tactic(auto, unfolding(crate::specs::Pieces::jump_through))]
 pub fn jump_through(address: i32) -> Insn
-    ensures value { result ≡ jump_through load_address_of_operand }
+    ensures value { result ≡ jump_through address }
     ensures size { length (spelling result) ≡ 7 }
 {
     at_address(0xFF, 4, address)

@@ -1,7 +1,7 @@
 //! Which frames are taken, for what, and by whom.
 
 ghost use Rattle.std.specs.Prelude.{◌≡◌, ◌≢◌, ◌↔◌, ℕ, ◌+◌, ◌-◌, ◌<◌, ◌≤◌, Option, List, length, get_or, IfOk, IfSome, IfNone, count_by, is_none};
-ghost use Rattle.sb_frames.specs.Book.{Book, IsInBook, IsLowestFree, IsTaken, after_take, empty_book, free_count, holder, with_holder};
+ghost use Rattle.sb_frames.specs.Book.{Book, IsInBook, IsLowestFree, IsTaken, after_take, empty_book, first_frame, free_count, holder, with_holder};
 
 use crate::kind::Kind;
 use sb_abi::KEPT_FRAMES;
@@ -36,7 +36,8 @@ impl Model for FrameBook {
 impl FrameBook {
     /// The book of a memory of so many frames: those from 512 on are free.
     pub fn new(alloc: Global, frames: u32) -> Result<FrameBook, AllocError>
-        ensures { IfOk result (λ book. book ≡ empty_book frames) }
+        ensures empty { IfOk result (λ book. book ≡ empty_book frames) }
+        ensures free { IfOk result (λ book. free_count book ≡ frames - first_frame) }
     {
         let free = frames.saturating_sub(FIRST_FRAME);
         let holders = vec![in alloc; None; free as usize]?;
@@ -59,6 +60,7 @@ impl FrameBook {
         ensures none { (result ≡ None) ↔ (free_count self.old ≡ 0) }
         ensures lowest { IfSome result (λ frame. IsLowestFree self.old frame.0) }
         ensures taken { self.new ≡ after_take self.old result kind owner }
+        ensures fewer { IfSome result (λ _. free_count self.new + 1 ≡ free_count self.old) }
     {
         let Some(index) = first_free(&self.holders, self.first) else {
             return None;
@@ -85,7 +87,8 @@ impl FrameBook {
     /// Makes a taken frame free.
     pub fn give_back(&mut self, frame: Frame)
         requires { IsTaken self.old frame.0 }
-        ensures { self.new ≡ with_holder self.old frame.0 None }
+        ensures given_back { self.new ≡ with_holder self.old frame.0 None }
+        ensures more { free_count self.new ≡ free_count self.old + 1 }
     {
         let index = (frame.0 - FIRST_FRAME) as usize;
         self.holders[index] = None;

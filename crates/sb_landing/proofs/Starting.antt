@@ -17,8 +17,7 @@ use Rattle.sb_trace.specs.PageWords.{zeros}
 use Rattle.sb_trace.specs.KernelCall.{binding_in}
 use Rattle.sb_trace.specs.Start.{ProcessImage, ThreadEntry, padded_page, page_count, padded_pages, heap_page, heap_pages, process_pages, thread_pages, trampoline_pages, images_pages, threads_pages, start_threads, start_process}
 use Rattle.sb_state.proofs.Names.{name_same}
-use Rattle.sb_trace.proofs.CodePages.{EachPage, found_each}
-use Rattle.sb_trace.proofs.KeptPages.{each_from}
+use Rattle.sb_state.proofs.Start.{EachPage, found_each, each_both, each_from}
 use Rattle.sb_landing.specs.Bound.{HasWordStarts}
 use Rattle.sb_landing.specs.Laws.{StartIsBound}
 
@@ -42,28 +41,23 @@ zero_bytes : (place : ℕ) → slice_index zeros place < 256
 unfolding zeros
 zero_bytes place = zeros_small 4096 place
 
-each_both : (first second : List Page) → EachPage IsFirstPage first → EachPage IsFirstPage second
-    → EachPage IsFirstPage (first ++ second)
-each_both [] second one other = other
-each_both (page ∷ first) second one other = (one.0, each_both first second one.1 other)
-
 process_first : (process : ℕ) (image : ProcessImage) → EachPage IsFirstPage (process_pages process image)
 unfolding process_pages
 process_first process image =
-    each_both (padded_pages (Text process) 0xCC image.text) _
+    each_both IsFirstPage (padded_pages (Text process) 0xCC image.text) _
     (each_from IsFirstPage (padded_page (Text process) 0xCC image.text) 0 (page_count (length image.text)) (λ page. tt))
-    (each_both (padded_pages (Area process) 0xCC image.area) _
+    (each_both IsFirstPage (padded_pages (Area process) 0xCC image.area) _
     (each_from IsFirstPage (padded_page (Area process) 0xCC image.area) 0 (page_count (length image.area)) (λ page. tt))
-    (each_both (padded_pages (Data process) 0 image.initial) _
+    (each_both IsFirstPage (padded_pages (Data process) 0 image.initial) _
     (each_from IsFirstPage (padded_page (Data process) 0 image.initial) 0 (page_count (length image.initial)) (λ page. tt))
-    (each_both (heap_pages process image.heap_pages) (page_with (Pool process) zeros ∷ [])
+    (each_both IsFirstPage (heap_pages process image.heap_pages) (page_with (Pool process) zeros ∷ [])
     (each_from IsFirstPage (heap_page process) 0 image.heap_pages (λ page. tt))
     (zero_bytes, tt))))
 
 images_first : (process : ℕ) (images : List ProcessImage) → EachPage IsFirstPage (images_pages process images)
 images_first process [] = tt
 images_first process (image ∷ images) =
-    each_both (process_pages process image) (images_pages (process + 1) images) (process_first process image)
+    each_both IsFirstPage (process_pages process image) (images_pages (process + 1) images) (process_first process image)
     (images_first (process + 1) images)
 
 thread_first : (thread home : ℕ) → EachPage IsFirstPage (thread_pages thread home)
@@ -73,7 +67,7 @@ thread_first thread home = (tt, (tt, (tt, (tt, (tt, (refl, (tt, tt)))))))
 threads_first : (thread : ℕ) (entries : List ThreadEntry) → EachPage IsFirstPage (threads_pages thread entries)
 threads_first thread [] = tt
 threads_first thread (entry ∷ entries) =
-    each_both (thread_pages thread entry.home) (threads_pages (thread + 1) entries) (thread_first thread entry.home)
+    each_both IsFirstPage (thread_pages thread entry.home) (threads_pages (thread + 1) entries) (thread_first thread entry.home)
     (threads_first (thread + 1) entries)
 
 trampoline_first : EachPage IsFirstPage trampoline_pages
@@ -85,8 +79,8 @@ first_pages images entries = images_pages 0 images ++ (threads_pages 0 entries +
 
 pages_first : (images : List ProcessImage) (entries : List ThreadEntry) → EachPage IsFirstPage (first_pages images entries)
 pages_first images entries =
-    each_both (images_pages 0 images) (threads_pages 0 entries ++ trampoline_pages) (images_first 0 images)
-    (each_both (threads_pages 0 entries) trampoline_pages (threads_first 0 entries) trampoline_first)
+    each_both IsFirstPage (images_pages 0 images) (threads_pages 0 entries ++ trampoline_pages) (images_first 0 images)
+    (each_both IsFirstPage (threads_pages 0 entries) trampoline_pages (threads_first 0 entries) trampoline_first)
 
 named_by : (test : Bool) (first page : Page) (name : PageName) (found : Option Page) → same_name first.name name ≡ test
     → (found ≡ Some page → page.name ≡ name)

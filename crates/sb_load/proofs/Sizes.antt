@@ -14,7 +14,7 @@ use Rattle.sb_forms.specs.Table.{form_of}
 use Rattle.sb_forms.proofs.Room.{form_roomy}
 use Rattle.sb_bundle.specs.declared.bundle.Image.{Image}
 use Rattle.sb_bundle.specs.Limits.{IsImage}
-use Rattle.sb_rewrite.specs.Listing.{text_address, spelled, AllValid}
+use Rattle.sb_rewrite.specs.Listing.{text_address, spelled_bytes, AllValid}
 use Rattle.sb_rewrite.specs.Placing.{Place, slot_bytes, is_after_0f, place, places_from, places, area_address, area_end}
 use Rattle.sb_rewrite.specs.Output.{Output, output, text_bytes, text_bytes_by, area_bytes}
 use Rattle.sb_rewrite.specs.Rewriting.{EndsBehindArea, NoneOf, Rewrites}
@@ -78,7 +78,7 @@ bytes_bound (form.Moved pre main post) insn at slot roomy =
 bytes_bound form.Unmovable insn at slot roomy = omega arith
 
 text_bound : (text : List ℕ) (at slot : ℕ) (insns : List Insn) → AllValid insns
-    → length (flat_map text_bytes (places_from text at slot insns)) ≤ 6 * length (spelled insns)
+    → length (flat_map text_bytes (places_from text at slot insns)) ≤ 6 * length (spelled_bytes insns)
 unfolding places_from
 text_bound text at slot [] valid = omega arith
 text_bound text at slot (insn ∷ insns) valid =
@@ -89,7 +89,8 @@ text_bound text at slot (insn ∷ insns) valid =
     let roomy : IsSmall made → HasRoom insn made = form_roomy insn at slot (is_after_0f text at) made valid.0 refl in
     let one : length (text_bytes first) ≤ 6 * length (spelling insn) = bytes_bound made insn at slot roomy in
     let others = text_bound text (at + length (spelling insn)) next insns valid.1 in
-    omega (arith, length-append (text_bytes first) (flat_map text_bytes later), length-append (spelling insn) (spelled insns))
+    omega (arith, length-append (text_bytes first) (flat_map text_bytes later),
+        length-append (spelling insn) (spelled_bytes insns))
 
 pub counted_text : (text : List ℕ) (made : Output) → length text ≤ 2097152 → Rewrites text (Ok made) → length made.text < 2 ^ 32
 counted_text text made size (of_text, are, fits, is, free) =

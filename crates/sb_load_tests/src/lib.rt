@@ -1,7 +1,7 @@
 //! Tests of how a bundle becomes what a machine is started from, over the public calls of `sb_bundle`, `sb_forms`,
 //! `sb_rewrite` and `sb_load`: worked cases, which no clause says.
 //!
-//! Inside: one builder of bundles (`bundles`), and a module of tests for each of the four libraries. Not inside: what a
+//! Inside: one builder of bundles (`bundles`), and a module of tests for each of the four libraries, and one for the texts of their errors. Not inside: what a
 //! library keeps to itself, which it tests itself, and the runs of a machine.
 //!
 //! ```text
@@ -11,6 +11,8 @@
 
 #[cfg(test)]
 mod bundles;
+#[cfg(test)]
+mod error_texts;
 #[cfg(test)]
 mod forms;
 #[cfg(test)]

@@ -3,3 +3,4 @@ pub mod Words
 pub mod Changes
 pub mod Accounts
 pub mod Pages
+pub mod Frames

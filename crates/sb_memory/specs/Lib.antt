@@ -5,4 +5,5 @@ pub mod Physical
 pub mod Words
 pub mod Reading
 pub mod Changes
+pub mod Frames
 pub mod Accounts

@@ -4,9 +4,43 @@ ghost use Rattle.std.specs.Prelude.{◌≡◌, ◌<◌, length, IfOk};
 ghost use Rattle.std.specs.Io.{ReadsAtMost, WritesAtMost};
 ghost use Rattle.std.specs.Io.KnownBytes.{ReadConsumes, WriteAppends};
 ghost use Rattle.sb_port.specs.Port.{HasCause, counted};
+ghost use Rattle.sb_port.specs.Adapters.{PassesOn, PassesOnSome, counted_write};
 
 use crate::{Failed, Sink, Source};
-use std::io::{Read, Write};
+use std::io::{self, Read, Write};
+
+/// What a source answers whose reader answers so. An error is one fault; any other answer stands, and leaves the count.
+fn read_answer(answer: io::Result<usize>, faults: &mut u64) -> Result<usize, Failed>
+    ensures same { PassesOn answer result }
+    ensures counted { faults.new ≡ counted faults.old answer }
+    ensures cause { HasCause faults.old faults.new result }
+    ensures result { faults.new ≡ counted faults.old result }
+{
+    match answer {
+        Ok(count) => Ok(count),
+        Err(_) => {
+            *faults = faults.saturating_add(1);
+            Err(Failed)
+        }
+    }
+}
+
+/// What a sink answers whose writer answers so. An error is one fault, and so is a write of no byte; any other answer
+/// stands, and leaves the count.
+fn write_answer(answer: io::Result<usize>, faults: &mut u64) -> Result<usize, Failed>
+    ensures same { PassesOnSome answer result }
+    ensures counted { faults.new ≡ counted_write faults.old answer }
+    ensures cause { HasCause faults.old faults.new result }
+    ensures result { faults.new ≡ counted faults.old result }
+{
+    match answer {
+        Ok(count) if count > 0 => Ok(count),
+        _ => {
+            *faults = faults.saturating_add(1);
+            Err(Failed)
+        }
+    }
+}
 
 /// A source over a reader. It tells the bytes that the reader tells, and each error of the reader is a fault.
 #[derive(Debug, Drop)]
@@ -40,13 +74,7 @@ impl<R: Read> Source for ReadSource<R> {
         ensures cause { HasCause (read_faults self.old) (read_faults self.new) result }
         ensures counted { read_faults self.new ≡ counted (read_faults self.old) result }
     {
-        match self.reader.read(into) {
-            Ok(count) => Ok(count),
-            Err(_) => {
-                self.faults = self.faults.saturating_add(1);
-                Err(Failed)
-            }
-        }
+        read_answer(self.reader.read(into), &mut self.faults)
     }
 }
 
@@ -84,24 +112,18 @@ impl<W: Write> Sink for WriteSink<W> {
         ensures cause { HasCause (write_faults self.old) (write_faults self.new) result }
         ensures counted { write_faults self.new ≡ counted (write_faults self.old) result }
     {
-        match self.writer.write(bytes) {
-            Ok(count) if count > 0 => Ok(count),
-            _ => {
-                self.faults = self.faults.saturating_add(1);
-                Err(Failed)
-            }
-        }
+        write_answer(self.writer.write(bytes), &mut self.faults)
     }
 }
 
 #[cfg(test)]
 mod tests {
     use super::{ReadSource, WriteSink};
-    use crate::{ReadAll, WriteFault, read_all, write_all};
-    use std::io::{self, Cursor, ErrorKind, Read};
+    use crate::{ReadAll, Source, WriteFault, read_all, write_all};
+    use std::io::{self, Cursor, ErrorKind, Read, Write};
     use std::test::Fail;
 
-    /// A reader that gives one byte a call, and an error in place of the third.
+    /// A reader and writer of one byte a call, with an error in place of the third. What it gives is the call's number.
     #[derive(Drop)]
     struct FailsThird {
         calls: u8,
@@ -117,6 +139,20 @@ mod tests {
                 }
                 _ => Err(io::Error::from(ErrorKind::BrokenPipe)),
             }
+        }
+    }
+
+    impl Write for FailsThird {
+        fn write(&mut self, buf: &[u8]) -> io::Result<usize> {
+            self.calls = self.calls.saturating_add(1);
+            match self.calls {
+                3 => Err(io::Error::from(ErrorKind::BrokenPipe)),
+                _ => Ok(buf.len().min(1)),
+            }
+        }
+
+        fn flush(&mut self) -> io::Result<()> {
+            Ok(())
         }
     }
 
@@ -138,6 +174,27 @@ mod tests {
         assert_eq!(rt; refused, Some(ReadAll::ReadFault));
         assert_eq!(rt; source.faults, 1);
         assert_eq!(rt; source.reader.calls, 3);
+        // The reader is asked again, once a call, and its answers stand.
+        let mut into = [0; 2];
+        for calls in [4, 5] {
+            assert_eq!(rt; source.take(&mut into), Ok(1));
+            assert_eq!(rt; into, [calls, 0]);
+        }
+        assert_eq!(rt; source.faults, 1);
+        Ok(())
+    }
+
+    #[test]
+    fn an_error_of_the_writer_is_one_fault_at_that_call(rt: HostRuntime) -> Result<(), Fail> {
+        let mut sink = WriteSink::new(FailsThird { calls: 0 });
+        let fault = write_all(&mut sink, b"bridge").err();
+        assert_eq!(rt; fault, Some(WriteFault { written: 2 }));
+        assert_eq!(rt; sink.faults, 1);
+        assert_eq!(rt; sink.writer.calls, 3);
+        // The writer is asked again, once a call, and its answers stand.
+        write_all(&mut sink, b"bridge")?;
+        assert_eq!(rt; sink.faults, 1);
+        assert_eq!(rt; sink.writer.calls, 9);
         Ok(())
     }
 

@@ -9,7 +9,7 @@ use Rattle.sb_forms.specs.declared.answer.Form.TheVariants as form
 use Rattle.sb_forms.specs.Places.{IsDirect, NotInJumps}
 use Rattle.sb_forms.specs.Table.{form_of}
 use Rattle.sb_rewrite.specs.declared.front.Front.{Front}
-use Rattle.sb_rewrite.specs.Listing.{text_address, spelled, IsListing}
+use Rattle.sb_rewrite.specs.Listing.{text_address, spelled_bytes, IsListing}
 use Rattle.sb_rewrite.specs.Target.{direct_target, IsBadTarget}
 use Rattle.sb_rewrite.specs.Placing.{Place, is_after_0f, places_from, places, area_address}
 use Rattle.sb_rewrite.specs.Output.{starts_of}
@@ -126,7 +126,7 @@ targets_checked text rest starts checked none =
 -- ---- what the form of an instruction asks for
 
 -- the starts are in a text
-pub in_text : (text : List ℕ) (insns : List Insn) → length text ≤ 2097152 → text ≡ spelled insns
+pub in_text : (text : List ℕ) (insns : List Insn) → length text ≤ 2097152 → text ≡ spelled_bytes insns
     → AreInText (starts_of (places text insns))
 in_text text insns size whole start held =
     let within =
@@ -137,7 +137,7 @@ in_text text insns size whole start held =
 -- the text's jumps lead well
 pub record JumpsKnown (text : List ℕ) (insns : List Insn) : Type 0 where
   pub size : length text ≤ 2097152
-  pub whole : text ≡ spelled insns
+  pub whole : text ≡ spelled_bytes insns
   pub well : LeadsWell (places text insns)
 
 pub form_asks : NotInJumps → (text rest : List ℕ) (done more : List Insn) (front : Front) → Reads text rest done more

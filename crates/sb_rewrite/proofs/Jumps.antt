@@ -5,21 +5,21 @@ use Rattle.sb_insn.specs.declared.insn.Insn.{Insn}
 use Rattle.sb_insn.specs.Spelling.{spelling}
 use Rattle.sb_insn.specs.Grammar.{IsValid}
 use Rattle.sb_forms.specs.Places.{IsPermitted, HasForm, NotInJumps, target}
-use Rattle.sb_rewrite.specs.Listing.{spelled, starts_from}
+use Rattle.sb_rewrite.specs.Listing.{spelled_bytes, starts_from}
 use Rattle.sb_rewrite.specs.Target.{direct_target, MayLeadTo, IsBadTarget}
 use Rattle.sb_rewrite.specs.Turns.{IsFar}
 use Rattle.sb_rewrite.proofs.OneListing.{some_spelling}
 
 -- starts are in the text
 pub starts_within : (at : ℕ) (insns : List Insn) (start : ℕ) → Contains (starts_from at insns) start
-    → (at ≤ start) × (start < at + length (spelled insns))
+    → (at ≤ start) × (start < at + length (spelled_bytes insns))
 unfolding starts_from
 starts_within at [] start (k, within, is) = absurd (omega arith)
 starts_within at (insn ∷ insns) start (zero, within, is) =
-    (omega (arith, is), omega (arith, is, some_spelling insn, length-append (spelling insn) (spelled insns)))
+    (omega (arith, is), omega (arith, is, some_spelling insn, length-append (spelling insn) (spelled_bytes insns)))
 starts_within at (insn ∷ insns) start (suc k, within, is) =
     let later = starts_within (at + length (spelling insn)) insns start (k, omega arith, is) in
-    (omega (arith, later.0), omega (arith, later.1, length-append (spelling insn) (spelled insns)))
+    (omega (arith, later.0), omega (arith, later.1, length-append (spelling insn) (spelled_bytes insns)))
 
 -- all starts are in a text
 abbrev pub AreInText : List ℕ → Type 0

@@ -9,13 +9,13 @@ use Rattle.sb_insn.specs.Grammar.{BeginsWith}
 use Rattle.sb_decode.specs.Decode.{Decodes}
 use Rattle.sb_decode.specs.declared.fault.DecodeFault.{DecodeFault}
 use Rattle.sb_decode.specs.declared.fault.DecodeFault.TheVariants.{Short, Undecoded}
-use Rattle.sb_rewrite.specs.Listing.{text_address, spelled, AllValid, starts_from, IsListing, IsStuck, IsUndecodedAt}
+use Rattle.sb_rewrite.specs.Listing.{text_address, spelled_bytes, AllValid, starts_from, IsListing, IsStuck, IsUndecodedAt}
 
 -- instructions spell the text up to its rest, and these are their starts
 pub record Partway (text rest starts : List ℕ) : Type 0 where
   pub insns : List Insn
   pub valid : AllValid insns
-  pub whole : text ≡ spelled insns ++ rest
+  pub whole : text ≡ spelled_bytes insns ++ rest
   pub starts_are : starts ≡ starts_from text_address insns
 
 -- nothing is listed at first
@@ -28,19 +28,21 @@ none_listed text starts none = record {
   starts_are = none;
 }
 
-pub spelled_push : (insns : List Insn) (insn : Insn) → spelled (insns ++ insn ∷ []) ≡ spelled insns ++ spelling insn
+pub spelled_push : (insns : List Insn) (insn : Insn) → spelled_bytes (insns ++ insn ∷ []) ≡ spelled_bytes insns ++ spelling insn
 spelled_push insns insn =
-    flat_map-append spelling insns (insn ∷ []) ∙ ap (λ (bytes : List ℕ). spelled insns ++ bytes) (append-nil (spelling insn))
+    flat_map-append spelling insns (insn ∷ [])
+        ∙ ap (λ (bytes : List ℕ). spelled_bytes insns ++ bytes) (append-nil (spelling insn))
 
 pub starts_push : (at : ℕ) (insns : List Insn) (insn : Insn)
-    → starts_from at (insns ++ insn ∷ []) ≡ starts_from at insns ++ (at + length (spelled insns)) ∷ []
+    → starts_from at (insns ++ insn ∷ []) ≡ starts_from at insns ++ (at + length (spelled_bytes insns)) ∷ []
 unfolding starts_from
 starts_push at [] insn =
     let here : at ≡ at + 0 = omega arith in
     ap (λ (place : ℕ). place ∷ []) here
 starts_push at (first ∷ insns) insn =
-    let behind : at + length (spelling first) + length (spelled insns) ≡ at + length (spelling first ++ spelled insns) =
-    omega (arith, length-append (spelling first) (spelled insns)) in
+    let behind : at + length (spelling first) + length (spelled_bytes insns)
+          ≡ at + length (spelling first ++ spelled_bytes insns) =
+    omega (arith, length-append (spelling first) (spelled_bytes insns)) in
     ap (λ (later : List ℕ). at ∷ later) (starts_push (at + length (spelling first)) insns insn
     ∙ ap (λ (place : ℕ). starts_from (at + length (spelling first)) insns ++ place ∷ []) behind)
 
@@ -49,9 +51,9 @@ valid_push [] insn all one = one
 valid_push (first ∷ insns) insn all one = (all.0, valid_push insns insn all.1 one)
 
 -- where the rest of the text stands
-pub place_of : (text rest : List ℕ) (insns : List Insn) → text ≡ spelled insns ++ rest
-    → length text - length rest ≡ length (spelled insns)
-place_of text rest insns whole = omega (arith, ap length whole ∙ length-append (spelled insns) rest)
+pub place_of : (text rest : List ℕ) (insns : List Insn) → text ≡ spelled_bytes insns ++ rest
+    → length text - length rest ≡ length (spelled_bytes insns)
+place_of text rest insns whole = omega (arith, ap length whole ∙ length-append (spelled_bytes insns) rest)
 
 -- behind the spelling of the first instruction
 behind : (text rest : List ℕ) (insn : Insn) → text ≡ spelling insn ++ rest → drop (length (spelling insn)) text ≡ rest
@@ -67,12 +69,12 @@ more_of text rest tail starts insn partway one parts = record {
   valid = valid_push partway.insns insn partway.valid one;
   whole =
       partway.whole
-      ∙ ap (λ (bytes : List ℕ). spelled partway.insns ++ bytes) parts
-      ∙ sym (append_assoc (spelled partway.insns) (spelling insn) tail)
+      ∙ ap (λ (bytes : List ℕ). spelled_bytes partway.insns ++ bytes) parts
+      ∙ sym (append_assoc (spelled_bytes partway.insns) (spelling insn) tail)
       ∙ ap (λ (bytes : List ℕ). bytes ++ tail) (sym (spelled_push partway.insns insn));
   starts_are =
       ap (λ (place : ℕ). starts ++ (text_address + place) ∷ []) (place_of text rest partway.insns partway.whole)
-      ∙ ap (λ (list : List ℕ). list ++ (text_address + length (spelled partway.insns)) ∷ []) partway.starts_are
+      ∙ ap (λ (list : List ℕ). list ++ (text_address + length (spelled_bytes partway.insns)) ∷ []) partway.starts_are
       ∙ sym (starts_push text_address partway.insns insn);
 }
 
@@ -88,8 +90,8 @@ one_more text rest starts insn count partway ((valid, (tail, parts)), is_length)
 
 -- where nothing is left, they spell the whole text
 pub all_spelled : (text rest starts : List ℕ) (partway : Partway text rest starts) → length rest ≡ 0
-    → text ≡ spelled partway.insns
-all_spelled text [] starts partway none = partway.whole ∙ append-nil (spelled partway.insns)
+    → text ≡ spelled_bytes partway.insns
+all_spelled text [] starts partway none = partway.whole ∙ append-nil (spelled_bytes partway.insns)
 all_spelled text (byte ∷ rest) starts partway none = absurd (omega arith)
 
 -- all of the text is listed

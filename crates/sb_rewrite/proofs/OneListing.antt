@@ -9,7 +9,7 @@ use Rattle.sb_insn.specs.declared.insn.Op.TheVariants.{One, Two, Endbr, Vmfunc}
 use Rattle.sb_insn.specs.Spelling.{spelling, op_bytes}
 use Rattle.sb_insn.specs.Grammar.{IsValid, BeginsWith}
 use Rattle.sb_decode.proofs.Exact.{one_begins}
-use Rattle.sb_rewrite.specs.Listing.{text_address, spelled, AllValid, starts_from, OneListing, OnePlace, ListedApart, StartsRise}
+use Rattle.sb_rewrite.specs.Listing.{text_address, spelled_bytes, AllValid, starts_from, OneListing, OnePlace, ListedApart, StartsRise}
 
 some_op : (op : Op) → 0 < length (op_bytes op)
 some_op (One opcode) = omega arith
@@ -33,12 +33,13 @@ nothing_begins insn (valid, (rest, parts)) =
 
 -- an instruction begins what it and others spell
 pub first_begins : (first : Insn) (insns : List Insn) (rest : List ℕ) → IsValid first
-    → BeginsWith (spelled (first ∷ insns) ++ rest) first
-first_begins first insns rest valid = (valid, (spelled insns ++ rest, append_assoc (spelling first) (spelled insns) rest))
+    → BeginsWith (spelled_bytes (first ∷ insns) ++ rest) first
+first_begins first insns rest valid =
+    (valid, (spelled_bytes insns ++ rest, append_assoc (spelling first) (spelled_bytes insns) rest))
 
 -- what spells a text as far as instructions go is one list of them
 pub same_insns : (firsts seconds : List Insn) (rest others : List ℕ) → AllValid firsts → AllValid seconds → NoneBegins rest
-    → NoneBegins others → spelled firsts ++ rest ≡ spelled seconds ++ others → firsts ≡ seconds
+    → NoneBegins others → spelled_bytes firsts ++ rest ≡ spelled_bytes seconds ++ others → firsts ≡ seconds
 unfolding NoneBegins
 same_insns [] [] rest others valid valid' none none' same = refl
 same_insns [] (second ∷ seconds) rest others valid valid' none none' same =
@@ -47,16 +48,16 @@ same_insns [] (second ∷ seconds) rest others valid valid' none none' same =
 same_insns (first ∷ firsts) [] rest others valid valid' none none' same =
     absurd (none' first (subst (λ (bytes : List ℕ). BeginsWith bytes first) same (first_begins first firsts rest valid.0)))
 same_insns (first ∷ firsts) (second ∷ seconds) rest others valid valid' none none' same =
-    let whole : List ℕ = spelled (second ∷ seconds) ++ others in
+    let whole : List ℕ = spelled_bytes (second ∷ seconds) ++ others in
     let is : first ≡ second =
     one_begins whole first second
     (subst (λ (bytes : List ℕ). BeginsWith bytes first) same (first_begins first firsts rest valid.0))
     (first_begins second seconds others valid'.0) in
-    let fronts : spelling first ++ (spelled firsts ++ rest) ≡ spelling first ++ (spelled seconds ++ others) =
-    sym (append_assoc (spelling first) (spelled firsts) rest)
+    let fronts : spelling first ++ (spelled_bytes firsts ++ rest) ≡ spelling first ++ (spelled_bytes seconds ++ others) =
+    sym (append_assoc (spelling first) (spelled_bytes firsts) rest)
     ∙ same
-    ∙ append_assoc (spelling second) (spelled seconds) others
-    ∙ ap (λ (insn : Insn). spelling insn ++ (spelled seconds ++ others)) (sym is) in
+    ∙ append_assoc (spelling second) (spelled_bytes seconds) others
+    ∙ ap (λ (insn : Insn). spelling insn ++ (spelled_bytes seconds ++ others)) (sym is) in
     let behind : firsts ≡ seconds =
     same_insns firsts seconds rest others valid.1 valid'.1 none none' (append_cancel_left (spelling first) _ _ fronts) in
     λ i. is i ∷ behind i
@@ -65,8 +66,8 @@ same_insns (first ∷ firsts) (second ∷ seconds) rest others valid valid' none
 
 pub one_listed : OneListing
 one_listed text first second (insns, valid, whole, starts) (insns', valid', whole', starts') =
-    let fronts : spelled insns ++ [] ≡ spelled insns' ++ [] =
-    append-nil (spelled insns) ∙ sym whole ∙ whole' ∙ sym (append-nil (spelled insns')) in
+    let fronts : spelled_bytes insns ++ [] ≡ spelled_bytes insns' ++ [] =
+    append-nil (spelled_bytes insns) ∙ sym whole ∙ whole' ∙ sym (append-nil (spelled_bytes insns')) in
     let same : insns ≡ insns' = same_insns insns insns' [] [] valid valid' nothing_begins nothing_begins fronts in
     starts ∙ ap (starts_from text_address) same ∙ sym starts'
 
@@ -74,15 +75,16 @@ pub one_place : OnePlace
 unfolding NoneBegins
 one_place text first second (insns, rest, valid, whole, stuck, place) (insns', rest', valid', whole', stuck', place') =
     let same : insns ≡ insns' = same_insns insns insns' rest rest' valid valid' stuck.1 stuck'.1 (sym whole ∙ whole') in
-    place ∙ ap (λ (list : List Insn). text_address + length (spelled list)) same ∙ sym place'
+    place ∙ ap (λ (list : List Insn). text_address + length (spelled_bytes list)) same ∙ sym place'
 
 pub listed_apart : ListedApart
 unfolding NoneBegins
 listed_apart text starts at (insns, valid, whole, starts_are) (insns', rest, valid', whole', stuck, place) =
-    let fronts : spelled insns ++ [] ≡ spelled insns' ++ rest = append-nil (spelled insns) ∙ sym whole ∙ whole' in
+    let fronts : spelled_bytes insns ++ [] ≡ spelled_bytes insns' ++ rest =
+          append-nil (spelled_bytes insns) ∙ sym whole ∙ whole' in
     let same : insns ≡ insns' = same_insns insns insns' [] rest valid valid' nothing_begins stuck.1 fronts in
     let none : [] ≡ rest =
-    append_cancel_left (spelled insns') [] rest (ap (λ (list : List Insn). spelled list ++ []) (sym same) ∙ fronts) in
+    append_cancel_left (spelled_bytes insns') [] rest (ap (λ (list : List Insn). spelled_bytes list ++ []) (sym same) ∙ fronts) in
     omega (arith, stuck.0, ap length none)
 
 -- each start is behind the one before

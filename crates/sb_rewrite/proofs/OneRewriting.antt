@@ -5,7 +5,7 @@ use Rattle.sb_insn.specs.declared.insn.Insn.{Insn}
 use Rattle.sb_scan.specs.Pattern.{HasFirstPatternAt}
 use Rattle.sb_rewrite.specs.declared.refusal.RewriteRefusal.{RewriteRefusal}
 use Rattle.sb_rewrite.specs.declared.refusal.RewriteRefusal.TheVariants.{Undecoded, BadTarget, Unmovable, AreaFull, Left, Memory}
-use Rattle.sb_rewrite.specs.Listing.{text_address, spelled, starts_from, IsUndecodedAt}
+use Rattle.sb_rewrite.specs.Listing.{text_address, spelled_bytes, starts_from, IsUndecodedAt}
 use Rattle.sb_rewrite.specs.Placing.{Place, places, area_address}
 use Rattle.sb_rewrite.specs.Output.{Output, output, starts_of}
 use Rattle.sb_rewrite.specs.Rewriting.{HasBadTarget, IsUnmovable, EndsBehindArea, NoneOf, IsFirstAt, ArePlaces, IsFree, IsLeftAt, Rewrites, OneRewriting}
@@ -14,8 +14,8 @@ use Rattle.sb_rewrite.proofs.FirstAt.{not_first, one_first}
 
 pub one_places : (text : List ℕ) (first second : List Place) → ArePlaces text first → ArePlaces text second → first ≡ second
 one_places text first second one other =
-    let fronts : spelled one.insns ++ [] ≡ spelled other.insns ++ [] =
-    append-nil (spelled one.insns) ∙ sym one.whole ∙ other.whole ∙ sym (append-nil (spelled other.insns)) in
+    let fronts : spelled_bytes one.insns ++ [] ≡ spelled_bytes other.insns ++ [] =
+    append-nil (spelled_bytes one.insns) ∙ sym one.whole ∙ other.whole ∙ sym (append-nil (spelled_bytes other.insns)) in
     let same : one.insns ≡ other.insns =
     same_insns one.insns other.insns [] [] one.valid other.valid nothing_begins nothing_begins fronts in
     one.places_are ∙ ap (λ (insns : List Insn). places text insns) same ∙ sym other.places_are

@@ -3,7 +3,7 @@ use Rattle.std.proofs.Common.{◌≡◌, ℕ, ◌+◌, List, [], ◌∷◌, ◌+
 use Rattle.std.specs.Prelude.{flat_map}
 use Rattle.sb_insn.specs.declared.insn.Insn.{Insn}
 use Rattle.sb_insn.specs.Spelling.{spelling}
-use Rattle.sb_rewrite.specs.Listing.{text_address, spelled, starts_from}
+use Rattle.sb_rewrite.specs.Listing.{text_address, spelled_bytes, starts_from}
 use Rattle.sb_rewrite.specs.Placing.{Place, place, places_from, places, area_address}
 use Rattle.sb_rewrite.specs.Output.{area_bytes, starts_of}
 
@@ -21,7 +21,7 @@ slots_size of_text = length (flat_map area_bytes of_text)
 
 -- instructions behind others begin where those end, and so do their slots
 pub places_append : (text : List ℕ) (at slot : ℕ) (insns others : List Insn) → places_from text at slot (insns ++ others)
-    ≡ places_from text at slot insns ++ places_from text (at + length (spelled insns))
+    ≡ places_from text at slot insns ++ places_from text (at + length (spelled_bytes insns))
     (slot + slots_size (places_from text at slot insns)) others
 unfolding places_from
 places_append text at slot [] others =
@@ -33,8 +33,8 @@ places_append text at slot (insn ∷ insns) others =
     let next : ℕ = at + length (spelling insn) in
     let next_slot : ℕ = slot + length (area_bytes first) in
     let later : List Place = places_from text next next_slot insns in
-    let here : next + length (spelled insns) ≡ at + length (spelling insn ++ spelled insns) =
-    omega (arith, length-append (spelling insn) (spelled insns)) in
+    let here : next + length (spelled_bytes insns) ≡ at + length (spelling insn ++ spelled_bytes insns) =
+    omega (arith, length-append (spelling insn) (spelled_bytes insns)) in
     let there : next_slot + slots_size later ≡ slot + length (area_bytes first ++ flat_map area_bytes later) =
     omega (arith, length-append (area_bytes first) (flat_map area_bytes later)) in
     ap (λ (list : List Place). first ∷ list) (places_append text next next_slot insns others)
@@ -42,7 +42,7 @@ places_append text at slot (insn ∷ insns) others =
 
 -- the place of an instruction behind others
 abbrev pub here : List ℕ → List Insn → Insn → Place
-here text done insn = place text (text_address + length (spelled done)) (area_address + slots_size (places text done)) insn
+here text done insn = place text (text_address + length (spelled_bytes done)) (area_address + slots_size (places text done)) insn
 
 pub here_among : (text : List ℕ) (done : List Insn) (insn : Insn) (others : List Insn)
     → (behind : List Place) × (places text (done ++ insn ∷ others) ≡ places text done ++ here text done insn ∷ behind)

@@ -11,7 +11,7 @@ use Rattle.sb_rewrite.specs.declared.edit.Edit.{Edit}
 use Rattle.sb_rewrite.specs.declared.edit.Move.{Move}
 use Rattle.sb_rewrite.specs.declared.front.Front.{Front}
 use Rattle.sb_rewrite.specs.declared.target.Jump.{Jump}
-use Rattle.sb_rewrite.specs.Listing.{text_address, spelled, starts_from}
+use Rattle.sb_rewrite.specs.Listing.{text_address, spelled_bytes, starts_from}
 use Rattle.sb_rewrite.specs.Target.{direct_target}
 use Rattle.sb_rewrite.specs.Placing.{Place, place, places_from, places, area_address}
 use Rattle.sb_rewrite.specs.Output.{Output, starts_of, text_bytes, area_bytes, edits_of, moves_of}
@@ -64,7 +64,7 @@ form_asks_here law text rest front size is some near =
     near_free law front.insn front.at is.valid low high near
 
 module _ (text rest starts : List ℕ) (partway : Partway text rest starts) (front : Front) (is : IsFront text rest front) where
-  pub stands_here : front.at ≡ text_address + length (spelled partway.insns)
+  pub stands_here : front.at ≡ text_address + length (spelled_bytes partway.insns)
   stands_here = is.here ∙ ap (λ (size : ℕ). text_address + size) (place_of text rest partway.insns partway.whole)
 
   -- what holds of it, and of none before it, holds of it first
@@ -90,7 +90,7 @@ pub next_is : (text rest : List ℕ) (draft : Output) (jumps : List Jump) (front
     → IsFront text rest front
     → place text front.at (area_address + length draft.area) front.insn ≡ here text so_far.partway.insns front.insn
 next_is text rest draft jumps front so_far is i =
-    let at : front.at ≡ text_address + length (spelled so_far.partway.insns) =
+    let at : front.at ≡ text_address + length (spelled_bytes so_far.partway.insns) =
     stands_here text rest draft.starts so_far.partway front is in
     let slot : area_address + length draft.area ≡ area_address + slots_size (places text so_far.partway.insns) =
     ap (λ (area : List ℕ). area_address + length area) so_far.made.area in

@@ -7,7 +7,7 @@ use Rattle.sb_insn.specs.Spelling.{spelling}
 use Rattle.sb_insn.specs.Grammar.{IsValid, BeginsWith}
 use Rattle.sb_decode.proofs.Exact.{one_begins}
 use Rattle.sb_rewrite.specs.declared.front.Front.{Front}
-use Rattle.sb_rewrite.specs.Listing.{text_address, spelled, AllValid}
+use Rattle.sb_rewrite.specs.Listing.{text_address, spelled_bytes, AllValid}
 use Rattle.sb_rewrite.specs.Placing.{Place, places}
 use Rattle.sb_rewrite.specs.Rewriting.{ArePlaces}
 use Rattle.sb_rewrite.specs.Turns.{IsFront}
@@ -16,10 +16,10 @@ use Rattle.sb_rewrite.proofs.OneListing.{some_spelling}
 -- the text's instructions are these and more, which spell its rest
 pub record Reads (text rest : List ℕ) (done more : List Insn) : Type 0 where
   pub valid : AllValid (done ++ more)
-  pub whole : text ≡ spelled (done ++ more)
-  pub rest_is : rest ≡ spelled more
+  pub whole : text ≡ spelled_bytes (done ++ more)
+  pub rest_is : rest ≡ spelled_bytes more
 
-pub nothing_read : (text : List ℕ) (insns : List Insn) → AllValid insns → text ≡ spelled insns → Reads text text [] insns
+pub nothing_read : (text : List ℕ) (insns : List Insn) → AllValid insns → text ≡ spelled_bytes insns → Reads text text [] insns
 nothing_read text insns valid whole = record { valid = valid; whole = whole; rest_is = whole }
 
 -- the places of the text's instructions
@@ -29,10 +29,10 @@ placed text rest done more reads = record { insns = done ++ more; valid = reads.
 
 -- where the rest begins
 pub rest_begins : (text rest : List ℕ) (done more : List Insn) → Reads text rest done more
-    → length text - length rest ≡ length (spelled done)
+    → length text - length rest ≡ length (spelled_bytes done)
 rest_begins text rest done more reads =
-    let size : length text ≡ length (spelled done) + length (spelled more) =
-    ap length (reads.whole ∙ flat_map-append spelling done more) ∙ length-append (spelled done) (spelled more) in
+    let size : length text ≡ length (spelled_bytes done) + length (spelled_bytes more) =
+    ap length (reads.whole ∙ flat_map-append spelling done more) ∙ length-append (spelled_bytes done) (spelled_bytes more) in
     omega (arith, ap length reads.rest_is)
 
 valid_first : (done : List Insn) (insn : Insn) (others : List Insn) → AllValid (done ++ insn ∷ others) → IsValid insn
@@ -45,7 +45,7 @@ pub never_stuck : (text rest : List ℕ) (done more : List Insn) → Reads text 
 never_stuck text rest done [] reads some none = omega (arith, ap length reads.rest_is)
 never_stuck text rest done (insn ∷ others) reads some none =
     let valid : IsValid insn = valid_first done insn others reads.valid in
-    none insn (valid, (spelled others, reads.rest_is))
+    none insn (valid, (spelled_bytes others, reads.rest_is))
 
 -- what reading one more instruction gives
 pub record Turn (text rest : List ℕ) (done more : List Insn) (front : Front) : Type 0 where
@@ -53,7 +53,7 @@ pub record Turn (text rest : List ℕ) (done more : List Insn) (front : Front) :
   pub more_is : more ≡ front.insn ∷ others
   pub reads : Reads text front.rest.now (done ++ front.insn ∷ []) others
   pub all : (done ++ front.insn ∷ []) ++ others ≡ done ++ more
-  pub here : front.at ≡ text_address + length (spelled done)
+  pub here : front.at ≡ text_address + length (spelled_bytes done)
 
 next_read : (text rest behind : List ℕ) (done : List Insn) (insn : Insn) (others : List Insn)
     → Reads text rest done (insn ∷ others) → rest ≡ spelling insn ++ behind → Reads text behind (done ++ insn ∷ []) others
@@ -61,8 +61,8 @@ next_read text rest behind done insn others reads parts =
     let all : done ++ insn ∷ others ≡ (done ++ insn ∷ []) ++ others = sym (append_assoc done (insn ∷ []) others) in
     record {
       valid = subst (λ (list : List Insn). AllValid list) all reads.valid;
-      whole = reads.whole ∙ ap (λ (list : List Insn). spelled list) all;
-      rest_is = append_cancel_left (spelling insn) behind (spelled others) (sym parts ∙ reads.rest_is);
+      whole = reads.whole ∙ ap (λ (list : List Insn). spelled_bytes list) all;
+      rest_is = append_cancel_left (spelling insn) behind (spelled_bytes others) (sym parts ∙ reads.rest_is);
     }
 
 pub turn : (text rest : List ℕ) (done more : List Insn) (front : Front) → Reads text rest done more → IsFront text rest front
@@ -77,7 +77,7 @@ turn text rest done [] front reads is =
 turn text rest done (first ∷ others) front reads is =
     let valid : IsValid first = valid_first done first others reads.valid in
     let same : first ≡ front.insn =
-    one_begins rest first front.insn (valid, (spelled others, reads.rest_is)) (is.valid, (front.rest.now, is.parts)) in
+    one_begins rest first front.insn (valid, (spelled_bytes others, reads.rest_is)) (is.valid, (front.rest.now, is.parts)) in
     let reads_it : Reads text rest done (front.insn ∷ others) =
     subst (λ (insn : Insn). Reads text rest done (insn ∷ others)) same reads in
     record {
@@ -92,12 +92,13 @@ turn text rest done (first ∷ others) front reads is =
 pub all_read : (text rest : List ℕ) (done more : List Insn) → Reads text rest done more → length rest ≡ 0 → more ≡ []
 all_read text rest done [] reads none = refl
 all_read text rest done (insn ∷ others) reads none =
-    absurd (omega (arith, some_spelling insn, ap length reads.rest_is ∙ length-append (spelling insn) (spelled others)))
+    absurd (omega (arith, some_spelling insn, ap length reads.rest_is ∙ length-append (spelling insn) (spelled_bytes others)))
 
 -- ---- a front of a text
 
 -- the instructions of a text begin with those that spell a front of it
-goes_on : (done insns : List Insn) (rest : List ℕ) → AllValid done → AllValid insns → spelled insns ≡ spelled done ++ rest
+goes_on : (done insns : List Insn) (rest : List ℕ) → AllValid done → AllValid insns
+    → spelled_bytes insns ≡ spelled_bytes done ++ rest
     → (more : List Insn) × (insns ≡ done ++ more)
 goes_on [] insns rest valid valid' same = (insns, refl)
 goes_on (first ∷ done) [] rest valid valid' same =
@@ -105,36 +106,38 @@ goes_on (first ∷ done) [] rest valid valid' same =
       arith,
       some_spelling first,
       ap length same,
-      length-append (spelling first ++ spelled done) rest,
-      length-append (spelling first) (spelled done),
+      length-append (spelling first ++ spelled_bytes done) rest,
+      length-append (spelling first) (spelled_bytes done),
     ))
 goes_on (first ∷ done) (insn ∷ insns) rest valid valid' same =
-    let parts : spelled (insn ∷ insns) ≡ spelling first ++ (spelled done ++ rest) =
-    same ∙ append_assoc (spelling first) (spelled done) rest in
+    let parts : spelled_bytes (insn ∷ insns) ≡ spelling first ++ (spelled_bytes done ++ rest) =
+    same ∙ append_assoc (spelling first) (spelled_bytes done) rest in
     let is : insn ≡ first =
-    one_begins (spelled (insn ∷ insns)) insn first (valid'.0, (spelled insns, refl)) (
+    one_begins (spelled_bytes (insn ∷ insns)) insn first (valid'.0, (spelled_bytes insns, refl)) (
       valid.0,
-      (spelled done ++ rest, parts),
+      (spelled_bytes done ++ rest, parts),
     ) in
-    let behind : spelled insns ≡ spelled done ++ rest =
-    append_cancel_left (spelling first) (spelled insns) (spelled done ++ rest)
-    (ap (λ (one : Insn). spelling one ++ spelled insns) (sym is) ∙ parts) in
+    let behind : spelled_bytes insns ≡ spelled_bytes done ++ rest =
+    append_cancel_left (spelling first) (spelled_bytes insns) (spelled_bytes done ++ rest)
+    (ap (λ (one : Insn). spelling one ++ spelled_bytes insns) (sym is) ∙ parts) in
     let later = goes_on done insns rest valid.1 valid'.1 behind in
     (later.0, λ i. is i ∷ later.1 i)
 
 -- so a text that is listed is read so far
-pub read_so_far : (text rest : List ℕ) (done : List Insn) (of_text : List Place) → AllValid done → text ≡ spelled done ++ rest
+pub read_so_far : (text rest : List ℕ) (done : List Insn) (of_text : List Place) → AllValid done
+    → text ≡ spelled_bytes done ++ rest
     → ArePlaces text of_text
     → (more : List Insn) × Reads text rest done more × (of_text ≡ places text (done ++ more))
 read_so_far text rest done of_text valid front are =
     let found = goes_on done are.insns rest valid are.valid (sym are.whole ∙ front) in
-    let whole : text ≡ spelled (done ++ found.0) = are.whole ∙ ap (λ (list : List Insn). spelled list) found.1 in (
+    let whole : text ≡ spelled_bytes (done ++ found.0) = are.whole ∙ ap (λ (list : List Insn). spelled_bytes list) found.1 in (
       found.0,
       record {
         valid = subst (λ (list : List Insn). AllValid list) found.1 are.valid;
         whole = whole;
         rest_is =
-            append_cancel_left (spelled done) rest (spelled found.0) (sym front ∙ whole ∙ flat_map-append spelling done found.0);
+            append_cancel_left (spelled_bytes done) rest (spelled_bytes found.0) (sym front ∙ whole
+                ∙ flat_map-append spelling done found.0);
       },
       are.places_are ∙ ap (λ (list : List Insn). places text list) found.1,
     )

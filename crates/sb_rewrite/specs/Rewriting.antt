@@ -6,7 +6,7 @@ use Rattle.sb_forms.specs.declared.answer.Form.TheVariants as form
 use Rattle.sb_scan.specs.Pattern.{HasNoPattern, HasFirstPatternAt}
 use Rattle.sb_rewrite.specs.declared.refusal.RewriteRefusal.{RewriteRefusal}
 use Rattle.sb_rewrite.specs.declared.refusal.RewriteRefusal.TheVariants.{Undecoded, BadTarget, Unmovable, AreaFull, Left, Memory}
-use Rattle.sb_rewrite.specs.Listing.{text_address, spelled, AllValid, IsUndecodedAt}
+use Rattle.sb_rewrite.specs.Listing.{text_address, spelled_bytes, AllValid, IsUndecodedAt}
 use Rattle.sb_rewrite.specs.Target.{direct_target, IsBadTarget}
 use Rattle.sb_rewrite.specs.Placing.{Place, slot_bytes, places, area_address, area_end}
 use Rattle.sb_rewrite.specs.Output.{Output, output, starts_of, RunsAt}
@@ -47,7 +47,7 @@ pub record IsFirstAt (Holds : Place → Type 0) (places : List Place) (at : ℕ)
 pub record ArePlaces (text : List ℕ) (of_text : List Place) : Type 0 where
   pub insns : List Insn
   pub valid : AllValid insns
-  pub whole : text ≡ spelled insns
+  pub whole : text ≡ spelled_bytes insns
   pub places_are : of_text ≡ places text insns
 
 -- each direct jump and call leads where it may

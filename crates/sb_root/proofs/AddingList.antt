@@ -11,7 +11,7 @@ use Rattle.sb_memory.proofs.Changes.{same_outside_cleared}
 use Rattle.sb_memory.proofs.Words.{byte_of_cleared}
 use Rattle.sb_memory.specs.declared.address.Frame.{Frame}
 use Rattle.std.proofs.lemmas.List.Elements.{Contains-get_or}
-use Rattle.sb_frames.specs.Book.{Book, IsLowestFree, holder, with_holder}
+use Rattle.sb_frames.specs.Book.{Book, IsLowestFree, holder, with_holder, free_count}
 use Rattle.sb_frames.specs.declared.kind.Kind.TheVariants.{EptpList}
 use Rattle.sb_root.specs.declared.root_kernel.RootKernel.{RootKernel}
 use Rattle.sb_root.specs.declared.view.View.{View}
@@ -172,15 +172,17 @@ pub record ListAdded (root root' : RootKernel) (book book' : Book) (old new : Ph
 
 pub list_added : (root root' : RootKernel) (book book' : Book) (old new : Physical) (thread : ℕ) (frame : Frame)
     → Stands root old → IsBooked root book old → thread < 32 → eptp_list_frame root thread ≡ None → IsLowestFree book frame.0
-    → book' ≡ with_holder book frame.0 (Some (EptpList, thread)) → new ≡ with_bytes old (clear_frame old.bytes frame.0)
+    → book' ≡ with_holder book frame.0 (Some (EptpList, thread)) → free_count book' + 1 ≡ free_count book
+    → new ≡ with_bytes old (clear_frame old.bytes frame.0)
     → root' ≡ with_list root thread frame
     → ListAdded root root' book book' old new thread frame
-list_added root root' book book' old new thread frame stands booked small none lowest taken written kept =
+list_added root root' book book' old new thread frame stands booked small none lowest taken count written kept =
     let free : IsFree book frame.0 = (lowest.inside, lowest.free) in
     rw (taken, written, kept) (record {
       added = record {
         free = free;
         taken = refl;
+        count = subst (λ (after : Book). free_count after + 1 ≡ free_count book) taken count;
         kept = refl;
         zeros = zeros root book old thread frame stands booked small none free;
         same = same root book old thread frame stands booked small none free;

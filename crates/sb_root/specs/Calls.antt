@@ -46,6 +46,7 @@ pub record IsAddedList (root root' : RootKernel) (book book' : Book) (old new : 
     (frame : Frame) : Type 0 where
   pub free : IsFree book frame.0
   pub taken : book' ≡ with_holder book frame.0 (Some (EptpList, thread))
+  pub count : free_count book' + 1 ≡ free_count book
   pub kept : root' ≡ with_list root thread frame
   pub zeros : IsZeroed new frame.0
   pub same : SameOutside (frame.0 ∷ []) old new

@@ -23,7 +23,7 @@ use Rattle.sb_trace.specs.SyscallRegister.{stack_bytes, server_stack_page, with_
 use Rattle.sb_trace.specs.Windows.{name_at, is_within}
 use Rattle.sb_state.proofs.Names.{name_other}
 use Rattle.sb_state.proofs.PageLists.{found_other}
-use Rattle.sb_trace.proofs.KeptPages.{zeros_size}
+use Rattle.sb_state.proofs.Start.{zeros_size}
 use Rattle.sb_shows.specs.Placement.{Placement, is_own}
 use Rattle.sb_shows.specs.Keeping.{Keeps}
 use Rattle.sb_shows.specs.Windows.{page_number}

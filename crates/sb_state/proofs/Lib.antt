@@ -13,4 +13,5 @@ pub mod WordBytes
 pub mod WholeWord
 pub mod Writing
 pub mod Pattern
+pub mod Start
 pub mod Threads

@@ -11,3 +11,4 @@ pub mod Places
 pub mod Reach
 pub mod Spots
 pub mod ThreadMemory
+pub mod Start

@@ -8,7 +8,7 @@ use Rattle.sb_memory.specs.Words.{put_word, clear_frame}
 use Rattle.sb_memory.proofs.Words.{byte_of_cleared, length_clear_frame}
 use Rattle.sb_memory.proofs.Changes.{same_outside_word, same_outside_cleared, same_outside_then}
 use Rattle.sb_trace.specs.PageWords.{zeros}
-use Rattle.sb_trace.proofs.KeptPages.{zeros_size}
+use Rattle.sb_state.proofs.Start.{zeros_size}
 use Rattle.sb_memory.proofs.Words.{word_held}
 
 zero_at : (offset : ℕ) → offset < 4096 → get_or zeros offset 0 ≡ 0

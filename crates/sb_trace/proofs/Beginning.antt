@@ -17,14 +17,13 @@ use Rattle.sb_state.specs.declared.state.Flight.{Flight}
 use Rattle.sb_state.specs.PageName.{same_name, mode_of, permits}
 use Rattle.sb_state.specs.State.{find_page, thread_at, no_thread, flight_at, page_with}
 use Rattle.sb_state.specs.PageWords.{zeros}
-use Rattle.sb_trace.specs.Start.{ProcessImage, ThreadEntry, page_padded, page_of, padded_page, page_count, padded_pages, heap_page, heap_pages, process_pages, home_words, thread_pages, trampoline_pages, images_pages, threads_pages, start_threads, start_state}
+use Rattle.sb_state.specs.Start.{ProcessImage, ThreadEntry, page_padded, page_of, padded_page, page_count, padded_pages, heap_page, heap_pages, process_pages, home_words, thread_pages, trampoline_pages, images_pages, threads_pages, start_threads, start_state}
 use Rattle.sb_trace.specs.Code.{fetched_byte, code_byte, HasNoCodePattern}
 use Rattle.sb_trace.specs.Sound.{HasPage, ArePagesSound, HasView, IsFlightSound}
 use Rattle.sb_trace.specs.Laws.{HasCleanCode, StartIsSound}
 use Rattle.sb_state.proofs.Names.{name_same}
 use Rattle.sb_state.proofs.PageLists.{either, found_added}
-use Rattle.sb_trace.proofs.CodePages.{EachPage, found_each}
-use Rattle.sb_trace.proofs.KeptPages.{zeros_size, record_size, each_from}
+use Rattle.sb_state.proofs.Start.{zeros_size, record_size, EachPage, found_each, each_both, each_from}
 
 -- ---- bytes that fill pages
 
@@ -83,11 +82,6 @@ StartsWith images _ bytes = Unit {0}
 
 abbrev IsStartPage : List ProcessImage → Page → Type 0
 IsStartPage images page = (page.executable ≡ false) × (length page.bytes ≡ 4096) × StartsWith images page.name page.bytes
-
-each_both : (Claim : Page → Type 0) (first second : List Page) → EachPage Claim first → EachPage Claim second
-    → EachPage Claim (first ++ second)
-each_both Claim [] second one other = other
-each_both Claim (page ∷ first) second one other = (one.0, each_both Claim first second one.1 other)
 
 -- the image is that of the process
 abbrev IsImageAt : List ProcessImage → ℕ → ProcessImage → Type 0

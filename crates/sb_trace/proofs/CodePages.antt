@@ -20,6 +20,7 @@ use Rattle.sb_trace.specs.Changes.{IsClosed, Shape, shape_of, WritesOpen, with_f
 use Rattle.sb_state.proofs.Cases.{clash, same_found}
 use Rattle.sb_state.proofs.Names.{name_same, name_other}
 use Rattle.sb_state.proofs.PageLists.{with_bytes, found_other, found_same, either, found_added}
+use Rattle.sb_state.proofs.Start.{EachPage, found_each}
 
 -- ---- where the same bytes may be fetched
 
@@ -203,25 +204,6 @@ pool_sound state process word sound =
     }
 
 -- ---- pages that are added
-
--- each page of a list
-abbrev pub EachPage : (Page → Type 0) → List Page → Type 0
-EachPage Claim [] = Unit {0}
-EachPage Claim (page ∷ pages) = Claim page × EachPage Claim pages
-
-found_by : (Claim : Page → Type 0) (test : Bool) (first page : Page) (found : Option Page) → Claim first
-    → (found ≡ Some page → Claim page)
-    → (if test then Some first else found) ≡ Some page → Claim page
-found_by Claim true first page found one more is = let same : first ≡ page = cc in subst Claim same one
-found_by Claim false first page found one more is = more is
-
--- what is said of each page is said of the one that is found
-pub found_each : (Claim : Page → Type 0) (pages : List Page) (name : PageName) (page : Page) → EachPage Claim pages
-    → find_page pages name ≡ Some page → Claim page
-found_each Claim [] name page each is = absurd cc
-found_each Claim (first ∷ pages) name page each is =
-    found_by Claim (same_name first.name name) first page (find_page pages name) each.0
-    (found_each Claim pages name page each.1) is
 
 -- a name of no code
 abbrev pub IsData : PageName → Type 0

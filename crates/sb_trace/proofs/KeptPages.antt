@@ -1,40 +1,26 @@
 -- Each step keeps what holds of pages.
-use Rattle.std.proofs.Common.{◌≡◌, ◌∙◌, sym, subst, ℕ, zero, suc, ◌+◌, ◌*◌, ◌%◌, Bool, true, false, List, [], ◌∷◌, ◌==◌, length, refl, inl, inr}
+use Rattle.std.proofs.Common.{◌≡◌, ◌∙◌, sym, subst, ℕ, ◌*◌, ◌%◌, Bool, true, false, List, ◌==◌, length, inl, inr}
 use Rattle.std.specs.Prelude.{if◌then◌else◌}
-use Rattle.std.proofs.lemmas.List.{length-replicate}
 use Rattle.sb_memory.specs.Words.{put_word}
 use Rattle.sb_memory.proofs.Words.{length_put_word}
 use Rattle.sb_tramp.specs.declared.record_words.RecordWords.{RecordWords}
-use Rattle.sb_tramp.specs.Record.{words_of}
 use Rattle.sb_trace.specs.declared.event.Event.{Event}
 use Rattle.sb_trace.specs.declared.event.Event.TheVariants.{Step as StepLine, Sys, Entered}
 use Rattle.sb_state.specs.declared.page.Page.{Page}
 use Rattle.sb_state.specs.declared.page.PageName.TheVariants.{Pool}
 use Rattle.sb_state.specs.State.{State, thread_at}
-use Rattle.sb_state.specs.PageWords.{zeros, words_put}
+use Rattle.sb_state.specs.PageWords.{zeros}
 use Rattle.sb_state.specs.Windows.{process_now}
-use Rattle.sb_trace.specs.Start.{pages_from, record_bytes}
+use Rattle.sb_state.specs.Start.{pages_from}
 use Rattle.sb_trace.specs.SyscallRegister.{stack_bytes, server_stack_page}
 use Rattle.sb_trace.specs.SyscallBind.{buffer_page, binding_pages}
 use Rattle.sb_trace.specs.Sound.{ArePagesSound}
 use Rattle.sb_trace.specs.Changes.{OnlyPages, CallChanges, LineChanges, with_first_word}
-use Rattle.sb_trace.proofs.CodePages.{EachPage, IsDataPage, written_sound, pool_sound, added_sound}
+use Rattle.sb_state.proofs.Start.{zeros_size, record_size, EachPage, each_from}
+use Rattle.sb_trace.proofs.CodePages.{IsDataPage, written_sound, pool_sound, added_sound}
 use Rattle.sb_trace.proofs.HeapCode.{mode_sound}
 
 -- ---- sizes of new pages
-
-pub zeros_size : length zeros ≡ 4096
-unfolding zeros
-zeros_size = length-replicate {A = ℕ} 4096 0
-
-words_size : (words bytes : List ℕ) (place : ℕ) → length (words_put bytes place words) ≡ length bytes
-words_size [] bytes place = refl
-words_size (word ∷ words) bytes place =
-    words_size words (put_word bytes place word) (place + 8) ∙ length_put_word bytes place word
-
-pub record_size : (words : RecordWords) → length (record_bytes words) ≡ 4096
-unfolding record_bytes
-record_size words = words_size (words_of words) zeros 0 ∙ zeros_size
 
 size_if : (test : Bool) (one other : List ℕ) → length one ≡ 4096 → length other ≡ 4096
     → length (if test then one else other) ≡ 4096
@@ -48,11 +34,6 @@ stack_size page =
     ∙ zeros_size) zeros_size
 
 -- ---- new pages
-
-pub each_from : (Claim : Page → Type 0) (page : ℕ → Page) (first count : ℕ) → ((number : ℕ) → Claim (page number))
-    → EachPage Claim (pages_from page first count)
-each_from Claim page first zero all = tt
-each_from Claim page first (suc count) all = (all first, each_from Claim page (first + 1) count all)
 
 stacks_are_data : (process count : ℕ) → EachPage IsDataPage (pages_from (server_stack_page process) 0 count)
 stacks_are_data process count = each_from IsDataPage (server_stack_page process) 0 count (λ page. (tt, stack_size page))

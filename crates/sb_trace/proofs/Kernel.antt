@@ -14,7 +14,7 @@ use Rattle.sb_state.specs.declared.state.Thread.{Thread}
 use Rattle.sb_state.specs.State.{State, thread_at, with_thread, with_regs, with_end, with_view, process_at, registration_at, with_contents}
 use Rattle.sb_state.specs.PageWords.{with_word}
 use Rattle.sb_state.specs.Registers.{rax, rsi, rdi, eax, ecx}
-use Rattle.sb_trace.specs.Home.{Outcome, fault_outcome, faulted_home, home_address}
+use Rattle.sb_trace.specs.Home.{Outcome, fault_outcome, server_fault_regs, home_address}
 use Rattle.sb_trace.specs.KernelCall.{binding_in, pool_word, refusal_outcome, refusal_or_fault, lowest_bit, state_at_handler, entry_regs, entry_outcome, call_outcome, outcome_by_index, kernel_call, handler_in}
 use Rattle.sb_state.specs.Windows.{process_now, server_of}
 use Rattle.sb_state.specs.Pattern.{heap_pattern}
@@ -99,7 +99,7 @@ pub did_fault : (state : State) (core : ℕ) (kind : FaultKind) (address : ℕ)
 did_fault state core kind address =
     claim_if (Did state core) ((thread_at state core).view == 0) _ _
     (λ home. did_end state core (Fault kind address) (Faulted kind address) tt (λ same. same))
-    (λ away. did_home state core (ServerFault kind address) faulted_home tt (λ same. same))
+    (λ away. did_home state core (ServerFault kind address) server_fault_regs tt (λ same. same))
 
 -- ---- calls through VMFUNC
 
@@ -234,7 +234,7 @@ did_exit state core next =
       own = tt;
       view = λ given. last.view (first.view given);
     })
-    (λ away. did_home state core (ServerExit (rdi next)) faulted_home tt (λ same. same))
+    (λ away. did_home state core (ServerExit (rdi next)) server_fault_regs tt (λ same. same))
 
 -- ---- register
 

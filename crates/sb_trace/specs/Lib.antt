@@ -13,7 +13,7 @@ pub use Rattle.sb_state.specs.PageWords
 pub use Rattle.sb_state.specs.Windows
 pub use Rattle.sb_state.specs.PlainMemory
 pub use Rattle.sb_state.specs.Registers
-pub mod Start
+pub use Rattle.sb_state.specs.Start
 pub mod Home
 pub mod KernelCall
 pub mod Flight

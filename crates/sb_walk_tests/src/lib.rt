@@ -8,6 +8,8 @@
 #[cfg(test)]
 mod ept;
 #[cfg(test)]
+mod error_texts;
+#[cfg(test)]
 mod frames;
 #[cfg(test)]
 mod memory;

@@ -9,7 +9,7 @@ use Rattle.sb_scan.specs.Pattern.{HasNoPattern}
 use Rattle.sb_forms.specs.declared.answer.Form.TheVariants as form
 use Rattle.sb_forms.specs.Table.{is_vmfunc, is_add_esp_edx, replacement, form_of}
 use Rattle.sb_forms.proofs.Quiet.{IsQuiet, AreQuiet, in_place_clean}
-use Rattle.sb_rewrite.specs.Listing.{text_address, spelled, AllValid}
+use Rattle.sb_rewrite.specs.Listing.{text_address, spelled_bytes, AllValid}
 use Rattle.sb_rewrite.specs.Placing.{Place, places_from, area_address, is_after_0f}
 use Rattle.sb_rewrite.specs.Output.{output, text_bytes, area_bytes}
 use Rattle.sb_rewrite.specs.Rewriting.{NoneOf, IsUnmovable, EndsBehindArea, LeadsWell, Rewrites}
@@ -63,7 +63,7 @@ none_behind at [] = tt
 none_behind at (insn ∷ insns) = (λ is. omega (arith, is), none_behind (at + length (spelling insn)) insns)
 
 -- their bytes are those of the text
-text_kept : (at : ℕ) (insns : List Insn) → flat_map text_bytes (kept_from at insns) ≡ spelled insns
+text_kept : (at : ℕ) (insns : List Insn) → flat_map text_bytes (kept_from at insns) ≡ spelled_bytes insns
 text_kept at [] = refl
 text_kept at (insn ∷ insns) = ap (λ (rest : List ℕ). spelling insn ++ rest) (text_kept (at + length (spelling insn)) insns)
 
@@ -80,11 +80,11 @@ all_quiet [] plain = tt
 all_quiet (insn ∷ insns) plain = (plain.0.quiet, all_quiet insns plain.1)
 
 -- and so not in the text
-none_in : (insns : List Insn) → AllPlain insns → HasNoPattern (spelled insns)
-none_in insns plain = subst HasNoPattern (append-nil (spelled insns)) (in_place_clean insns (all_quiet insns plain) 0 0)
+none_in : (insns : List Insn) → AllPlain insns → HasNoPattern (spelled_bytes insns)
+none_in insns plain = subst HasNoPattern (append-nil (spelled_bytes insns)) (in_place_clean insns (all_quiet insns plain) 0 0)
 
 -- plain instructions whose jumps lead well are rewritten to themselves
-pub rewrites_kept : (text : List ℕ) (insns : List Insn) → text ≡ spelled insns → AllValid insns → AllPlain insns
+pub rewrites_kept : (text : List ℕ) (insns : List Insn) → text ≡ spelled_bytes insns → AllValid insns → AllPlain insns
     → LeadsWell (kept insns)
     → Rewrites text (Ok (output (kept insns)))
 rewrites_kept text insns whole valid plain leads = (

@@ -13,7 +13,7 @@ use Rattle.sb_insn.specs.Groups.{group_operand}
 use Rattle.sb_insn.specs.Fields.{permits, has_sib, modrm_disp}
 use Rattle.sb_forms.specs.Pieces.{opcode_alone}
 use Rattle.sb_bundle.specs.Spelling.{number_bytes}
-use Rattle.sb_rewrite.specs.Listing.{spelled, AllValid}
+use Rattle.sb_rewrite.specs.Listing.{spelled_bytes, AllValid}
 use Rattle.skybridge.specs.Generator.{server_text, client_text}
 
 -- ---- forms of instructions
@@ -86,10 +86,10 @@ client_insns server calls =
 
 -- ---- they spell the texts
 
-pub server_spelled : server_text ≡ spelled server_insns
+pub server_spelled : server_text ≡ spelled_bytes server_insns
 server_spelled = refl
 
-pub client_spelled : (server calls : ℕ) → client_text server calls ≡ spelled (client_insns server calls)
+pub client_spelled : (server calls : ℕ) → client_text server calls ≡ spelled_bytes (client_insns server calls)
 unfolding number_bytes
 client_spelled server calls = refl
 

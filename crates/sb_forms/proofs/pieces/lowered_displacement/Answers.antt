@@ -4,7 +4,7 @@ use Rattle.std.proofs.Math.Facts.{to_z-of_z}
 use Rattle.sb_insn.specs.Spelling.{number}
 use Rattle.sb_forms.specs.Holding.{holds_pattern}
 use Rattle.sb_forms.proofs.Lowered.{lowered_value}
-use Rattle.sb_forms.proofs.pieces.lowered.Goals as goal
+use Rattle.sb_forms.proofs.pieces.lowered_displacement.Goals as goal
 
 pub returns-then-number_holds_pattern : goal.returns-then-number_holds_pattern
 returns-then-number_holds_pattern c =

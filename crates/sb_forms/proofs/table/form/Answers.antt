@@ -19,4 +19,3 @@ returns-clause-no_pattern c =
     c.requires.valid
     (subst (λ site. IsSite site) c.site_of.ensures.value c.site_of.ensures.site)
     table
-    c.table_form.ensures.small

@@ -9,7 +9,7 @@ done : (c : goal.After-way_told-1)
 done c =
     list_added _ _ _ _ _ _ _ _ c.requires.stands c.requires.booked c.requires.thread c.requires.none
     c.take_free-frame.ensures.lowest
-    (rw c.from-owner.ensures at c.take_free-frame.ensures.taken) c.clear_frame.ensures.written
+    (rw c.from-owner.ensures at c.take_free-frame.ensures.taken) c.take_free-frame.ensures.fewer c.clear_frame.ensures.written
     (ap (λ (thread : ℕ). with_list c.args.self.now thread c.take_free-frame.result) c.from.ensures)
 
 pub returns-clause-added : goal.returns-clause-added

@@ -1,4 +1,4 @@
--- The state of the plain machine at its start (docs/FORMATS.md, "The start").
+-- The state at the start of images and entries (docs/FORMATS.md, "The start").
 use Rattle.std.specs.Prelude.{ℕ, zero, suc, ◌+◌, ◌-◌, ◌*◌, ◌/◌, List, [], ◌∷◌, ◌++◌, length, take, drop, map, replicate, slice_set, None}
 pub use Rattle.sb_memory.specs.Pages.{page_count}
 use Rattle.sb_insn.specs.declared.registers.Regs.{Regs}
@@ -8,11 +8,12 @@ use Rattle.sb_state.specs.declared.page.PageName.TheVariants.{Text, Area, Data, 
 use Rattle.sb_state.specs.declared.page.Page.{Page}
 use Rattle.sb_state.specs.declared.state.Thread.{Thread}
 use Rattle.sb_tramp.specs.declared.record_words.RecordWords.{RecordWords}
-use Rattle.sb_tramp.specs.Record.{words_of}
+unfoldable pub use Rattle.sb_tramp.specs.Record.{record_bytes}
 use Rattle.sb_tramp.specs.Home.{home_page}
 use Rattle.sb_tramp.specs.Server.{server_page}
-use Rattle.sb_state.specs.State.{State, Process, page_with}
-use Rattle.sb_state.specs.PageWords.{zeros, words_put}
+pub use Rattle.sb_state.specs.State.{page_with}
+use Rattle.sb_state.specs.State.{State, Process}
+use Rattle.sb_state.specs.PageWords.{zeros}
 use Rattle.sb_state.specs.Registers.{no_flags}
 
 -- what a process is made of: its rewritten text and its rewrite area, the starts of its text's instructions, its initial
@@ -74,10 +75,6 @@ save_address thread = 0x3000000 + thread * 0x8000
 -- what the record page of a home view says
 abbrev pub home_words : ℕ → ℕ → RecordWords
 home_words thread home = record { key = 0; base = 0; handler = 0; thread = thread; save = save_address thread; home = home }
-
--- a record page: its words, and zeros behind them
-unfoldable pub record_bytes : RecordWords → List ℕ
-record_bytes words = words_put zeros 0 (words_of words)
 
 -- a save page, four stack pages, and the record and the scratch page of the home view
 unfoldable pub thread_pages : ℕ → ℕ → List Page
