@@ -11,8 +11,8 @@ use Rattle.sb_exec.specs.Fetching.{Stands, FetchesOn, fetch_of}
 use Rattle.sb_exec.proofs.AtOnce.{fetched_at_once}
 use Rattle.sb_state.specs.declared.page.PageName.{PageName}
 use Rattle.sb_state.specs.declared.page.Page.{Page}
-use Rattle.sb_trace.specs.State.{State, find_page}
-use Rattle.sb_trace.specs.PlainMemory.{plain}
+use Rattle.sb_state.specs.State.{State, find_page}
+use Rattle.sb_state.specs.PlainMemory.{plain}
 use Rattle.sb_state.specs.Reach.{reached}
 use Rattle.sb_state.proofs.InPage.{byte_in_page}
 

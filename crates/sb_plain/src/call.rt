@@ -5,17 +5,16 @@
 ghost use Rattle.std.specs.Prelude.{◌≡◌, ◌<◌, ◌≤◌, ◌^◌, length};
 ghost use Rattle.sb_trace.specs.declared.event.Event.TheVariants.{Entered};
 ghost use Rattle.sb_abi.specs.Numbers.{status_number};
-ghost use Rattle.sb_trace.specs.State.{thread_at};
+ghost use Rattle.sb_state.specs.State.{thread_at};
 ghost use Rattle.sb_trace.specs.KernelCall.{binding_in, pool_word, refusal_regs, refusal_outcome, refusal_or_fault, return_outcome, entry_regs, lowest_bit, state_at_handler, entry_outcome, call_outcome, kernel_call};
 
 use crate::home::fault;
 use crate::pool::{handler_of, pool_word, set_pool_word};
-use crate::registers::{eax, ecx, zero_result};
 use sb_abi::{CallStatus, FIRST_STACK_TOP, RETURN_ADDRESS, STACK_DISTANCE};
 use sb_exec::FaultKind;
 use sb_insn::Regs;
 use sb_insn::registers::{R9, R10, RAX, RCX, RSI, RSP};
-use sb_state::{Binding, PlainState};
+use sb_state::{Binding, PlainState, eax, ecx, zero_result};
 use sb_trace::Event;
 
 /// The binding with this index.

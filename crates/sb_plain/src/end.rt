@@ -1,7 +1,7 @@
 //! The plain machine at the end of a run.
 
 ghost use Rattle.std.specs.Prelude.{◌≡◌, IfOk};
-ghost use Rattle.sb_trace.specs.State.{flight_at};
+ghost use Rattle.sb_state.specs.State.{flight_at};
 ghost use Rattle.sb_trace.specs.End.{thread_end, thread_ends, end_of};
 
 use crate::plain::Plain;

@@ -4,14 +4,13 @@
 //! one step. Before that the thread stays as it was at the VMFUNC.
 
 ghost use Rattle.std.specs.Prelude.{◌≡◌, ◌<◌, length};
-ghost use Rattle.sb_trace.specs.State.{thread_at};
+ghost use Rattle.sb_state.specs.State.{thread_at};
 ghost use Rattle.sb_trace.specs.Flight.{is_key, bound_pool, with_mask, decided_at, phase_after, next_flight, phase_outcome, landing_step, called_binding, vmfunc_outcome};
 
 use crate::call::{binding_in, kernel_call};
 use crate::pool::pool_word;
-use crate::registers::{eax, ecx};
 use sb_insn::registers::RSI;
-use sb_state::{Binding, Decision, Flight, PlainState, Thread};
+use sb_state::{Binding, Decision, Flight, PlainState, Thread, eax, ecx};
 use sb_trace::{Event, VMFUNC_PHASE};
 
 #[cfg(test)]

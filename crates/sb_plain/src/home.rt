@@ -1,7 +1,7 @@
 //! How a thread comes home, and what a fault does.
 
 ghost use Rattle.std.specs.Prelude.{◌≡◌, ◌<◌, length};
-ghost use Rattle.sb_trace.specs.State.{thread_at};
+ghost use Rattle.sb_state.specs.State.{thread_at};
 ghost use Rattle.sb_trace.specs.Home.{sent_home, fault_outcome};
 
 use sb_calls::server_fault_regs;

@@ -5,13 +5,16 @@ ghost use Rattle.sb_insn.specs.Grammar.{IsValid};
 ghost use Rattle.sb_exec.specs.Execution.{execution_of};
 ghost use Rattle.sb_exec.specs.Fetching.{FetchesOn};
 ghost use Rattle.sb_exec.specs.Rows.{row_of};
-ghost use Rattle.sb_trace.specs.PlainMemory.{plain};
+ghost use Rattle.sb_state.specs.PlainMemory.{plain};
 ghost use Rattle.sb_plain.specs.Faults.{IsFault};
 
 use sb_exec::{BusStop, Effect, execute, fetch_insn, first_insn};
 use sb_insn::{Insn, Regs};
 use sb_memory::{Access, Linear};
 use sb_state::{PlainBus, PlainState, reach};
+
+#[cfg(test)]
+mod tests;
 
 /// The instruction at an address, in a view of a thread, where it ends in the page in which it begins.
 fn fetch_in_page(state: &PlainState, thread: u32, view: u32, rip: u64) -> Option<Insn>

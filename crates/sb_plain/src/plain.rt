@@ -10,7 +10,7 @@ pub struct Plain {
 }
 
 impl Model for Plain {
-    ghost use Rattle.sb_trace.specs.State.{State};
+    ghost use Rattle.sb_state.specs.State.{State};
 
     ghost Value = { State };
 

@@ -3,8 +3,8 @@
 
 ghost use Rattle.std.specs.Prelude.{◌≡◌, ◌<◌, ◌^◌, IsSome};
 ghost use Rattle.sb_state.specs.declared.page.PageName.TheVariants.{Pool};
-ghost use Rattle.sb_trace.specs.State.{registration_at};
-ghost use Rattle.sb_trace.specs.PageWords.{with_word};
+ghost use Rattle.sb_state.specs.State.{registration_at};
+ghost use Rattle.sb_state.specs.PageWords.{with_word};
 ghost use Rattle.sb_trace.specs.KernelCall.{pool_word, handler_in};
 
 use sb_state::{PageName, PlainState, Registration};

@@ -2,7 +2,7 @@
 
 ghost use Rattle.std.specs.Prelude.{◌≡◌, IfOk, length, map};
 ghost use Rattle.std.specs.List.Sorted.{IsStrictlyIncreasing};
-ghost use Rattle.sb_trace.specs.Start.{start_process};
+ghost use Rattle.sb_state.specs.Start.{start_process};
 ghost use Rattle.sb_plain.specs.Start.{image_of, images_loaded, first_state};
 
 use crate::plain::Plain;
@@ -13,7 +13,6 @@ use sb_state::{PlainState, Process};
 use sb_tramp::KeyWords;
 use std::alloc::{AllocError, Global};
 
-mod bytes;
 mod pages;
 #[cfg(test)]
 mod tests;

@@ -2,7 +2,7 @@
 
 ghost use Rattle.std.specs.Prelude.{◌≡◌, ◌<◌, length};
 ghost use Rattle.sb_insn.specs.Grammar.{IsValid};
-ghost use Rattle.sb_trace.specs.State.{thread_at, flight_at};
+ghost use Rattle.sb_state.specs.State.{thread_at, flight_at};
 ghost use Rattle.sb_trace.specs.Flight.{vmfunc_outcome};
 ghost use Rattle.sb_trace.specs.Step.{Steps, GoesOn, RunsOn, Performs, StopsWith};
 ghost use Rattle.sb_trace.specs.OneStep.{StepsAlike};

@@ -15,7 +15,7 @@ mod tests;
 ghost use Rattle.std.specs.Prelude.{◌≡◌, ◌<◌, length};
 ghost use Rattle.sb_exec.specs.Operand.{next_rip};
 ghost use Rattle.sb_calls.specs.SyscallRegisters.{after_syscall};
-ghost use Rattle.sb_trace.specs.State.{thread_at};
+ghost use Rattle.sb_state.specs.State.{thread_at};
 ghost use Rattle.sb_trace.specs.SyscallAnswer.{state_after_call, syscall_refusal, syscall_acceptance};
 ghost use Rattle.sb_trace.specs.Syscall.{exit_outcome, outcome_by_number, syscall_outcome};
 ghost use Rattle.sb_plain.specs.Declined.{IsDeclined, LeavesAll};
@@ -43,7 +43,13 @@ fn go_on(state: &mut PlainState, core: u8, next: &Regs, answer: u64, second: u64
 }
 
 // The call is refused, with a second value.
-fn decline(state: &mut PlainState, core: u8, next: &Regs, refusal: CallRefusal, second: u64) -> Event
+fn decline(
+    state: &mut PlainState,
+    core: u8,
+    next: &Regs,
+    refusal: CallRefusal,
+    second: u64,
+) -> Event
     requires { core < length state.old.threads }
     ensures declined { (result, state.new) ≡ syscall_refusal state.old core next.now refusal second }
     ensures count { length state.new.threads ≡ length state.old.threads }

@@ -14,4 +14,5 @@ pub mod WholeWord
 pub mod Writing
 pub mod Pattern
 pub mod Start
+pub mod Filling
 pub mod Threads

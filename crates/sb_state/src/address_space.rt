@@ -5,9 +5,9 @@ ghost use Rattle.std.specs.Option.{option_and_then};
 ghost use Rattle.sb_state.specs.PageName.{permits, mode_of};
 ghost use Rattle.sb_state.specs.Windows.{server_of, process_of_view, process_now, process_shown, is_process, stack_name, buffer_name, special_name, name_at};
 
-use sb_memory::Access;
 use crate::page::{Mode, PageName};
 use crate::state::{Binding, Thread};
+use sb_memory::Access;
 
 /// The server of the binding with this index.
 fn server_of(bindings: &[Binding], index: u32) -> Option<u32>

@@ -2,8 +2,8 @@
 
 ghost use Rattle.std.specs.Prelude.{◌≡◌};
 
-use crate::read::{byte, load};
 use crate::plain_state::PlainState;
+use crate::read::{byte, load};
 use crate::write::store;
 use sb_bus::{Bus, BusStop};
 use sb_memory::{Access, Linear};

@@ -5,11 +5,11 @@ ghost use Rattle.sb_state.specs.declared.page.PageName.TheVariants.{Heap};
 ghost use Rattle.sb_state.specs.State.{find_page};
 ghost use Rattle.sb_state.specs.Pattern.{executable_bytes, bytes_before, bytes_behind, heap_pattern};
 
+use crate::page::PageName;
 use crate::pages::PAGE_SIZE;
 use crate::plain_state::PlainState;
 use sb_abi::HEAP_ADDRESS;
 use sb_scan::first_place;
-use crate::page::PageName;
 
 // The bytes of a heap page that is executable; none of another.
 fn executable_bytes(state: &PlainState, process: u32, page: u32) -> &[u8]

@@ -9,9 +9,9 @@ ghost use Rattle.sb_state.specs.PageWords.{zeros, words_put};
 ghost use Rattle.sb_state.specs.Places.{place_of, equal_names, IsIndex, IsNoted, AreWhole, AreBlank, AreKnown, known_at, KeepsKnown, Remembers};
 ghost use Rattle.sb_state.specs.Store.{with_pages, with_room, added};
 
+use crate::page::{Page, PageBytes, PageName};
 use crate::page_words::{put_word, put_words};
 use sb_memory::word;
-use crate::page::{Page, PageBytes, PageName};
 use std::alloc::{AllocError, Global};
 use std::collections::HashMap;
 use std::marker::Model;

@@ -4,8 +4,8 @@ ghost use Rattle.std.specs.Prelude.{◌≡◌, None};
 ghost use Rattle.std.specs.List.Sorted.{IsStrictlyIncreasing};
 ghost use Rattle.sb_state.specs.State.{is_listed};
 
-use sb_list::Listed;
 use crate::state::Registration;
+use sb_list::Listed;
 use std::marker::Model;
 
 /// A process: where the instructions of its text start, the number of its heap pages, and what it told as a server.

@@ -4,8 +4,8 @@ ghost use Rattle.std.specs.Prelude.{◌≡◌, ◌≤◌, ◌<◌, ◌+◌, ◌%
 ghost use Rattle.sb_bus.specs.Access.{byte_for, loaded_from};
 ghost use Rattle.sb_state.specs.PlainMemory.{plain_byte};
 
-use crate::translate::reach;
 use crate::plain_state::PlainState;
+use crate::translate::reach;
 use sb_bus::BusStop;
 use sb_memory::{Access, Linear, word};
 

@@ -3,10 +3,10 @@
 ghost use Rattle.std.specs.Prelude.{◌≡◌, ◌<◌, ◌++◌, ◌∷◌, [], length};
 ghost use Rattle.sb_state.specs.State.{thread_at, with_thread, with_regs, with_end, with_view, flight_at, with_flight};
 
-use crate::plain_state::PlainState;
-use sb_insn::Regs;
 use crate::end_kind::EndKind;
+use crate::plain_state::PlainState;
 use crate::state::{Binding, Flight, Thread};
+use sb_insn::Regs;
 
 impl PlainState {
     /// The thread of a core.

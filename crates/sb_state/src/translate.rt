@@ -6,12 +6,12 @@ ghost use Rattle.sb_state.specs.Windows.{page_by_name};
 ghost use Rattle.sb_state.specs.PlainMemory.{is_canonical};
 ghost use Rattle.sb_state.specs.Reach.{reached, reached_as, name_only};
 
+use crate::address_space::{mode_of, name_at, permits};
+use crate::page::{Page, PageName};
 use crate::pages::Pages;
 use crate::plain_state::PlainState;
-use crate::address_space::{mode_of, name_at, permits};
 use sb_bus::{BusStop, FaultKind};
 use sb_memory::{Access, Linear};
-use crate::page::{Page, PageName};
 
 /// Whether bits 63 to 47 of an address are equal (SDM volume 1, section 3.3.7.1).
 fn is_canonical(at: Linear) -> bool

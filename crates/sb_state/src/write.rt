@@ -6,11 +6,11 @@ ghost use Rattle.sb_bus.specs.Access.{bytes_from, byte_for, store_answer, where_
 ghost use Rattle.sb_state.specs.PlainMemory.{plain_byte, plain_stored, put_all};
 ghost use Rattle.sb_state.specs.Spots.{spot_at, placed_in};
 
-use crate::translate::reach;
+use crate::page::PageName;
 use crate::plain_state::PlainState;
+use crate::translate::reach;
 use sb_bus::BusStop;
 use sb_memory::{Access, Linear};
-use crate::page::PageName;
 
 /// A place in a page.
 #[derive(Clone, Copy)]

@@ -121,7 +121,12 @@ fn landings_go_by_their_phases(rt: HostRuntime) -> Result<(), Fail> {
         assert!(rt; plain.state.flight(1).is_some(), "{name}");
         assert!(rt; lands(&mut plain, behind, later), "{name}");
         assert_eq!(rt; plain.state.flight(1), None, "{name}");
-        let regs = plain.state.threads.get(1).ok_or("core 1 has a thread")?.regs;
+        let regs = plain
+            .state
+            .threads
+            .get(1)
+            .ok_or("core 1 has a thread")?
+            .regs;
         assert_eq!(rt;
             [regs.rip, regs.general[RSP], regs.general[R9]],
             registers,

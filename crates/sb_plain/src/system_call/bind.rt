@@ -1,8 +1,11 @@
 //! System call 3: a thread gets a view of a server.
 
 ghost use Rattle.std.specs.Prelude.{◌≡◌, ◌<◌, ◌≤◌, ◌+◌, ◌-◌, ◌^◌, ◌++◌, ◌∷◌, None, length, drop};
-ghost use Rattle.sb_trace.specs.State.{thread_at};
-ghost use Rattle.sb_trace.specs.Registers.{rdi};
+ghost use Rattle.sb_tramp.specs.Record.{record_bytes};
+ghost use Rattle.sb_state.specs.declared.page.PageName.TheVariants.{Record};
+ghost use Rattle.sb_state.specs.State.{page_with, thread_at};
+ghost use Rattle.sb_state.specs.Store.{added};
+ghost use Rattle.sb_state.specs.Registers.{rdi};
 ghost use Rattle.sb_trace.specs.SyscallBind.{refusal_of_bind, has_index, free_index, buffer_page, binding_pages, first_key, new_binding, with_binding, bind_outcome};
 
 use super::decline;
@@ -63,14 +66,23 @@ fn free_index(bindings: &[Binding]) -> u16
     index
 }
 
+// The record page of a view.
+#[tactic(auto, using(sb_state::proofs::Start::record_page))]
+fn add_record(pages: &mut Pages, thread: u32, index: u32, words: &RecordWords)
+    requires { 0 < pages.old.room }
+    ensures { pages.new ≡ added pages.old (page_with (Record thread index) (record_bytes words.now)) }
+{
+    pages.add(PageName::Record(thread, index), 0, &words.in_order());
+}
+
 // The record page, the scratch page and the buffer of a view.
-#[tactic(auto, unfolding(sb_trace::specs::SyscallBind::binding_pages, sb_trace::specs::Start::record_bytes))]
+#[tactic(auto, unfolding(sb_trace::specs::SyscallBind::binding_pages))]
 fn add_view(pages: &mut Pages, thread: u32, index: u32, words: &RecordWords)
     requires { 6 ≤ pages.old.room }
     ensures pages { pages.new.pages ≡ pages.old.pages ++ binding_pages thread index words.now }
     ensures room { pages.new.room + 6 ≡ pages.old.room }
 {
-    pages.add(PageName::Record(thread, index), 0, &words.in_order());
+    add_record(pages, thread, index, words);
     pages.add(PageName::Scratch(thread, index), 0, &[]);
     pages.add(PageName::Buffer(thread, index, 0), 0, &[]);
     pages.add(PageName::Buffer(thread, index, 1), 0, &[]);

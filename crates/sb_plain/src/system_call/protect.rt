@@ -1,10 +1,10 @@
 //! System call 4: a heap page is written, or executed.
 
 ghost use Rattle.std.specs.Prelude.{◌≡◌, ◌<◌, ◌+◌, ◌^◌, length};
-ghost use Rattle.sb_trace.specs.State.{thread_at, process_at};
-ghost use Rattle.sb_trace.specs.Registers.{rdi, rsi};
-ghost use Rattle.sb_trace.specs.Windows.{process_now};
-ghost use Rattle.sb_trace.specs.Pattern.{heap_pattern};
+ghost use Rattle.sb_state.specs.State.{thread_at, process_at};
+ghost use Rattle.sb_state.specs.Registers.{rdi, rsi};
+ghost use Rattle.sb_state.specs.Windows.{process_now};
+ghost use Rattle.sb_state.specs.Pattern.{heap_pattern};
 ghost use Rattle.sb_trace.specs.SyscallProtect.{heap_count, with_heap_mode, execute_mode_outcome, protect_outcome};
 
 use super::{accept, decline};

@@ -1,10 +1,10 @@
 //! System call 2: the process becomes a server.
 
 ghost use Rattle.std.specs.Prelude.{◌≡◌, ◌<◌, ◌≤◌, ◌-◌, ◌*◌, ◌++◌, None, length, slice_get};
-ghost use Rattle.sb_trace.specs.State.{thread_at, process_at};
-ghost use Rattle.sb_trace.specs.Registers.{rdi, rsi};
-ghost use Rattle.sb_trace.specs.Windows.{process_now};
-ghost use Rattle.sb_trace.specs.Start.{pages_from};
+ghost use Rattle.sb_state.specs.State.{thread_at, process_at};
+ghost use Rattle.sb_state.specs.Registers.{rdi, rsi};
+ghost use Rattle.sb_state.specs.Windows.{process_now};
+ghost use Rattle.sb_state.specs.Start.{pages_from};
 ghost use Rattle.sb_trace.specs.SyscallRegister.{is_start, refusal_of_register, server_stack_page, with_registration, with_server, register_outcome};
 ghost use Rattle.sb_state.specs.Store.{added};
 

@@ -114,7 +114,10 @@ fn calls_are_refused_in_order(rt: HostRuntime) -> Result<(), Fail> {
     assert_eq!(rt; first_other(&mut scarce.state, &few_frames), None);
     assert_eq!(rt; first_other(&mut ample.state, &rows), None);
     for index in 2..16 {
-        assert_eq!(rt; call(&mut ample.state, 1, 0, [BIND, 0, 0]), Some([0, index]));
+        assert_eq!(rt;
+            call(&mut ample.state, 1, 0, [BIND, 0, 0]),
+            Some([0, index])
+        );
     }
     assert_eq!(rt; first_other(&mut ample.state, &last), None);
     Ok(())

@@ -1,17 +1,19 @@
 //! The bytes of pages at the start.
 
 ghost use Rattle.std.specs.Prelude.{◌≡◌, ◌*◌, ◌^◌, ◌<◌, ◌≤◌, IfOk, length, take};
-ghost use Rattle.sb_trace.specs.Start.{page_padded, page_of, home_words, record_bytes};
+ghost use Rattle.sb_state.specs.Start.{page_padded, page_of, save_address, home_words, record_bytes};
 ghost use Rattle.sb_tramp.specs.Home.{home_page};
 ghost use Rattle.sb_tramp.specs.Server.{server_page};
 
-use super::threads::save_address;
-use sb_state::{PAGE_SIZE, PageBytes, put_words, zero_bytes};
+use crate::page::PageBytes;
+use crate::page_words::put_words;
+use crate::pages::{PAGE_SIZE, zero_bytes};
+use sb_abi::{STACKS_ADDRESS, THREAD_DISTANCE};
 use sb_tramp::{RecordWords, put_home, put_server};
 use std::alloc::{AllocError, Global};
 
 /// The first bytes, as many as a page has.
-#[tactic(auto, using(crate::proofs::Starting::short_page))]
+#[tactic(auto, using(crate::proofs::Filling::short_page))]
 fn first_page(bytes: &[u8]) -> &[u8]
     ensures first { result.now ≡ take 4096 bytes.now }
     ensures within { length result.now ≤ 4096 }
@@ -24,7 +26,7 @@ fn first_page(bytes: &[u8]) -> &[u8]
 }
 
 /// A chunk of at most a page, filled up to a page.
-#[tactic(auto, using(crate::proofs::Starting::filled_more, crate::proofs::Starting::filled_whole))]
+#[tactic(auto, using(crate::proofs::Filling::filled_more, crate::proofs::Filling::filled_whole))]
 fn filled_up(alloc: Global, filler: u8, chunk: &[u8]) -> Result<PageBytes, AllocError>
     requires { length chunk.now ≤ 4096 }
     ensures bytes { IfOk result (λ bytes. bytes ≡ page_padded filler chunk.now) }
@@ -51,8 +53,15 @@ pub fn page_bytes(
     filled_up(alloc, filler, first_page(&bytes[PAGE_SIZE * page..]))
 }
 
+/// The linear address of a thread's save page.
+fn save_address(thread: u32) -> u64
+    ensures { result ≡ save_address thread }
+{
+    STACKS_ADDRESS + u64::from(thread) * THREAD_DISTANCE
+}
+
 /// The record page of a thread's home view.
-#[tactic(auto, unfolding(sb_trace::specs::Start::record_bytes))]
+#[tactic(auto, using(crate::proofs::Start::record_page))]
 pub fn home_record(alloc: Global, thread: u32, home: u32) -> Result<PageBytes, AllocError>
     ensures bytes { IfOk result (λ bytes. bytes ≡ record_bytes (home_words thread home)) }
     ensures size { IfOk result (λ bytes. length bytes ≡ 4096) }

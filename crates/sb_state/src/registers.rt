@@ -1,7 +1,7 @@
 //! Values of registers, as the kernel reads and puts them.
 
 ghost use Rattle.std.specs.Prelude.{◌≡◌};
-ghost use Rattle.sb_trace.specs.Registers.{eax, ecx, zero_flags};
+ghost use Rattle.sb_state.specs.Registers.{eax, ecx, zero_flags};
 
 use sb_insn::registers::{RAX, RCX};
 use sb_insn::{Flags, Regs};

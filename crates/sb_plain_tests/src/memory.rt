@@ -2,9 +2,8 @@
 
 ghost use Rattle.std.specs.Prelude.{◌≡◌, IfOk, length};
 
-use crate::instruction::{fetch_next, perform};
-use sb_exec::{Bus, BusStop, Effect, FaultKind};
-use sb_insn::{Flags, Op, Regs};
+use sb_bus::{Bus, BusStop, FaultKind};
+use sb_insn::{Flags, Regs};
 use sb_list::Listed;
 use sb_memory::Linear;
 use sb_state::{Bindings, EndKind, Page, PageName, Pages, PlainBus, PlainState, Thread};
@@ -41,13 +40,7 @@ fn thread(home: u32) -> Thread {
         regs: Regs {
             general: [0; 16],
             rip: TEXT,
-            flags: Flags {
-                cf: false,
-                pf: false,
-                zf: false,
-                sf: false,
-                of: false,
-            },
+            flags: Flags::CLEAR,
         },
         view: 0,
         bindings: Bindings::new(),
@@ -105,55 +98,28 @@ fn threads_of_one_process_share_its_pages(rt: HostRuntime) -> Result<(), Fail> {
 #[test]
 fn stores_reach_what_they_may_write(rt: HostRuntime) -> Result<(), Fail> {
     let mut state = state(rt.alloc())?;
+    #[rattlefmt::skip]
     let rows: [(&str, u64, u8, Result<(), BusStop>); 9] = [
         ("the heap", HEAP, 8, Ok(())),
         ("the lowest page of the stack", 0x300_4000, 4, Ok(())),
         ("across two pages of the stack", 0x300_4FFC, 8, Ok(())),
-        (
-            "past the last page of the stack that is there",
-            0x300_5FFC,
-            8,
-            fault(FaultKind::Memory, 0x300_6000),
-        ),
-        (
-            "below the stack",
-            0x300_3FFF,
-            1,
-            fault(FaultKind::Memory, 0x300_3FFF),
-        ),
-        (
-            "a save page that is not there",
-            0x300_0000,
-            1,
-            fault(FaultKind::Memory, 0x300_0000),
-        ),
-        (
-            "past the end of the data, at the first byte that fails",
-            DATA + 0xFFC,
-            8,
-            fault(FaultKind::Memory, DATA + 0x1000),
-        ),
+        ("past the last page of the stack that is there", 0x300_5FFC, 8, fault(FaultKind::Memory, 0x300_6000)),
+        ("below the stack", 0x300_3FFF, 1, fault(FaultKind::Memory, 0x300_3FFF)),
+        ("a save page that is not there", 0x300_0000, 1, fault(FaultKind::Memory, 0x300_0000)),
+        ("past the end of the data, at the first byte that fails", DATA + 0xFFC, 8, fault(FaultKind::Memory, DATA + 0x1000)),
         ("text", TEXT, 1, fault(FaultKind::Memory, TEXT)),
-        (
-            "an address that is not canonical",
-            0x8000_0000_0000,
-            1,
-            fault(FaultKind::Canon, 0x8000_0000_0000),
-        ),
+        ("an address that is not canonical", 0x8000_0000_0000, 1, fault(FaultKind::Canon, 0x8000_0000_0000)),
     ];
     for (name, at, size, answer) in rows {
         let stored = PlainBus::new(&mut state, 0, 0).store(Linear(at), size, 0x0807_0605_0403_0201);
         assert_eq!(rt; stored, answer, "{name}");
     }
     // A store that stops has written no byte.
+    #[rattlefmt::skip]
     let left: [(&str, u64, u64); 4] = [
         ("the heap has all eight bytes", HEAP, 0x0807_0605_0403_0201),
         ("the stack has the lowest four", 0x300_4000, 0x0403_0201),
-        (
-            "bytes on both sides of a border",
-            0x300_4FFD,
-            0x0008_0706_0504_0302,
-        ),
+        ("bytes on both sides of a border", 0x300_4FFD, 0x0008_0706_0504_0302),
         ("the end of the data is as before", DATA + 0xFF8, 0),
     ];
     for (name, at, value) in left {
@@ -170,29 +136,5 @@ fn text_is_fetched_and_not_read(rt: HostRuntime) -> Result<(), Fail> {
     assert_eq!(rt; bus.fetch(Linear(TEXT)), Ok(0x31));
     assert_eq!(rt; bus.load(Linear(TEXT), 1), fault(FaultKind::Memory, TEXT));
     assert_eq!(rt; bus.fetch(Linear(DATA)), fault(FaultKind::Memory, DATA));
-    Ok(())
-}
-
-#[test]
-fn instructions_are_fetched_and_performed(rt: HostRuntime) -> Result<(), Fail> {
-    let mut state = state(rt.alloc())?;
-    let mut regs = thread(0).regs;
-    regs.general[0] = 5;
-    let insn = fetch_next(&mut state, 0, 0, TEXT).expect(&rt, "an instruction");
-    // XOR EAX, EAX
-    assert_eq!(rt; insn.op, Op::One(0x31));
-    assert_eq!(rt;
-        perform(&mut state, 0, 0, &insn, &mut regs),
-        Ok(Effect::Next)
-    );
-    assert_eq!(rt; (regs.general[0], regs.rip), (0, TEXT + 2));
-    // No instruction begins with the filler, and behind the text there is no page.
-    let rows = [
-        (TEXT + 2, fault(FaultKind::Undefined, TEXT + 2)),
-        (TEXT + 0x1000, fault(FaultKind::Memory, TEXT + 0x1000)),
-    ];
-    for (at, answer) in rows {
-        assert_eq!(rt; fetch_next(&mut state, 0, 0, at), answer);
-    }
     Ok(())
 }
