@@ -29,7 +29,7 @@ use Rattle.sb_trace.specs.Sound.{StandsAtSwitch, IsUndecided, IsDecidedSound, Is
 use Rattle.sb_trace.proofs.Flights.{flight_of}
 use Rattle.sb_state.proofs.Names.{name_same}
 use Rattle.std.specs.Option.{option_map}
-use Rattle.sb_state.proofs.Pages.{with_bytes, found_same, found_other}
+use Rattle.sb_state.proofs.PageLists.{with_bytes, found_same, found_other}
 use Rattle.sb_state.proofs.Threads.{thread_set}
 use Rattle.sb_trace.proofs.Threads.{thread_other, only_thread, flight_other, only_flight, bound_there}
 use Rattle.sb_landing.specs.Bound.{HasPoolBytes, phases_of, IsMask, IsDecidedView, IsFlightBound, IsBound}

@@ -11,11 +11,11 @@ use Rattle.sb_trace.specs.PageName.{same_name}
 use Rattle.std.proofs.lemmas.Bool.Decides.{Decides-eqb}
 use Rattle.std.proofs.lemmas.List.{length-replicate}
 use Rattle.sb_state.specs.declared.state.Registration.{Registration}
-use Rattle.sb_state.proofs.Pages.{either, found_added}
-use Rattle.sb_trace.specs.State.{Process, find_page, thread_at, no_thread, flight_at, process_at, registration_of, registration_at}
+use Rattle.sb_state.proofs.PageLists.{either, found_added}
+use Rattle.sb_trace.specs.State.{Process, find_page, thread_at, no_thread, flight_at, process_at, registration_of, registration_at, page_with}
 use Rattle.sb_trace.specs.PageWords.{zeros}
 use Rattle.sb_trace.specs.KernelCall.{binding_in}
-use Rattle.sb_trace.specs.Start.{ProcessImage, ThreadEntry, page_with, padded_page, page_count, padded_pages, heap_page, heap_pages, process_pages, thread_pages, trampoline_pages, images_pages, threads_pages, start_threads, start_process}
+use Rattle.sb_trace.specs.Start.{ProcessImage, ThreadEntry, padded_page, page_count, padded_pages, heap_page, heap_pages, process_pages, thread_pages, trampoline_pages, images_pages, threads_pages, start_threads, start_process}
 use Rattle.sb_state.proofs.Names.{name_same}
 use Rattle.sb_state.proofs.Start.{EachPage, found_each, each_both, each_from}
 use Rattle.sb_landing.specs.Bound.{HasWordStarts}

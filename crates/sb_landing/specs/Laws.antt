@@ -5,10 +5,10 @@ use Rattle.sb_exec.specs.Fetching.{FetchesOn}
 use Rattle.sb_trace.specs.declared.event.Event.{Event}
 use Rattle.sb_state.specs.declared.state.Binding.{Binding}
 use Rattle.sb_state.specs.declared.state.Flight.{Flight}
-use Rattle.sb_trace.specs.SyscallRegister.{is_listed, with_server}
+use Rattle.sb_trace.specs.SyscallRegister.{with_server}
 use Rattle.sb_trace.specs.SyscallBind.{has_index, free_index, with_binding, new_binding}
 use Rattle.sb_state.specs.declared.state.Registration.{Registration}
-use Rattle.sb_trace.specs.State.{registration_at}
+use Rattle.sb_trace.specs.State.{registration_at, is_listed}
 use Rattle.sb_trace.specs.State.{Process, process_at}
 use Rattle.sb_trace.specs.State.{State, thread_at, flight_at, with_flight, with_regs}
 use Rattle.sb_trace.specs.Start.{ProcessImage, ThreadEntry, start_state}

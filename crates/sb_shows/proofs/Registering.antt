@@ -22,7 +22,7 @@ use Rattle.sb_trace.specs.Start.{pages_from}
 use Rattle.sb_trace.specs.SyscallRegister.{stack_bytes, server_stack_page, with_registration, with_server}
 use Rattle.sb_trace.specs.Windows.{name_at, is_within}
 use Rattle.sb_state.proofs.Names.{name_other}
-use Rattle.sb_state.proofs.Pages.{found_other}
+use Rattle.sb_state.proofs.PageLists.{found_other}
 use Rattle.sb_state.proofs.Start.{zeros_size}
 use Rattle.sb_shows.specs.Placement.{Placement, is_own}
 use Rattle.sb_shows.specs.Keeping.{Keeps}

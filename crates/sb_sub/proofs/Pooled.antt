@@ -31,7 +31,7 @@ use Rattle.sb_trace.specs.State.{State, Process, find_page, with_page_bytes, con
 use Rattle.sb_trace.specs.Windows.{name_at}
 use Rattle.sb_trace.specs.SyscallRegister.{with_registration, with_server}
 use Rattle.sb_state.proofs.Names.{name_other, name_same}
-use Rattle.sb_state.proofs.Pages.{found_other, found_same, with_bytes as page_with}
+use Rattle.sb_state.proofs.PageLists.{found_other, found_same, with_bytes as page_with}
 use Rattle.sb_shows.specs.Placement.{Placement, Holds, IsThere, is_own, guest_page, leaf_for, leaf_if, entry_of, entries_of}
 use Rattle.sb_shows.specs.Keeping.{Keeps}
 use Rattle.sb_shows.proofs.Leaves.{guest_permits, leaf_judged}

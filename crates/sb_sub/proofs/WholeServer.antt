@@ -17,7 +17,7 @@ use Rattle.sb_trace.specs.Start.{pages_from}
 use Rattle.sb_trace.specs.SyscallRegister.{server_stack_page, with_registration, with_server}
 use Rattle.sb_trace.specs.SyscallProtect.{heap_count}
 use Rattle.sb_state.proofs.Names.{name_same}
-use Rattle.sb_state.proofs.Pages.{either, found_added, found_other, found_same, with_bytes as page_with}
+use Rattle.sb_state.proofs.PageLists.{either, found_added, found_other, found_same, with_bytes as page_with}
 use Rattle.sb_shows.specs.Placement.{IsThere}
 use Rattle.sb_shows.proofs.Names.{name_self}
 use Rattle.sb_sub.specs.Whole.{ImagePages, Belongs, IsWhole, stacks_in}

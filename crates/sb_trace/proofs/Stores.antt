@@ -21,7 +21,7 @@ use Rattle.sb_state.specs.Windows.{page_for, page_by_name, page_and_mode, name_a
 use Rattle.sb_state.specs.PlainMemory.{Placed, bytes_to_put, placed_at, put_byte, put_all, plain_stored, plain, plain_byte, byte_seen, is_canonical, fault_at}
 use Rattle.sb_trace.specs.Changes.{IsClosed, Shape, shape_of}
 use Rattle.sb_state.proofs.Names.{name_same, name_other}
-use Rattle.sb_state.proofs.Pages.{with_bytes, found_other, found_same}
+use Rattle.sb_state.proofs.PageLists.{with_bytes, found_other, found_same}
 
 -- ---- one byte
 
