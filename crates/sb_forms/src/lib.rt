@@ -1,10 +1,10 @@
 //! What stands in place of an instruction, so that the bytes of VMFUNC, `0F 01 D4`, stand nowhere in guest code.
 //!
-//! `form` looks at one instruction. It may keep it, give other bytes of the same length that do the same, or move it: then
-//! a jump to a slot stands in its place, and the slot has instructions before it, the one that does its work with other
-//! operands, instructions behind it, and a jump back. The table of forms is a definition (`specs/Table.antt`), in words of
-//! the grammar of `sb_insn`, and docs/FORMS.md explains it. Not inside: which instructions a text has, where slots stand,
-//! and where jumps lead (`sb_rewrite`).
+//! `form` looks at one instruction. It may keep it, give other bytes of the same length, or move it: then a jump to a slot
+//! stands in its place, and the slot has instructions before it, the one that does its work with other operands,
+//! instructions behind it, and a jump back. The table of forms is a definition (`specs/Table.antt`), in words of the grammar
+//! of `sb_insn`, and docs/FORMS.md explains it. Not inside: what a form does when it runs, which instructions a text has,
+//! where slots stand, and where jumps lead (`sb_rewrite`).
 //!
 //! ```text
 //! form(&add_eax, 0x400000, 0x1000, false)    // 05 0F 01 D4 00, ADD EAX, 00D4010F, at 400000
