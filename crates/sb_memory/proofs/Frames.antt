@@ -1,5 +1,5 @@
 -- The bytes of a frame under each change of a memory.
-use Rattle.std.proofs.Common.{◌≡◌, ◌≢◌, ℕ, zero, suc, ◌+◌, ◌-◌, ◌*◌, ◌/◌, ◌%◌, ◌<◌, ◌≤◌, ◌⊎◌, inl, inr, Bool, true, false, List, [], ◌∷◌, length, length-set, take, drop, get_or, set, refl, sym, ap, ◌∙◌, subst, arith}
+use Rattle.std.proofs.Common.{◌≡◌, ◌≢◌, ℕ, suc, ◌+◌, ◌-◌, ◌*◌, ◌%◌, ◌<◌, ◌≤◌, ◌⊎◌, inl, inr, Bool, true, false, List, [], ◌∷◌, length, length-set, take, drop, get_or, set, refl, sym, ap, ◌∙◌, subst, arith}
 use Rattle.std.specs.Prelude.{if◌then◌else◌, min, slice_index, slice_set}
 use Rattle.std.proofs.lemmas.Bool.{cases_lt}
 use Rattle.std.specs.List.{Contains}
@@ -9,11 +9,11 @@ use Rattle.std.proofs.Math.Seq.{length-sets, take-set-lt}
 use Rattle.byteorder.specs.Endian.{little_bytes}
 use Rattle.byteorder.specs.Numbers.{length-bytes_low_first}
 use Rattle.sb_memory.specs.Physical.{Physical, HasSize, HoldsBytes, frame_of, frame_count, has_frame}
-use Rattle.sb_memory.specs.Reading.{byte_read, byte_written, where_present, with_bytes}
-use Rattle.sb_memory.specs.Words.{put_word, put_bytes, clear_frame, zeros}
+use Rattle.sb_memory.specs.Reading.{byte_read, byte_written, where_present, with_bytes, word_read}
+use Rattle.sb_memory.specs.Words.{word_at, put_word, put_bytes, clear_frame, zeros}
 use Rattle.sb_memory.specs.Changes.{SameOutside}
 use Rattle.sb_memory.specs.Frames.{frame_bytes}
-use Rattle.sb_memory.proofs.Words.{length_clear_frame, length_zeros, get_or-sets_other}
+use Rattle.sb_memory.proofs.Words.{length_clear_frame, length_zeros, get_or-sets_other, word_of_same_bytes}
 use Rattle.sb_memory.proofs.Changes.{same_outside_self, same_outside_word, same_outside_cleared}
 use Rattle.sb_memory.proofs.Pages.{cleared_holds}
 
@@ -122,6 +122,16 @@ frame_outside frames old new frame same apart =
     byte_of_frame new frame offset small
     ∙ same.bytes (4096 * frame + offset) (λ among. apart (subst (Contains frames) here among))
     ∙ sym (byte_of_frame old frame offset small))
+
+-- words of frames in which nothing changes
+pub word_outside : (frames : List ℕ) (old new : Physical) (place : ℕ) → SameOutside frames old new
+    → ¬ Contains frames (frame_of place) → place % 8 ≡ 0 → word_read new place ≡ word_read old place
+word_outside frames old new place same apart aligned =
+    let word : word_at new.bytes place ≡ word_at old.bytes place = word_of_same_bytes new.bytes old.bytes place (λ k below.
+    let here : frame_of (place + k) ≡ frame_of place = omega arith in
+    same.bytes (place + k) (λ among. apart (subst (Contains frames) here among))) in
+    let present = same.present in
+    rw (present, word) refl
 
 -- ---- changes stay in their frame
 

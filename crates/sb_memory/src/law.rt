@@ -6,7 +6,7 @@ ghost use Rattle.sb_memory.specs.declared.page.TheConstants.{PAGE_SIZE};
 ghost use Rattle.sb_memory.specs.Changes.{SameOutside};
 ghost use Rattle.sb_memory.specs.Frames.{frame_bytes};
 ghost use Rattle.sb_memory.specs.Physical.{HasSize, HoldsBytes, Physical, frame_count, frame_of, has_frame};
-ghost use Rattle.sb_memory.specs.Reading.{byte_read, byte_written, where_present, with_bytes};
+ghost use Rattle.sb_memory.specs.Reading.{byte_read, byte_written, where_present, with_bytes, word_read};
 ghost use Rattle.sb_memory.specs.Words.{word_at, put_word, put_bytes, clear_frame, zeros};
 
 /// A word that is put at a place is read back there. Words at other multiples of 8 and all other bytes stay.
@@ -18,12 +18,13 @@ pub fn words_keep_apart()
 {}
 
 /// The bytes of a memory, frame by frame. A read of a byte answers with one of its frame's, and a frame in which nothing is
-/// changed keeps its bytes. A frame that holds the bytes of a page has these bytes.
+/// changed keeps its bytes and its words. A frame that holds the bytes of a page has these bytes.
 #[tactic(auto, using(crate::proofs::Frames::length_frame_bytes, crate::proofs::Frames::byte_read_in_frame, crate::proofs::Frames::held_frame))]
 pub fn frames_hold_bytes()
     ensures length { (memory : Physical) (frame : ℕ) → HasSize memory → frame < frame_count memory → length (frame_bytes memory frame) ≡ PAGE_SIZE }
     ensures read { (memory : Physical) (place : ℕ) → byte_read memory place ≡ where_present memory place (slice_index (frame_bytes memory (frame_of place)) (place % PAGE_SIZE)) }
     ensures outside { (frames : List ℕ) (old new : Physical) (frame : ℕ) → SameOutside frames old new → ¬ Contains frames frame → frame_bytes new frame ≡ frame_bytes old frame }
+    ensures words { (frames : List ℕ) (old new : Physical) (place : ℕ) → SameOutside frames old new → ¬ Contains frames (frame_of place) → place % 8 ≡ 0 → word_read new place ≡ word_read old place }
     ensures held { (memory : Physical) (frame : ℕ) (page : List ℕ) → HasSize memory → frame < frame_count memory → length page ≡ PAGE_SIZE → HoldsBytes memory frame page → frame_bytes memory frame ≡ page }
 {}
 

@@ -27,7 +27,9 @@ mod phys;
 
 pub use address::{Access, EptStop, Frame, GuestPhys, Linear, Missing, PhysAddr};
 pub use bytes::{put_bytes, put_word, put_zeros, word};
-pub use law::{changes_are_made_in_frames, changes_leave_other_frames, frames_hold_bytes, words_keep_apart};
+pub use law::{
+    changes_are_made_in_frames, changes_leave_other_frames, frames_hold_bytes, words_keep_apart,
+};
 pub use memory::Memory;
 pub use page::{PAGE_SIZE, page_count};
 pub use phys::Phys;

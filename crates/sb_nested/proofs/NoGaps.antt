@@ -1,5 +1,5 @@
 -- Over a memory that has all its frames no byte and no walk meets a missing frame.
-use Rattle.std.proofs.Common.{◌≡◌, ◌≢◌, ℕ, ◌<◌, Bool, true, false, Result, Ok, Err, refl, sym, ap, ◌∙◌, subst}
+use Rattle.std.proofs.Common.{◌≡◌, ◌≢◌, ℕ, ◌<◌, false, Result, Ok, Err, refl}
 use Rattle.sb_memory.specs.Physical.{Physical, HasAllFrames, frame_count, frame_of}
 use Rattle.sb_memory.specs.Reading.{byte_read}
 use Rattle.sb_memory.specs.declared.address.Access.{Access}
@@ -18,7 +18,6 @@ use Rattle.sb_walks.specs.declared.stop.NestedStop.TheVariants as nested
 use Rattle.sb_walks.specs.Entry.{frame_in}
 use Rattle.sb_walks.specs.Gaps.{NoGap, ept_gap, table_gap, walk_gap, nested_gap}
 use Rattle.sb_walks.proofs.Whole.{nested_whole, nested_inside}
-use Rattle.sb_bus.specs.declared.stop.BusStop.{BusStop}
 use Rattle.sb_bus.specs.declared.stop.BusStop.TheVariants as bus
 use Rattle.sb_nested.specs.Stop.{ept_stop, table_stop, walk_stop, stop_at}
 use Rattle.sb_nested.specs.View.{View, byte_answer, byte_behind, place_of, view_byte}

@@ -64,6 +64,10 @@ no_pages page = 0
 abbrev pub Maps : Physical → TableSet → (ℕ → ℕ) → Type 0
 Maps memory set entries = (linear : ℕ) (access : Access) → walked_in memory set linear access ≡ set_walked entries linear access
 
+-- these lowest entries, but for one page
+abbrev pub with_entry : (ℕ → ℕ) → ℕ → ℕ → ℕ → ℕ
+with_entry entries page entry other = if other == page then entry else entries other
+
 -- the lowest entry of each page of a window
 abbrev pub page_entry : Physical → TableSet → ℕ → ℕ
 page_entry memory set page = word_at memory.bytes (page_place set (PAGE_SIZE * page))

@@ -10,7 +10,7 @@ ghost use Rattle.sb_memory.specs.declared.address.Access.{Access};
 ghost use Rattle.sb_pagewalk.specs.Windows.{IsInWindow};
 ghost use Rattle.sb_pagewalk.specs.Building.{IsCleared, IsLinked};
 ghost use Rattle.sb_pagewalk.specs.Standing.{AreFrames, HasTables};
-ghost use Rattle.sb_pagewalk.specs.TableSet.{Maps, entry_to, no_pages, page_place, page_walked, place_in, set_frames, table_frame, walked_in};
+ghost use Rattle.sb_pagewalk.specs.TableSet.{Maps, entry_to, no_pages, page_place, page_walked, place_in, set_frames, table_frame, walked_in, with_entry};
 
 use crate::windows::{entered_at, page_table_of};
 use sb_memory::{Frame, Linear, Memory, Phys, PhysAddr};
@@ -123,6 +123,7 @@ impl TableSet {
         ensures tables { HasTables self.now memory.new }
         ensures page { (linear : ℕ) (access : Access) → linear / PAGE_SIZE ≡ at.0 / PAGE_SIZE → walked_in memory.new self.now linear access ≡ page_walked entry linear access }
         ensures others { (linear : ℕ) (access : Access) → linear / PAGE_SIZE ≢ at.0 / PAGE_SIZE → walked_in memory.new self.now linear access ≡ walked_in memory.old self.now linear access }
+        ensures maps { (entries : ℕ → ℕ) → Maps memory.old self.now entries → Maps memory.new self.now (with_entry entries (at.0 / PAGE_SIZE) entry) }
     {
         memory.set_word(self.page_place(at), entry);
     }

@@ -21,6 +21,7 @@ use Rattle.sb_root.specs.Standing.{Stands, IsBooked, IsApart}
 use Rattle.sb_root.specs.Answers.{SameViews}
 use Rattle.sb_root.specs.Calls.{IsFree, IsAddedList, IsZeroed}
 use Rattle.sb_root.proofs.Frames.{base_small, not_one, only_one}
+use Rattle.sb_root.proofs.BaseAnswers.{rights_stay}
 use Rattle.sb_root.proofs.Filling.{cleared_page, first_words}
 use Rattle.sb_frames.proofs.Taking.{holder_same, holder_other, length_with_holder}
 use Rattle.sb_root.proofs.Kept.{stands_kept, views_kept}
@@ -186,6 +187,8 @@ list_added root root' book book' old new thread frame stands booked small none l
         kept = refl;
         zeros = zeros root book old thread frame stands booked small none free;
         same = same root book old thread frame stands booked small none free;
+        rights = rights_stay (frame.0 ∷ []) old _ (same root book old thread frame stands booked small none free)
+            (apart root book old thread frame stands booked small none free).base;
       };
       stands = stands_with_list root book old thread frame stands booked small none free;
       booked = booked_with_list root book old thread frame stands booked small none free;

@@ -1,5 +1,5 @@
 -- A thread gets a view in frames that were free.
-use Rattle.std.proofs.Common.{◌≡◌, ◌≢◌, ℕ, ◌+◌, ◌^◌, ◌<◌, ◌≤◌, ◌⊎◌, inl, inr, Bool, true, false, List, length, get_or, refl, sym, ap, ◌∙◌, subst, arith}
+use Rattle.std.proofs.Common.{◌≡◌, ◌≢◌, ℕ, ◌+◌, ◌^◌, ◌<◌, ◌≤◌, ◌⊎◌, inl, inr, Bool, true, false, List, ◌∷◌, length, get_or, refl, sym, ap, ◌∙◌, subst, arith}
 use Rattle.std.specs.Prelude.{Option, None, Some, if◌then◌else◌}
 use Rattle.std.specs.List.{Contains}
 use Rattle.std.proofs.lemmas.List.Elements.{Contains-get_or}
@@ -17,12 +17,14 @@ use Rattle.sb_tramp.specs.declared.record_words.RecordWords.{RecordWords}
 use Rattle.sb_tramp.specs.Record.{words_of, record_bytes}
 use Rattle.sb_root.specs.declared.root_kernel.RootKernel.{RootKernel}
 use Rattle.sb_root.specs.declared.view.View.{View}
-use Rattle.sb_root.specs.Tables.{IsPage, HasTables, from_start, view_entries}
-use Rattle.sb_root.specs.Root.{Use, IsSet, IsLowestFree, AreDifferent, eptp_list_frame, view_of, list_entry, entry_of_index, entry_of_view, eptp_of_view, with_view, view_frames, used_frame, part_kind, kind_for, owner_for}
+use Rattle.sb_root.specs.Tables.{IsPage, HasTables, base_frames, from_start, view_entries}
+use Rattle.sb_root.specs.Root.{Use, ListOf, IsSet, IsLowestFree, AreDifferent, eptp_list_frame, view_of, list_entry, entry_of_index, entry_of_view, eptp_of_view, with_view, view_frames, used_frame, part_kind, kind_for, owner_for}
 use Rattle.sb_root.specs.Standing.{HasView, IsRootFrame, Stands, IsBooked, IsApart}
-use Rattle.sb_root.specs.Answers.{SameAnswers, SameViews, IsViewOf}
+use Rattle.sb_root.specs.Answers.{SameAnswers, SameRights, SameViews, IsViewOf}
 use Rattle.sb_root.specs.Calls.{IsFree, IsAddedView, IsZeroed, SameBeside, with_parts}
-use Rattle.sb_root.proofs.Frames.{base_small}
+use Rattle.sb_root.proofs.BaseAnswers.{rights_stay}
+use Rattle.sb_root.proofs.Beside.{outside_view}
+use Rattle.sb_root.proofs.Frames.{among_cases, base_small}
 use Rattle.sb_root.proofs.Indices.{not_both}
 use Rattle.sb_root.proofs.InTurn.{length_with_parts, parts_same, parts_other}
 use Rattle.sb_root.proofs.Kept.{stands_kept, views_kept}
@@ -30,7 +32,7 @@ use Rattle.sb_root.proofs.ListWord.{StandsBut, stands_after, base_same, view_sam
 use Rattle.sb_root.proofs.LowPages.{alike_page}
 use Rattle.sb_root.proofs.Reaches.{view_answers}
 use Rattle.sb_root.proofs.Stays.{page_stays}
-use Rattle.sb_root.proofs.Uses.{Place, here, elsewhere, place_of_index, IsNewPart, view_same, view_other, view_uses, used_part, shape_with_view, new_parts_apart, uses_apart, set_view, some_frame, some_view}
+use Rattle.sb_root.proofs.Uses.{Place, here, elsewhere, place_of_index, IsNewPart, view_same, view_other, view_uses, used_list, used_part, shape_with_view, new_parts_apart, uses_apart, set_view, some_frame, some_view}
 use Rattle.sb_root.proofs.AddingList.{used_not_free}
 
 entry_small : (view : View) (frames : ℕ) → view.tables.root.0 < frames → frames ≤ 8192 → (listed : Bool)
@@ -264,6 +266,21 @@ module _ (root : RootKernel) (book : Book) (old mid : Physical) (thread index : 
         ∙ adding.same.bytes place outside;
   }
 
+  pub outside_list : SameOutside (list.0 ∷ view_frames view) old new
+  outside_list = let few = adding.lowest.inside in
+      outside_view list.0 index (view_frames view) old new (omega arith) same_beside
+
+  base_apart : (frame : ℕ) → Contains base_frames frame → ¬ Contains (list.0 ∷ view_frames view) frame
+  base_apart frame base among = let low = base_small frame base in
+      elim (among_cases list.0 frame (view_frames view) among) [
+        | inl is ↦ let above = (adding.stands.inside (ListOf thread) list.0 (used_list root thread list adding.list_is)).0 in
+            absurd (omega arith)
+        | inr behind ↦ let above = (adding.free frame behind).0.0 in absurd (omega arith)
+      ]
+
+  pub same_rights : SameRights old new
+  same_rights = rights_stay (list.0 ∷ view_frames view) old new outside_list base_apart
+
 -- ---- all that the call answers
 
 -- a list that is there
@@ -307,6 +324,12 @@ view_added root root' book book' old mid new thread index home target words serv
             (λ (frame : Frame). SameBeside (view_frames view) (entry_in frame.0 index) old
             (with_bytes mid (put_word mid.bytes (entry_in list.0.0 index) (entry_of_view view))))
             (some_frame list.0 other (sym list.1 ∙ is)) (same_beside root book old mid thread index list.0 view adding);
+        outside = λ other is. subst
+            (λ (frame : Frame). SameOutside (frame.0 ∷ view_frames view) old
+            (with_bytes mid (put_word mid.bytes (entry_in list.0.0 index) (entry_of_view view))))
+            (some_frame list.0 other (sym list.1 ∙ is))
+            (outside_list root book old mid thread index list.0 view adding);
+        rights = same_rights root book old mid thread index list.0 view adding;
       };
       stands = stands_with_view root book old mid thread index list.0 view adding;
       booked = rw taken (booked_with_view root book old mid thread index list.0 view adding);

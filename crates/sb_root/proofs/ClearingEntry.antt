@@ -1,9 +1,11 @@
 -- The entry of a view is set to 0.
-use Rattle.std.proofs.Common.{◌≡◌, ℕ, ◌<◌, true, [], get_or, refl, sym, ap, ◌∙◌, subst, inl, inr, arith}
+use Rattle.std.proofs.Common.{◌≡◌, ℕ, ◌<◌, true, [], ◌∷◌, get_or, refl, sym, ap, ◌∙◌, subst, inl, inr, arith}
 use Rattle.std.specs.Prelude.{Option, None, Some}
 use Rattle.std.proofs.lemmas.Bool.{cases_lt}
 use Rattle.std.proofs.Math.ListN.{get_or-eq_default}
-use Rattle.sb_memory.specs.Physical.{Physical}
+use Rattle.std.specs.List.{Contains}
+use Rattle.sb_memory.specs.Physical.{Physical, frame_of}
+use Rattle.sb_memory.proofs.Changes.{same_outside_word}
 use Rattle.sb_memory.specs.Reading.{with_bytes}
 use Rattle.sb_memory.specs.Words.{put_word}
 use Rattle.sb_memory.specs.declared.address.Frame.{Frame}
@@ -11,14 +13,16 @@ use Rattle.sb_walks.specs.Entry.{entry_in}
 use Rattle.sb_frames.specs.Book.{Book}
 use Rattle.sb_root.specs.declared.root_kernel.RootKernel.{RootKernel}
 use Rattle.sb_root.specs.declared.view.View.{View}
-use Rattle.sb_root.specs.Tables.{view_entries}
-use Rattle.sb_root.specs.Root.{IsShaped, Use, IsSet, is_listed, eptp_list_frame, view_of, list_entry, entry_of_index, eptp_of_view, with_view, without_listing, used_frame}
+use Rattle.sb_root.specs.Tables.{base_frames, view_entries}
+use Rattle.sb_root.specs.Root.{IsShaped, Use, ListOf, IsSet, is_listed, eptp_list_frame, view_of, list_entry, entry_of_index, eptp_of_view, with_view, without_listing, used_frame}
 use Rattle.sb_root.specs.Standing.{HasView, Stands, IsBooked}
-use Rattle.sb_root.specs.Answers.{SameAnswers, SameViews}
+use Rattle.sb_root.specs.Answers.{SameAnswers, SameRights, SameViews}
+use Rattle.sb_root.proofs.BaseAnswers.{rights_stay}
+use Rattle.sb_root.proofs.Frames.{base_small, only_one}
 use Rattle.sb_root.proofs.Kept.{set_views}
 use Rattle.sb_root.proofs.ListWord.{StandsBut, stands_after, base_same, view_same as same_view}
 use Rattle.sb_root.proofs.LowPages.{alike_page}
-use Rattle.sb_root.proofs.Uses.{Place, here, elsewhere, place_of_index, view_same, view_other, shape_with_view, unlisted_uses, some_view}
+use Rattle.sb_root.proofs.Uses.{Place, here, elsewhere, place_of_index, view_same, view_other, shape_with_view, unlisted_uses, used_list, some_view}
 
 none_set : (kept : Option View) → kept ≡ None → is_listed kept ≡ true → ⊥
 none_set None is set = cc
@@ -144,3 +148,16 @@ module _ (root : RootKernel) (memory : Physical) (thread index : ℕ) (list : Fr
     views = set_views root memory new
         (λ other second kept found. view_after_by other second kept found (place_of_index thread index other second));
   }
+
+  base_apart : (frame : ℕ) → Contains base_frames frame → ¬ Contains (list.0 ∷ []) frame
+  base_apart frame base among =
+      let low = base_small frame base in
+      let here = only_one list.0 frame among in
+      let above = (stands.inside (ListOf thread) list.0 (used_list root thread list list_is)).0 in
+      omega arith
+
+  pub rights_without : SameRights memory new
+  rights_without =
+      let there : frame_of (entry_in list.0 index) ≡ list.0 = omega arith in
+      rights_stay (list.0 ∷ []) memory new
+      (same_outside_word (list.0 ∷ []) memory (entry_in list.0 index) 0 (omega arith) (0, omega arith, sym there)) base_apart

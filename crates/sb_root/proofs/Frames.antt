@@ -74,7 +74,7 @@ base_upper frame (suc (suc (suc k)), within, is) = absurd (omega arith)
 pub shared_in_base : (region : ℕ) → 1 ≤ region → region < 16 → Contains base_frames (32 + region)
 shared_in_base region first within = base_shared (32 + region) (shared_among region first within)
 
-among_cases : (first frame : ℕ) (frames : List ℕ) → Contains (first ∷ frames) frame → (frame ≡ first) ⊎ Contains frames frame
+pub among_cases : (first frame : ℕ) (frames : List ℕ) → Contains (first ∷ frames) frame → (frame ≡ first) ⊎ Contains frames frame
 among_cases first frame frames (zero, within, is) = inl (sym is)
 among_cases first frame frames (suc k, within, is) = inr (k, omega arith, is)
 

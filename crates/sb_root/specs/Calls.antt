@@ -14,7 +14,7 @@ use Rattle.sb_root.specs.declared.root_kernel.RootKernel.{RootKernel}
 use Rattle.sb_root.specs.declared.view.View.{View}
 use Rattle.sb_root.specs.Tables.{IsPage, from_start}
 use Rattle.sb_root.specs.Root.{IsLowestFree, eptp_list_frame, with_list, with_view, view_frames, part_kind, eptp_of_view}
-use Rattle.sb_root.specs.Answers.{IsViewOf}
+use Rattle.sb_root.specs.Answers.{IsViewOf, SameRights}
 
 -- so many frames are needed, and so many are free
 abbrev pub no_frames : ℕ → ℕ → NoFrames
@@ -50,6 +50,7 @@ pub record IsAddedList (root root' : RootKernel) (book book' : Book) (old new : 
   pub kept : root' ≡ with_list root thread frame
   pub zeros : IsZeroed new frame.0
   pub same : SameOutside (frame.0 ∷ []) old new
+  pub rights : SameRights old new
 
 -- a thread got a view at its lowest free index, in frames that were free
 pub record IsAddedView (root root' : RootKernel) (book book' : Book) (old new : Physical) (thread : ℕ) (home target : Frame)
@@ -66,3 +67,5 @@ pub record IsAddedView (root root' : RootKernel) (book book' : Book) (old new : 
   pub scratch : IsZeroed new view.scratch_page.0
   pub same : (list : Frame) → eptp_list_frame root thread ≡ Some list
       → SameBeside (view_frames view) (entry_in list.0 index) old new
+  pub outside : (list : Frame) → eptp_list_frame root thread ≡ Some list → SameOutside (list.0 ∷ view_frames view) old new
+  pub rights : SameRights old new

@@ -13,7 +13,7 @@ ghost use Rattle.sb_root.specs.Entry.{is_rights, leaf_to};
 ghost use Rattle.sb_root.specs.Tables.{base_frames, rights_in, shared_frames, shared_place};
 ghost use Rattle.sb_root.specs.Root.{HasFreeIndex, IsLowestFree, IsSet, entry_of_view, is_listed, eptp_list_frame, no_threads, without_listing, view_of, with_view};
 ghost use Rattle.sb_root.specs.Standing.{IsBooked, IsRootFrame, Stands};
-ghost use Rattle.sb_root.specs.Answers.{Exposes, IsFirstBase, SameViews};
+ghost use Rattle.sb_root.specs.Answers.{Exposes, IsFirstBase, SameRights, SameViews};
 ghost use Rattle.sb_root.specs.Calls.{IsAddedList, IsAddedView, no_frames};
 
 use crate::entry::leaf;
@@ -179,6 +179,7 @@ impl RootKernel {
         ensures stands { Stands self.new memory.new }
         ensures booked { (book : Book) → IsBooked self.old book memory.old → IsBooked self.new book memory.new }
         ensures views { SameViews self.old memory.old memory.new }
+        ensures rights { SameRights memory.old memory.new }
     {
         if let Some(view) = self.views[usize::from(thread)][usize::from(index)] {
             self.put_view(

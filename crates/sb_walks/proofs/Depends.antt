@@ -14,7 +14,6 @@ use Rattle.sb_memory.specs.declared.address.GuestPhys.{GuestPhys}
 use Rattle.sb_walks.specs.declared.stop.TableStop.{TableStop}
 use Rattle.sb_walks.specs.declared.stop.WalkStop.{WalkStop}
 use Rattle.sb_walks.specs.declared.stop.WalkStop.TheVariants as walk
-use Rattle.sb_walks.specs.declared.stop.NestedStop.{NestedStop}
 use Rattle.sb_walks.specs.Entry.{frame_in, entry_place, index_at, four_levels}
 use Rattle.sb_memory.specs.Outcome.{and_then}
 use Rattle.sb_walks.specs.Gaps.{NoGap, ept_gap, table_gap, walk_gap, nested_gap}

@@ -1,10 +1,10 @@
 -- Walks in a memory that has all its frames meet no missing frame.
-use Rattle.std.proofs.Common.{◌≡◌, ℕ, ◌+◌, ◌*◌, ◌/◌, ◌%◌, ◌^◌, ◌<◌, Bool, true, false, cond, nat_le, ◌==◌, List, [], ◌∷◌, Result, Ok, Err, refl, sym, ap, ◌∙◌, subst, arith}
+use Rattle.std.proofs.Common.{◌≡◌, ℕ, ◌+◌, ◌*◌, ◌%◌, ◌^◌, ◌<◌, Bool, true, false, nat_le, ◌==◌, List, [], ◌∷◌, Result, Ok, Err, refl, sym, ap, ◌∙◌, subst, arith}
 use Rattle.std.specs.Prelude.{if◌then◌else◌, not, ◌&&◌, ◌||◌}
 use Rattle.std.proofs.lemmas.Grind.{common_steps}
 use Rattle.sb_memory.specs.Outcome.{and_then}
-use Rattle.sb_memory.specs.Physical.{Physical, HasAllFrames, frame_count, frame_of, has_frame}
-use Rattle.sb_memory.specs.Reading.{missing, word_read}
+use Rattle.sb_memory.specs.Physical.{Physical, HasAllFrames, frame_count, frame_of}
+use Rattle.sb_memory.specs.Reading.{word_read}
 use Rattle.sb_memory.specs.Words.{word_at}
 use Rattle.sb_memory.specs.declared.address.Access.{Access}
 use Rattle.sb_memory.specs.declared.address.Access.TheVariants.{Read}
@@ -12,17 +12,15 @@ use Rattle.sb_memory.specs.declared.address.GuestPhys.{GuestPhys}
 use Rattle.sb_memory.specs.declared.address.PhysAddr.{PhysAddr}
 use Rattle.sb_memory.specs.declared.address.EptStop.{EptStop}
 use Rattle.sb_memory.specs.declared.address.EptStop.TheVariants as stop
-use Rattle.sb_walks.specs.declared.entry.TheConstants.{WRITE_BACK}
 use Rattle.sb_walks.specs.declared.stop.TableStop.{TableStop}
 use Rattle.sb_walks.specs.declared.stop.WalkStop.{WalkStop}
 use Rattle.sb_walks.specs.declared.stop.WalkStop.TheVariants as walk
-use Rattle.sb_walks.specs.declared.stop.NestedStop.{NestedStop}
 use Rattle.sb_walks.specs.Entry.{entry_place, frame_in, four_levels, is_present, maps_large_page}
 use Rattle.sb_walks.specs.Ept.{ept_entry_answer, ept_levels, ept_permits, ept_step, ept_walk, is_large, is_misconfigured, phys_in}
 use Rattle.sb_walks.specs.Gaps.{NoGap, ept_gap, table_gap, walk_gap, nested_gap}
 use Rattle.sb_walks.specs.Guest.{address_in, guest_entry_answer, guest_read_answer, guest_walk, is_canonical, permits, walk_levels, walk_step}
 use Rattle.sb_walks.specs.Nested.{entry_answer, entry_behind, guest_entry, mapped_answer, page_answer, page_behind, translation}
-use Rattle.sb_walks.proofs.SamePage.{address, unwrapped}
+use Rattle.sb_walks.proofs.SamePage.{unwrapped}
 use Rattle.sb_walks.proofs.Page.{passed_not}
 
 -- ---- answers

@@ -9,18 +9,22 @@ use Rattle.sb_walks.specs.declared.stop.WalkStop.TheVariants as walk
 use Rattle.sb_walks.specs.declared.stop.NestedStop.{NestedStop}
 use Rattle.sb_walks.specs.declared.stop.NestedStop.TheVariants as nested
 
+-- a table of the EPT stands in a missing frame
 abbrev pub ept_gap : EptStop → Bool
 ept_gap (stop.Missing frame) = true
 ept_gap _ = false
 
+-- the entry of a table of the guest, or a table of the EPT on the way to it, stands in a missing frame
 abbrev pub table_gap : TableStop → Bool
 table_gap (table.Missing frame) = true
 table_gap (table.Ept e) = ept_gap e
 
+-- the guest's walk stops so
 abbrev pub walk_gap : WalkStop → Bool
 walk_gap (walk.Table unread) = table_gap unread
 walk_gap _ = false
 
+-- the nested walk stops so
 abbrev pub nested_gap : NestedStop → Bool
 nested_gap (nested.Walk e) = walk_gap e
 nested_gap (nested.Page e) = ept_gap e

@@ -3,7 +3,7 @@ use Rattle.std.specs.Prelude.{Some}
 use Rattle.sb_memory.specs.declared.address.Frame.{Frame}
 use Rattle.sb_root.specs.Root.{eptp_list_frame, view_of, ListOf}
 use Rattle.sb_root.proofs.AddingView.{list_found}
-use Rattle.sb_root.proofs.ClearingEntry.{set_few, stands_without, booked_without, views_without}
+use Rattle.sb_root.proofs.ClearingEntry.{set_few, stands_without, booked_without, rights_without, views_without}
 use Rattle.sb_root.proofs.Uses.{used_list}
 use Rattle.sb_root.proofs.root_kernel.RootKernel.clear_entry.Goals as goal
 
@@ -46,4 +46,12 @@ returns-in-Some-clause-views c =
     let entry = c.put_view.ensures.entry list.0 list.1 in
     rw entry
     (views_without c.args.self.now c.args.memory.now c.args.thread c.args.index list.0 c.in-Some.view c.requires.stands
+    c.requires.thread (few c) list.1 (kept c))
+
+pub returns-in-Some-clause-rights : goal.returns-in-Some-clause-rights
+returns-in-Some-clause-rights c =
+    let list = list c in
+    let entry = c.put_view.ensures.entry list.0 list.1 in
+    rw entry
+    (rights_without c.args.self.now c.args.memory.now c.args.thread c.args.index list.0 c.in-Some.view c.requires.stands
     c.requires.thread (few c) list.1 (kept c))
