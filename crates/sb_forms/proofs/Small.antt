@@ -54,7 +54,8 @@ sum_7 : (helper : Helper) (amount : ℤ) → length (spelling (add_number helper
 unfolding add_number
 sum_7 helper amount = refl
 
-jump_5 : (from to : ℕ) → length (spelling (jump_insn from to)) ≡ 5
+-- a jump by a distance has five bytes
+pub jump_5 : (from to : ℕ) → length (spelling (jump_insn from to)) ≡ 5
 unfolding jump_insn
 jump_5 from to = refl
 

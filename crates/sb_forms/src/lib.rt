@@ -29,6 +29,8 @@ mod table;
 pub use answer::Form;
 pub use code::Code;
 pub use helper::Helper;
-pub use laws::{across_borders, forms_small, free_helpers, pattern_places, wide_immediates};
+pub use laws::{
+    across_borders, forms_small, free_helpers, held_instructions, pattern_places, wide_immediates,
+};
 pub use places::form_applies;
 pub use table::form;

@@ -94,7 +94,7 @@ place_either (first ∷ bindings) last binding (suc place) is = place_either bin
 
 -- ---- pages
 
-added : (pages new : List Page) (name : PageName) (page : Page) → find_page pages name ≡ Some page
+pub added : (pages new : List Page) (name : PageName) (page : Page) → find_page pages name ≡ Some page
     → find_page (pages ++ new) name ≡ Some page
 added pages new name page there = found_added pages new name ∙ ap (λ found. either found (find_page new name)) there
 

@@ -125,27 +125,28 @@ frame_outside frames old new frame same apart =
 
 -- ---- changes stay in their frame
 
-only_frame : (one frame : ℕ) → Contains (one ∷ []) frame → frame ≡ one
-only_frame one frame (zero, within, is) = sym is
-only_frame one frame (suc k, within, is) = absurd (omega arith)
-
 this_frame : (one frame : ℕ) → frame ≡ one → Contains (one ∷ []) frame
 this_frame one frame same = (0, omega arith, sym same)
 
-byte_by : (present : Bool) (memory : Physical) (at byte : ℕ)
-    → SameOutside (frame_of at ∷ []) memory (if present then with_bytes memory (slice_set memory.bytes at byte) else memory)
-byte_by true memory at byte = record {
+byte_by : (present : Bool) (frames : List ℕ) (memory : Physical) (at byte : ℕ) → Contains frames (frame_of at)
+    → SameOutside frames memory (if present then with_bytes memory (slice_set memory.bytes at byte) else memory)
+byte_by true frames memory at byte within = record {
   present = refl;
   size = length-set memory.bytes at byte;
   bytes = λ place outside.
       get_or-set_other memory.bytes at place byte 0
-      (λ same. outside (this_frame (frame_of at) (frame_of place) (ap frame_of same)));
+      (λ same. outside (subst (Contains frames) (sym (ap frame_of same)) within));
 }
-byte_by false memory at byte = same_outside_self (frame_of at ∷ []) memory
+byte_by false frames memory at byte within = same_outside_self frames memory
+
+-- a byte is written into one of the frames
+pub same_outside_byte : (frames : List ℕ) (memory : Physical) (at byte : ℕ) → Contains frames (frame_of at)
+    → SameOutside frames memory (byte_written memory at byte)
+same_outside_byte frames memory at byte within = byte_by (has_frame memory (frame_of at)) frames memory at byte within
 
 -- a byte is written
 pub byte_within : (memory : Physical) (at byte : ℕ) → SameOutside (frame_of at ∷ []) memory (byte_written memory at byte)
-byte_within memory at byte = byte_by (has_frame memory (frame_of at)) memory at byte
+byte_within memory at byte = same_outside_byte (frame_of at ∷ []) memory at byte (this_frame (frame_of at) (frame_of at) refl)
 
 -- a word is put
 pub word_within : (memory : Physical) (at word : ℕ) → at % 8 ≡ 0

@@ -5,3 +5,5 @@ pub mod Stores
 pub mod Writing
 pub mod WholeWord
 pub mod OneByOne
+pub mod NoGaps
+pub mod Reached

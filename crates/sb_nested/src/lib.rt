@@ -23,6 +23,6 @@ mod tables;
 mod whole;
 
 pub use bus::NestedBus;
-pub use law::{at_most_24_words, whole_words_are_bytes};
+pub use law::{at_most_24_words, stores_change_what_they_reach, whole_memories_miss_nothing};
 pub use nested::translate;
 pub use sb_walks::NestedStop;

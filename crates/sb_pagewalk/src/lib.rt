@@ -20,7 +20,7 @@ mod tables;
 mod windows;
 
 pub use direct::Direct;
-pub use law::sets_keep_apart;
+pub use law::{sets_keep_apart, walks_go_through_sets};
 pub use sb_walks::{TableStop, WalkStop};
 pub use step::walk;
 pub use table_set::TableSet;

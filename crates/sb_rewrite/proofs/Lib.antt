@@ -6,6 +6,7 @@ pub mod Putting
 pub mod Kept
 pub mod Listed
 pub mod Made
+pub mod Length
 pub mod OneListing
 pub mod OneOriginal
 pub mod OneRewriting

@@ -86,6 +86,12 @@ Rewrites text (Err (AreaFull at)) =
 Rewrites text (Err (Left at)) = (of_text : List Place) × ArePlaces text of_text × FitsArea of_text × IsLeftAt (output of_text) at
 Rewrites text (Err Memory) = Unit {0}
 
+-- ---- how long what is made is
+
+-- what a text becomes has as many bytes as the text
+abbrev pub KeepsLength : Type 0
+KeepsLength = (text : List ℕ) (made : Output) → Rewrites text (Ok made) → length made.text ≡ length text
+
 -- ---- why the answer is the only one
 
 -- a text has one answer, but for want of memory

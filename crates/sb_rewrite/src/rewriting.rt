@@ -6,7 +6,7 @@ ghost use Rattle.sb_forms.specs.Places.{HasForm};
 ghost use Rattle.sb_rewrite.specs.Listing.{text_address, IsListing};
 ghost use Rattle.sb_rewrite.specs.Placing.{place, area_address, is_after_0f};
 ghost use Rattle.sb_rewrite.specs.Turns.{IsFrontOfText, JumpsLeadWell, ChecksTargets, ChecksMovable, with_start, Puts, IsPutRefusal, PutsAll};
-ghost use Rattle.sb_rewrite.specs.Rewriting.{Rewrites, OneRewriting, OneOriginal};
+ghost use Rattle.sb_rewrite.specs.Rewriting.{Rewrites, KeepsLength, OneRewriting, OneOriginal};
 
 use crate::draft::Draft;
 use crate::front::{Front, decode_front};
@@ -150,6 +150,7 @@ fn first_refusal(alloc: Global, text: &[u8], met: RewriteRefusal) -> RewriteRefu
 pub fn rewrite(alloc: Global, text: &[u8]) -> Result<Rewritten, RewriteRefusal>
     requires { length text.now ≤ 2097152 }
     ensures answer { Rewrites text.now result }
+    ensures as_long { IfOk result (λ made. length made.text ≡ length text.now) }
     // Bytes CC around the text or the area do not make the bytes of VMFUNC either.
     ensures text { IfOk result (λ made. IsClean made.text) }
     ensures area { IfOk result (λ made. IsClean made.area) }
@@ -163,6 +164,11 @@ pub fn rewrite(alloc: Global, text: &[u8]) -> Result<Rewritten, RewriteRefusal>
         None => Ok(draft.finish()),
     }
 }
+
+/// A law, which does nothing when it is called: what a text becomes has as many bytes as the text.
+pub fn rewriting_keeps_length()
+    ensures { KeepsLength }
+{}
 
 /// A law, which does nothing when it is called: a text has one answer, but for want of memory, and one original
 /// instruction at most runs at an address.

@@ -173,7 +173,7 @@ named_by true first page found name test more is = let same : first ≡ page = c
 named_by false first page found name test more is = more is
 
 -- a page that is found has the name
-found_name : (pages : List Page) (name : PageName) (page : Page) → find_page pages name ≡ Some page → page.name ≡ name
+pub found_name : (pages : List Page) (name : PageName) (page : Page) → find_page pages name ≡ Some page → page.name ≡ name
 found_name [] name page is = absurd cc
 found_name (first ∷ pages) name page is =
     named_by (same_name first.name name) first page (find_page pages name) name refl (found_name pages name page) is
@@ -333,7 +333,7 @@ view_starts (entry ∷ entries) first (suc number) = view_starts entries (first 
 abbrev no_flight : Option Flight
 no_flight = None
 
-none_flies : (count number : ℕ) → unwrap_or (slice_get (replicate count no_flight) number) no_flight ≡ no_flight
+pub none_flies : (count number : ℕ) → unwrap_or (slice_get (replicate count no_flight) number) no_flight ≡ no_flight
 none_flies zero number = refl
 none_flies (suc count) zero = refl
 none_flies (suc count) (suc number) = none_flies count number

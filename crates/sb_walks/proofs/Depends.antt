@@ -12,13 +12,12 @@ use Rattle.sb_memory.specs.declared.address.EptStop.TheVariants as stop
 use Rattle.sb_memory.specs.declared.address.PhysAddr.{PhysAddr}
 use Rattle.sb_memory.specs.declared.address.GuestPhys.{GuestPhys}
 use Rattle.sb_walks.specs.declared.stop.TableStop.{TableStop}
-use Rattle.sb_walks.specs.declared.stop.TableStop.TheVariants as table
 use Rattle.sb_walks.specs.declared.stop.WalkStop.{WalkStop}
 use Rattle.sb_walks.specs.declared.stop.WalkStop.TheVariants as walk
 use Rattle.sb_walks.specs.declared.stop.NestedStop.{NestedStop}
-use Rattle.sb_walks.specs.declared.stop.NestedStop.TheVariants as nested
 use Rattle.sb_walks.specs.Entry.{frame_in, entry_place, index_at, four_levels}
 use Rattle.sb_memory.specs.Outcome.{and_then}
+use Rattle.sb_walks.specs.Gaps.{NoGap, ept_gap, table_gap, walk_gap, nested_gap}
 use Rattle.sb_walks.specs.Reads.{where_ok}
 use Rattle.sb_walks.specs.Ept.{ept_entry, ept_step, ept_levels, ept_reads, ept_walk, ept_walk_reads, phys_in}
 use Rattle.sb_walks.specs.Guest.{is_canonical, guest_read_answer, walk_step, walk_levels, level_reads, guest_walk, walk_reads, address_in}
@@ -26,27 +25,6 @@ use Rattle.sb_walks.specs.Nested.{mapped_answer, entry_answer, entry_behind, gue
 use Rattle.sb_walks.proofs.Page.{ept_offset}
 
 -- ---- stops that are missing frames
-
-abbrev pub ept_gap : EptStop → Bool
-ept_gap (stop.Missing frame) = true
-ept_gap _ = false
-
-abbrev pub table_gap : TableStop → Bool
-table_gap (table.Missing frame) = true
-table_gap (table.Ept e) = ept_gap e
-
-abbrev pub walk_gap : WalkStop → Bool
-walk_gap (walk.Table unread) = table_gap unread
-walk_gap _ = false
-
-abbrev pub nested_gap : NestedStop → Bool
-nested_gap (nested.Walk e) = walk_gap e
-nested_gap (nested.Page e) = ept_gap e
-
--- an answer that is no missing frame, by the test of stops
-abbrev pub NoGap : {A E : Type 0} → (E → Bool) → Result A E → Type 0
-NoGap gap (Ok value) = Unit {0}
-NoGap gap (Err e) = gap e ≡ false
 
 pub first_no_gap : {A B E : Type 0} (gap : E → Bool) (answer : Result A E) (next : A → Result B E)
     → NoGap gap (and_then answer next) → NoGap gap answer

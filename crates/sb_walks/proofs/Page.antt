@@ -21,7 +21,7 @@ pub passed : {A E : Type 0} (test : Bool) (r : Result A E) (stop : E) (a : A) �
 passed true r stop a e = (refl, e)
 passed false r stop a e = cc
 
-passed_not : {A E : Type 0} (test : Bool) (r : Result A E) (stop : E) (a : A) → cond test (Err stop) r ≡ Ok a
+pub passed_not : {A E : Type 0} (test : Bool) (r : Result A E) (stop : E) (a : A) → cond test (Err stop) r ≡ Ok a
     → (test ≡ false) × (r ≡ Ok a)
 passed_not true r stop a e = cc
 passed_not false r stop a e = (refl, e)
