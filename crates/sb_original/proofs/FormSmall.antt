@@ -25,6 +25,7 @@ use Rattle.sb_forms.specs.Table.{is_one_byte, is_modrm, is_add_esp_edx, add_from
 use Rattle.sb_forms.proofs.Operands.{modrm_is}
 use Rattle.sb_original.specs.Original.{InPlaceLaw}
 use Rattle.sb_forms.proofs.Room.{one_byte_is}
+use Rattle.sb_forms.proofs.Room.{HasTwo}
 
 -- add esp, edx as 01 D4
 abbrev pub add_to_rm : Insn
@@ -37,23 +38,8 @@ unfolding row_of action_of action_by instruction_of operand_for one_byte load_of
 add_rows regs =
     record { accesses = record { load = refl; store = refl; effect = refl; stored = λ loaded. refl }; registers = λ loaded. refl }
 
-abbrev Whole : Bool → Option ℕ → Option ℕ → Disp → Imm → Op → Option ℕ → Type 0
-Whole lock rex sib displacement immediate op modrm =
-    is_none rex ≡ true → is_modrm_field (cell_of op) lock rex modrm ≡ true → is_sib_field modrm sib ≡ true
-    → kind_of_disp displacement ≡ disp_kind_of modrm sib
-    → kind_of_imm immediate ≡ imm_kind_of (rule_of (cell_of op) modrm) rex
-    → (let i : Insn = record {
-      lock = lock;
-      rex = rex;
-      op = op;
-      modrm = modrm;
-      sib = sib;
-      disp = displacement;
-      imm = immediate;
-    } in i) ≡ add_to_rm
-
 whole_fields : (lock : Bool) (rex sib : Option ℕ) (displacement : Disp) (immediate : Imm)
-    → Whole lock rex sib displacement immediate (One 0x01) (Some 0xD4)
+    → HasTwo lock rex sib displacement immediate (One 0x01) (Some 0xD4)
 unfolding one_byte permits has_sib modrm_disp
 whole_fields lock (Some rex) sib displacement immediate none e s d i = absurd cc
 whole_fields true None sib displacement immediate none e s d i = absurd cc
@@ -69,9 +55,9 @@ pub add_is : (insn : Insn) → IsValid insn → is_add_esp_edx insn ≡ true →
 add_is insn valid e =
     let parts = and_parts (is_none insn.rex) (is_one_byte 0x01 insn.op && is_modrm 0xD4 insn.modrm) e in
     let behind = and_parts (is_one_byte 0x01 insn.op) (is_modrm 0xD4 insn.modrm) parts.1 in
-    let fields : Whole insn.lock insn.rex insn.sib insn.disp insn.imm insn.op insn.modrm =
-    subst (λ op. Whole insn.lock insn.rex insn.sib insn.disp insn.imm op insn.modrm) (sym (one_byte_is 0x01 insn.op behind.0))
-    (subst (λ modrm. Whole insn.lock insn.rex insn.sib insn.disp insn.imm (One 0x01) modrm)
+    let fields : HasTwo insn.lock insn.rex insn.sib insn.disp insn.imm insn.op insn.modrm =
+    subst (λ op. HasTwo insn.lock insn.rex insn.sib insn.disp insn.imm op insn.modrm) (sym (one_byte_is 0x01 insn.op behind.0))
+    (subst (λ modrm. HasTwo insn.lock insn.rex insn.sib insn.disp insn.imm (One 0x01) modrm)
     (sym (modrm_is 0xD4 insn.modrm behind.1)) (whole_fields insn.lock insn.rex insn.sib insn.disp insn.imm)) in
     fields parts.0 valid.modrm valid.sib valid.disp valid.imm
 
