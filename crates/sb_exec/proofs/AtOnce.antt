@@ -28,8 +28,6 @@ none_before insn other count valid below begins =
       ap (λ (i : Insn). length (spelling i)) same,
     )
 
-)
-
 -- what begins bytes that stand there stands there
 front_stands : (fetch : ℕ → Result ℕ BusStop) (address : ℕ) (bytes front rest : List ℕ) → bytes ≡ front ++ rest
     → Stands fetch address bytes → Stands fetch address front
