@@ -2,3 +2,4 @@ pub mod Parts
 pub mod Sizes
 pub mod Known
 pub mod OneAnswer
+pub mod FirstState

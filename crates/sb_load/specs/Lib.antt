@@ -2,3 +2,4 @@ pub mod Need
 pub mod Loading
 pub mod RefusalText
 pub mod Checks
+pub mod FirstState

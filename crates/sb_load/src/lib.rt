@@ -5,8 +5,8 @@
 //! (`BadEntry`); and a bundle with fewer frames than it takes (`NoFrames`). No bundle has two answers (`one_answer`).
 //!
 //! `Loaded` owns a copy of the bundle, and for each process its rewritten text. To contracts it is `Load`: the bundle,
-//! and what rewriting gave. Not inside: the bundle's format (`sb_bundle`), how a text is rewritten (`sb_rewrite`), and
-//! the machine.
+//! and what rewriting gave; `specs/FirstState.antt` defines the state that it starts. Not inside: the bundle's format
+//! (`sb_bundle`), how a text is rewritten (`sb_rewrite`), and the machine.
 //!
 //! ```text
 //! let loaded = load(alloc, &bundle)?;                // or NoFrames { need: 25, have: 24 }, written "frames 25 24"

@@ -1,4 +1,4 @@
--- Pages of the start: their sizes, and what is said of each page of a list.
+-- Pages of the start: their sizes, and what is said of each page of a list; and how many threads there are.
 use Rattle.std.proofs.Common.{◌≡◌, ◌∙◌, ap, subst, ℕ, zero, suc, ◌+◌, Bool, true, false, List, [], ◌∷◌, ◌++◌, length, refl}
 use Rattle.std.specs.Prelude.{Option, Some, if◌then◌else◌}
 use Rattle.std.proofs.lemmas.List.{length-replicate}
@@ -11,7 +11,7 @@ use Rattle.sb_state.specs.declared.page.Page.{Page}
 use Rattle.sb_state.specs.PageName.{same_name}
 use Rattle.sb_state.specs.State.{find_page}
 use Rattle.sb_state.specs.PageWords.{zeros}
-use Rattle.sb_state.specs.Start.{record_bytes, pages_from}
+use Rattle.sb_state.specs.Start.{ThreadEntry, record_bytes, pages_from, start_threads}
 
 -- ---- sizes
 
@@ -60,3 +60,10 @@ pub each_from : (Claim : Page → Type 0) (page : ℕ → Page) (first count : �
     → EachPage Claim (pages_from page first count)
 each_from Claim page first zero all = tt
 each_from Claim page first (suc count) all = (all first, each_from Claim page (first + 1) count all)
+
+-- ---- threads
+
+-- there is one for each entry
+pub count_threads : (thread : ℕ) (entries : List ThreadEntry) → length (start_threads thread entries) ≡ length entries
+count_threads thread [] = refl
+count_threads thread (entry ∷ entries) = ap suc (count_threads (thread + 1) entries)

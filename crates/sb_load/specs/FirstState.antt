@@ -1,0 +1,33 @@
+-- The state that a loaded bundle starts.
+use Rattle.std.specs.Prelude.{ℕ, ◌-◌, List, [], ◌∷◌, map}
+use Rattle.sb_state.specs.State.{State}
+use Rattle.sb_state.specs.Start.{ProcessImage, ThreadEntry, start_state}
+use Rattle.sb_bundle.specs.declared.bundle.Image.{Image}
+use Rattle.sb_bundle.specs.declared.bundle.CoreStart.{CoreStart}
+use Rattle.sb_rewrite.specs.Output.{Output}
+use Rattle.sb_load.specs.Loading.{Load}
+use Rattle.sb_load.specs.Need.{need_of, have_of}
+
+-- the image of a process: what its text becomes stands in place of the text
+abbrev pub image_of : Image → Output → ProcessImage
+image_of image made =
+    record { text = made.text; area = made.area; starts = made.starts; initial = image.initial; heap_pages = image.heap_pages }
+
+abbrev pub images_of : List Image → List Output → List ProcessImage
+images_of [] rewritten = []
+images_of (image ∷ images) [] = []
+images_of (image ∷ images) (made ∷ others) = image_of image made ∷ images_of images others
+
+-- the images of the processes of what was loaded
+abbrev pub images_loaded : Load → List ProcessImage
+images_loaded load = images_of load.bundle.images load.rewritten
+
+-- a core runs the thread of its number
+abbrev pub entry_of : CoreStart → ThreadEntry
+entry_of core = record { home = core.process; address = core.entry }
+
+-- the frames that loading does not need are free
+abbrev pub first_state : Load → State
+first_state load =
+    start_state (images_loaded load) (map entry_of load.bundle.cores)
+    (have_of load.bundle - need_of load.bundle load.rewritten) load.bundle.keys
