@@ -5,9 +5,9 @@
 //! format, `specs/Limits.antt` its limits, `specs/Reading.antt` the refusals). Not inside: whether a machine can be
 //! started from the bundle, which is the loader's to say.
 //!
-//! No length is trusted before its bytes are there. The memory that reading takes is at most a small multiple of the
-//! input, by construction: a text and its data are copied from a slice that was cut from the input before, and every
-//! list grows by one element for each element that was read. Nothing is reserved by a count.
+//! No length is trusted before its bytes are there: a text and its data are copied from a slice that was cut from the input
+//! before, every list grows by one element for each element that was read, and nothing is reserved by a count. How much
+//! memory reading takes is in no clause.
 //!
 //! ```text
 //! let bundle = read_bundle(alloc, &bytes)?;          // the bytes "SKYB", 1, 0, .. or BundleRefusal::Magic { at: 0 }

@@ -7,6 +7,7 @@ use Rattle.sb_insn.specs.Grammar.{IsValid, BeginsWith}
 use Rattle.sb_decode.proofs.Exact.{none_begins_another}
 use Rattle.sb_bus.specs.declared.stop.BusStop.{BusStop}
 use Rattle.sb_exec.specs.Fetching.{Stands, HasShortFronts, Fetches}
+use Rattle.sb_exec.proofs.OneFetch.{short_fronts}
 
 -- no instruction begins a proper front of a spelling
 none_before : (insn other : Insn) (count : ℕ) → IsValid insn → count < length (spelling insn)
@@ -26,14 +27,6 @@ none_before insn other count valid below begins =
       length-append (spelling other) begins.1.0,
       ap (λ (i : Insn). length (spelling i)) same,
     )
-
--- each proper front of a spelling needs more
-pub short_fronts : (insn : Insn) → IsValid insn → HasShortFronts (spelling insn)
-unfolding HasShortFronts
-short_fronts insn valid count below = (
-  λ other begins. none_before insn other count valid below begins,
-  (drop count (spelling insn), insn, (valid, ([], take-append-drop count (spelling insn) ∙ sym (append-nil (spelling insn))))),
-)
 
 -- what begins bytes that stand there stands there
 front_stands : (fetch : ℕ → Result ℕ BusStop) (address : ℕ) (bytes front rest : List ℕ) → bytes ≡ front ++ rest

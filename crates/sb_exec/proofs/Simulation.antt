@@ -144,7 +144,7 @@ run_agrees At Related naming left right keep (one_access ∷ accesses) first sec
 
 -- ---- a row
 
-effect_told : (naming : BusStop → BusStop) (effect : Effect) (answer : Result ℕ BusStop)
+pub effect_told : (naming : BusStop → BusStop) (effect : Effect) (answer : Result ℕ BusStop)
     → effect_after effect (told naming answer) ≡ told naming (effect_after effect answer)
 effect_told naming effect (Ok loaded) = refl
 effect_told naming effect (Err stop) = refl

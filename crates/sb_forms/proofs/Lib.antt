@@ -16,4 +16,5 @@ pub mod Where
 pub mod Helpers
 pub mod Small
 pub mod Immediates
+pub mod Foreseen
 pub mod Across

@@ -133,7 +133,7 @@ vmfunc_3 insn valid is =
     )
 
 -- what the fields of such an instruction come to
-abbrev HasTwo : Bool → Option ℕ → Option ℕ → Disp → Imm → Op → Option ℕ → Type 0
+abbrev pub HasTwo : Bool → Option ℕ → Option ℕ → Disp → Imm → Op → Option ℕ → Type 0
 HasTwo lock rex sib displacement immediate op modrm =
     is_none rex ≡ true → is_modrm_field (cell_of op) lock rex modrm ≡ true → is_sib_field modrm sib ≡ true
     → kind_of_disp displacement ≡ disp_kind_of modrm sib

@@ -29,11 +29,11 @@ use Rattle.sb_scan.specs.Pattern.{HasPatternAt}
 use Rattle.sb_forms.specs.Holding.{holds_pattern}
 use Rattle.sb_forms.specs.Table.{is_vmfunc, has_memory}
 use Rattle.sb_insn.specs.Branch.{imm_value, is_distance, is_relative, is_direct}
-use Rattle.sb_forms.specs.Places.{front, HasForm, IsPermitted, BehindOpcode, AtModrm, IsOrImul, NotInJumps}
+use Rattle.sb_forms.specs.Places.{front, HasForm, IsPermitted, BehindOpcode, AtModrm, IsOrImul, InImmediate, NotInJumps}
 use Rattle.sb_forms.proofs.Held.{before, not_held, none_held, nothing_holds, byte_holds}
 use Rattle.sb_forms.proofs.Lowered.{IsInFour, in_four}
 use Rattle.sb_forms.proofs.Maps.{of_operand, narrow, is_narrow, is_bare, one_narrow, two_bare, bare_imm}
-use Rattle.sb_forms.proofs.Operands.{bare_0f}
+use Rattle.sb_forms.proofs.Operands.{bare_0f, no_memory}
 use Rattle.sb_forms.proofs.Fronts.{IsRex, IsOpcode, valid_rex, valid_op}
 use Rattle.sb_forms.proofs.Behind.{behind_opcode, imm_holds}
 
@@ -56,14 +56,18 @@ behind_0f : (byte : ℕ) (bytes : List ℕ) (count : ℕ) → (byte ≡ 0x01 →
 behind_0f byte bytes count other from zero stands = absurd (other stands.1)
 behind_0f byte bytes count other from (suc place) stands = omega (arith, from place (before 0x0F (byte ∷ bytes) place stands))
 
-op_from : (op : Op) (rest : List ℕ) → IsOpcode op → BeginsFrom (length (op_bytes op)) (op_bytes op ++ rest)
-op_from (One opcode) rest known = one_more opcode rest 0 known.0 (anywhere rest)
-op_from (Two opcode) rest known = behind_0f opcode rest 1 known.0 (one_more opcode rest 0 known.1 (anywhere rest))
-op_from Endbr rest known =
-    one_more 0xF3 (0x0F ∷ 0x1E ∷ 0xFA ∷ rest) 3 (λ is. omega (arith, is))
-    (behind_0f 0x1E (0xFA ∷ rest) 2 (λ is. omega (arith, is))
-    (one_more 0x1E (0xFA ∷ rest) 1 (λ is. omega (arith, is)) (one_more 0xFA rest 0 (λ is. omega (arith, is)) (anywhere rest))))
-op_from Vmfunc rest known = absurd known
+op_from : (op : Op) (rest : List ℕ) (count : ℕ) → IsOpcode op → BeginsFrom count rest
+    → BeginsFrom (length (op_bytes op) + count) (op_bytes op ++ rest)
+op_from (One opcode) rest count known from place stands = omega (arith, one_more opcode rest count known.0 from place stands)
+op_from (Two opcode) rest count known from place stands =
+    omega (arith, behind_0f opcode rest (suc count) known.0 (one_more opcode rest count known.1 from) place stands)
+op_from Endbr rest count known from place stands =
+    let last = one_more 0xFA rest count (λ is. omega (arith, is)) from in
+    let third = one_more 0x1E (0xFA ∷ rest) (suc count) (λ is. omega (arith, is)) last in
+    let second = behind_0f 0x1E (0xFA ∷ rest) (suc (suc count)) (λ is. omega (arith, is)) third in
+    let first = one_more 0xF3 (0x0F ∷ 0x1E ∷ 0xFA ∷ rest) (suc (suc (suc count))) (λ is. omega (arith, is)) second in
+    omega (arith, first place stands)
+op_from Vmfunc rest count known from place stands = absurd known
 
 rex_from : (rex : Option ℕ) (rest : List ℕ) (count : ℕ) → IsRex rex → BeginsFrom count rest
     → BeginsFrom (length (option_to_list rex) + count) (option_to_list rex ++ rest)
@@ -76,15 +80,15 @@ lock_from : (lock : Bool) (rest : List ℕ) (count : ℕ) → BeginsFrom count r
 lock_from false rest count from place stands = omega (arith, from place stands)
 lock_from true rest count from place stands = omega (arith, one_more 0xF0 rest count (λ is. omega (arith, is)) from place stands)
 
-front_from : (lock : Bool) (rex : Option ℕ) (op : Op) (rest : List ℕ) → IsRex rex → IsOpcode op
-    → BeginsFrom (length (front_bytes lock rex op)) (front_bytes lock rex op ++ rest)
-front_from lock rex op rest range known place stands =
+front_from : (lock : Bool) (rex : Option ℕ) (op : Op) (rest : List ℕ) (count : ℕ) → IsRex rex → IsOpcode op
+    → BeginsFrom count rest → BeginsFrom (length (front_bytes lock rex op) + count) (front_bytes lock rex op ++ rest)
+front_from lock rex op rest count range known behind place stands =
     let same : (front_bytes lock rex op ++ rest) ≡ lock_bytes lock ++ (option_to_list rex ++ (op_bytes op ++ rest)) =
     append_assoc (lock_bytes lock) (option_to_list rex ++ op_bytes op) rest
     ∙ ap (λ (bytes : List ℕ). lock_bytes lock ++ bytes) (append_assoc (option_to_list rex) (op_bytes op) rest) in
     let from =
-    lock_from lock (option_to_list rex ++ (op_bytes op ++ rest)) (length (option_to_list rex) + length (op_bytes op))
-    (rex_from rex (op_bytes op ++ rest) (length (op_bytes op)) range (op_from op rest known)) place
+    lock_from lock (option_to_list rex ++ (op_bytes op ++ rest)) (length (option_to_list rex) + (length (op_bytes op) + count))
+    (rex_from rex (op_bytes op ++ rest) (length (op_bytes op) + count) range (op_from op rest count known behind)) place
     (subst (λ (bytes : List ℕ). HasPatternAt bytes place) same stands) in
     omega (
       arith,
@@ -93,7 +97,7 @@ front_from lock rex op rest range known place stands =
       length-append (option_to_list rex) (op_bytes op),
     )
 
-not_vmfunc : (op : Op) → (op ≡ Vmfunc → ⊥) → is_vmfunc op ≡ false
+pub not_vmfunc : (op : Op) → (op ≡ Vmfunc → ⊥) → is_vmfunc op ≡ false
 not_vmfunc (One opcode) other = refl
 not_vmfunc (Two opcode) other = refl
 not_vmfunc Endbr other = refl
@@ -101,15 +105,37 @@ not_vmfunc Vmfunc other = absurd (other refl)
 
 pub behind_opcode_only : BehindOpcode
 behind_opcode_only insn place valid other stands =
-    front_from
-    insn.lock
-    insn.rex
-    insn.op
-    (behind_opcode insn)
-    (valid_rex insn.rex valid.rex)
+    omega (
+      arith,
+      front_from insn.lock insn.rex insn.op (behind_opcode insn) 0 (valid_rex insn.rex valid.rex)
+          (valid_op insn.op insn.lock insn.rex insn.modrm (not_vmfunc insn.op other) valid.modrm)
+          (anywhere (behind_opcode insn)) place stands,
+    )
+
+-- ---- without a memory operand
+
+register_from : (modrm : Option ℕ) (rest : List ℕ) → has_memory modrm ≡ false
+    → BeginsFrom (length (option_to_list modrm)) (option_to_list modrm ++ rest)
+register_from None rest alone = anywhere rest
+register_from (Some modrm) rest alone =
+    one_more modrm rest 0 (λ is. both_ways (has_memory (Some modrm)) alone (ap (λ (m : ℕ). has_memory (Some m)) is))
+        (anywhere rest)
+
+pub in_immediate : InImmediate
+in_immediate insn place valid other alone stands =
+    let none = no_memory insn.modrm insn.sib insn.disp alone valid.sib valid.disp in
+    let sib : length (option_to_list insn.sib) ≡ 0 = ap (λ s. length (option_to_list s)) none.0 in
+    let disp : length (disp_bytes insn.disp) ≡ 0 = ap (λ d. length (disp_bytes d)) none.1 in
+    let from =
+    front_from insn.lock insn.rex insn.op (behind_opcode insn) (length (option_to_list insn.modrm)) (valid_rex insn.rex valid.rex)
     (valid_op insn.op insn.lock insn.rex insn.modrm (not_vmfunc insn.op other) valid.modrm)
-    place
-    stands
+    (register_from insn.modrm (option_to_list insn.sib ++ (disp_bytes insn.disp ++ imm_bytes insn.imm)) alone) place stands in
+    let last = length-append (disp_bytes insn.disp) (imm_bytes insn.imm) in
+    let more = length-append (option_to_list insn.sib) (disp_bytes insn.disp ++ imm_bytes insn.imm) in
+    let rest =
+          length-append (option_to_list insn.modrm) (option_to_list insn.sib ++ (disp_bytes insn.disp ++ imm_bytes insn.imm)) in
+    let whole = length-append (front insn) (behind_opcode insn) in
+    omega (arith, from, sib, disp, last, more, rest, whole)
 
 -- ---- at ModRM
 

@@ -59,7 +59,8 @@ with_helper helper insn = record insn {
   disp = (at_helper helper).disp;
 }
 
--- the opcode of the same instruction on rm and reg, or for IMUL on reg and rm; MOV in every other case
+-- The opcode of the same instruction on rm and reg, or for IMUL on reg and rm. PUSH has its register in the opcode, and no
+-- other mnemonic below MOV comes (`held_instructions`).
 abbrev pub register_op : Mnemonic → Op
 register_op Add = One 0x01
 register_op Or = One 0x09

@@ -1,5 +1,5 @@
 -- Where the bytes of VMFUNC can stand in an instruction.
-use Rattle.std.specs.Prelude.{◌≡◌, ℕ, ◌+◌, ◌*◌, ◌%◌, ◌^◌, ◌<◌, ◌≤◌, ◌⊎◌, IsTrue, Some}
+use Rattle.std.specs.Prelude.{◌≡◌, ℕ, ◌+◌, ◌*◌, ◌%◌, ◌^◌, ◌<◌, ◌≤◌, ◌⊎◌, IsTrue, false, Some}
 use Rattle.std.specs.Prelude.{length, ◌∷◌, List}
 use Rattle.sb_abi.specs.declared.space.TheConstants.{WINDOW_PAGES, TEXT_ADDRESS}
 use Rattle.sb_memory.specs.declared.page.TheConstants.{PAGE_SIZE}
@@ -8,8 +8,9 @@ use Rattle.sb_insn.specs.declared.insn.Insn.{Insn}
 use Rattle.sb_insn.specs.declared.insn.Op.TheVariants.{One, Vmfunc}
 use Rattle.sb_insn.specs.Spelling.{front_bytes, imm_bytes, spelling}
 use Rattle.sb_insn.specs.Grammar.{IsValid}
-pub use Rattle.sb_insn.specs.Branch.{imm_value as distance, is_distance, is_relative, is_direct}
+use Rattle.sb_insn.specs.Branch.{imm_value, is_direct}
 use Rattle.sb_scan.specs.Pattern.{HasPatternAt, HasNoPattern}
+use Rattle.sb_forms.specs.Table.{has_memory}
 
 -- the bytes before ModRM: LOCK, REX and the opcode
 abbrev pub front : Insn → List ℕ
@@ -30,6 +31,17 @@ AtModrm =
     (insn : Insn) (modrm : ℕ) → IsValid insn → insn.modrm ≡ Some modrm → HasPatternAt (spelling insn) (length (front insn))
     → (modrm ≡ 0x0F) × IsOrImul insn × ((behind : List ℕ) × (imm_bytes insn.imm ≡ 0x01 ∷ 0xD4 ∷ behind))
 
+-- an instruction other than VMFUNC that holds them has at least five bytes
+abbrev pub AtLeastFive : Type 0
+AtLeastFive = (insn : Insn) (place : ℕ) → IsValid insn → ¬ (insn.op ≡ Vmfunc) → HasPatternAt (spelling insn) place
+    → 5 ≤ length (spelling insn)
+
+-- In one without a memory operand they lie in the immediate, which stands last.
+abbrev pub InImmediate : Type 0
+InImmediate =
+    (insn : Insn) (place : ℕ) → IsValid insn → ¬ (insn.op ≡ Vmfunc) → has_memory insn.modrm ≡ false
+    → HasPatternAt (spelling insn) place → length (spelling insn) ≤ place + length (imm_bytes insn.imm)
+
 -- JMP, Jcc or CALL with a distance
 abbrev pub IsDirect : Insn → Type 0
 IsDirect insn = IsTrue (is_direct insn)
@@ -40,7 +52,7 @@ HasForm insn = IsDirect insn → HasNoPattern (spelling insn)
 
 -- where a direct jump at an address leads
 abbrev pub target : Insn → ℕ → ℕ
-target insn at = (at + length (spelling insn) + distance insn.imm) % 2 ^ 64
+target insn at = (at + length (spelling insn) + imm_value insn.imm) % 2 ^ 64
 
 -- the address after the last that a text can have
 abbrev pub text_end : ℕ

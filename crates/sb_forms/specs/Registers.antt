@@ -102,7 +102,7 @@ is_taken (Some taken) helper = number_of taken == number_of helper
 abbrev pub is_free : OperandForm → Insn → Option Helper → Helper → Bool
 is_free form insn taken helper = not (is_named form insn (number_of helper)) && not (is_taken taken helper)
 
--- the first free one; an instruction names at most three, so of five there is one even where one is taken
+-- the first free one; a valid instruction leaves two free (`free_helpers`), so the list does not run out
 abbrev pub first_free : OperandForm → Insn → Option Helper → List Helper → Helper
 first_free form insn taken [] = Rdi
 first_free form insn taken (helper ∷ rest) = if is_free form insn taken helper then helper else first_free form insn taken rest

@@ -21,7 +21,7 @@ use Rattle.sb_landing.specs.Rows.{address_of}
 use Rattle.sb_landing.specs.Stages.{Landing, stage, begun as begun_moved}
 use Rattle.sb_landing.specs.AtPhase.{AreWords, AtPhase, first_left, landing_in}
 use Rattle.sb_landing.specs.Bound.{IsBound}
-use Rattle.sb_landing.specs.Lands.{Arrives, LandsBeside, Lands, landing_step, behind}
+use Rattle.sb_landing.specs.Lands.{Arrives, LandsBeside, Lands, phase_execution, behind}
 use Rattle.sb_landing.specs.Related.{Begun, IsBeside, AreBeside}
 use Rattle.sb_landing.specs.Laws.{FlightsBegin, OthersStay, begun_behind, StepsBeside, StepsStayBeside}
 use Rattle.sb_landing.proofs.Walk.{flight_placed}
@@ -133,9 +133,9 @@ steps_beside old core event new flight begun real sound beside steps lands = rec
   line = lands.line;
   beside = λ number.
       set_by (number == core) new core number (begun_behind (flight_at new core) (begun core)) begun
-      (behind flight.phase (landing_step old core flight (real core)).registers) real refl
+      (behind flight.phase (phase_execution old core flight (real core)).registers) real refl
       (arrives_beside new core (flight_at new core) (begun core)
-      (behind flight.phase (landing_step old core flight (real core)).registers) lands.arrives)
+      (behind flight.phase (phase_execution old core flight (real core)).registers) lands.arrives)
       (λ apart. others_stay old core event new number (begun number) (real number) sound steps apart (beside number));
 }
 

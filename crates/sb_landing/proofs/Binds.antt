@@ -13,11 +13,11 @@ use Rattle.sb_state.specs.declared.state.Binding.{Binding}
 use Rattle.sb_state.specs.declared.state.Registration.{Registration}
 use Rattle.sb_state.specs.declared.state.Thread.{Thread}
 use Rattle.sb_trace.specs.PageName.{same_name}
-use Rattle.sb_trace.specs.State.{State, Process, find_page, thread_at, with_thread, flight_at, process_at, registration_of, registration_at}
+use Rattle.sb_trace.specs.State.{State, Process, find_page, thread_at, with_thread, flight_at, process_at, registration_of, registration_at, page_with}
 use Rattle.sb_trace.specs.KernelCall.{binding_in, handler_in}
-use Rattle.sb_trace.specs.Start.{page_with, record_bytes}
+use Rattle.sb_trace.specs.Start.{record_bytes}
 use Rattle.sb_trace.specs.SyscallBind.{has_index, first_key, server_words, binding_pages, with_binding, new_binding}
-use Rattle.sb_state.proofs.Pages.{either, found_added}
+use Rattle.sb_state.proofs.PageLists.{either, found_added}
 use Rattle.sb_trace.proofs.Threads.{thread_other, only_thread}
 use Rattle.sb_landing.specs.Bound.{HasPoolBytes, RecordsAreBound, IsBindingSound, IsDecidedView, IsBound}
 use Rattle.sb_landing.specs.Laws.{IsFreeIndex, CanBind, BindingsKeepBound}
@@ -94,7 +94,7 @@ place_either (first ∷ bindings) last binding (suc place) is = place_either bin
 
 -- ---- pages
 
-added : (pages new : List Page) (name : PageName) (page : Page) → find_page pages name ≡ Some page
+pub added : (pages new : List Page) (name : PageName) (page : Page) → find_page pages name ≡ Some page
     → find_page (pages ++ new) name ≡ Some page
 added pages new name page there = found_added pages new name ∙ ap (λ found. either found (find_page new name)) there
 

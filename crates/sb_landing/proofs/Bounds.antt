@@ -29,7 +29,7 @@ use Rattle.sb_trace.specs.Sound.{StandsAtSwitch, IsUndecided, IsDecidedSound, Is
 use Rattle.sb_trace.proofs.Flights.{flight_of}
 use Rattle.sb_state.proofs.Names.{name_same}
 use Rattle.std.specs.Option.{option_map}
-use Rattle.sb_state.proofs.Pages.{with_bytes, found_same, found_other}
+use Rattle.sb_state.proofs.PageLists.{with_bytes, found_same, found_other}
 use Rattle.sb_state.proofs.Threads.{thread_set}
 use Rattle.sb_trace.proofs.Threads.{thread_other, only_thread, flight_other, only_flight, bound_there}
 use Rattle.sb_landing.specs.Bound.{HasPoolBytes, phases_of, IsMask, IsDecidedView, IsFlightBound, IsBound}
@@ -43,6 +43,7 @@ use Rattle.sb_landing.proofs.Deciding.{decided_state, is_other}
 use Rattle.sb_landing.specs.Laws.{FlightsKeepBound}
 use Rattle.sb_landing.proofs.Exchange.{not_zero}
 use Rattle.sb_landing.proofs.Kept.{LeavesBindings, bindings_stay, records_stay, pools_stay, handlers_stay, set_small, contents_small, changed_small}
+use Rattle.sb_state.proofs.Threads.{thread_set_there}
 
 -- ---- a flight is set
 
@@ -155,11 +156,6 @@ set_by [] index old value default there = absurd cc
 set_by (first ∷ list) zero old value default there = refl
 set_by (first ∷ list) (suc index) old value default there = set_by list index old value default there
 
-one_set : (state : State) (number : ℕ) (old thread : Thread) → slice_get state.threads number ≡ Some old
-    → thread_at (with_thread state number thread) number ≡ thread
-unfolding thread_at
-one_set state number old thread there = set_by state.threads number old thread _ there
-
 viewed_flight : (state : State) (core view : ℕ) (regs : Regs)
     → flight_at (with_view state core view regs) core ≡ flight_at state core
 unfolding with_view flight_at
@@ -187,7 +183,7 @@ decided_view : (state : State) (core view : ℕ) (regs : Regs) (flight : Flight)
 unfolding with_view with_flight thread_at
 decided_view state core view regs flight there =
     ap (λ (thread : Thread). thread.view)
-    (one_set state core (thread_at state core) (record (thread_at state core) { view = view; regs = regs }) there)
+    (thread_set_there state core (thread_at state core) (record (thread_at state core) { view = view; regs = regs }) there)
 
 decided_leaves : (state : State) (core view : ℕ) (regs : Regs) (flight : Flight)
     → LeavesBindings state (decided_state state core view regs flight)

@@ -27,7 +27,7 @@ use Rattle.sb_trace.specs.Windows.{page_for}
 use Rattle.sb_trace.specs.PlainMemory.{Placed, bytes_to_put, placed_at, put_byte, put_all, plain, plain_stored}
 use Rattle.sb_trace.specs.Changes.{shape_of}
 use Rattle.sb_state.proofs.Names.{name_same}
-use Rattle.sb_state.proofs.Pages.{with_bytes, found_same, found_other}
+use Rattle.sb_state.proofs.PageLists.{with_bytes, found_same, found_other}
 use Rattle.sb_trace.proofs.Stores.{KeepsShapes, execution_written}
 use Rattle.sb_state.proofs.Threads.{thread_set}
 use Rattle.sb_trace.proofs.Threads.{thread_other, only_thread}

@@ -9,12 +9,12 @@ use Rattle.sb_state.specs.declared.page.PageName.{PageName}
 use Rattle.sb_state.specs.declared.page.PageName.TheVariants.{Pool, Record}
 use Rattle.sb_state.specs.declared.state.Registration.{Registration}
 use Rattle.sb_trace.specs.PageName.{same_name}
-use Rattle.sb_trace.specs.State.{State, Process, find_page, thread_at, flight_at, process_at, registration_of, registration_at}
+use Rattle.sb_trace.specs.State.{State, Process, find_page, thread_at, flight_at, process_at, registration_of, registration_at, is_listed}
 use Rattle.sb_trace.specs.PageWords.{with_word}
 use Rattle.sb_trace.specs.State.{with_contents}
 use Rattle.sb_trace.specs.Start.{pages_from}
-use Rattle.sb_trace.specs.SyscallRegister.{is_listed, server_stack_page, with_registration, with_server}
-use Rattle.sb_state.proofs.Pages.{either, found_added}
+use Rattle.sb_trace.specs.SyscallRegister.{server_stack_page, with_registration, with_server}
+use Rattle.sb_state.proofs.PageLists.{either, found_added}
 use Rattle.sb_landing.specs.Bound.{HasPoolBytes, HavePools, HaveHandlers, HasWordStarts, IsBound}
 use Rattle.sb_landing.specs.Laws.{CanRegister, RegistrationsKeepBound}
 use Rattle.sb_landing.proofs.Kept.{LeavesBindings, bindings_stay, records_stay}

@@ -11,15 +11,17 @@ use Rattle.sb_trace.specs.PageName.{same_name}
 use Rattle.std.proofs.lemmas.Bool.Decides.{Decides-eqb}
 use Rattle.std.proofs.lemmas.List.{length-replicate}
 use Rattle.sb_state.specs.declared.state.Registration.{Registration}
-use Rattle.sb_state.proofs.Pages.{either, found_added}
-use Rattle.sb_trace.specs.State.{Process, find_page, thread_at, no_thread, flight_at, process_at, registration_of, registration_at}
+use Rattle.sb_state.proofs.PageLists.{either, found_added}
+use Rattle.sb_trace.specs.State.{Process, find_page, thread_at, no_thread, flight_at, process_at, registration_of, registration_at, page_with}
 use Rattle.sb_trace.specs.PageWords.{zeros}
 use Rattle.sb_trace.specs.KernelCall.{binding_in}
-use Rattle.sb_trace.specs.Start.{ProcessImage, ThreadEntry, page_with, padded_page, page_count, padded_pages, heap_page, heap_pages, process_pages, thread_pages, trampoline_pages, images_pages, threads_pages, start_threads, start_process}
+use Rattle.sb_trace.specs.Start.{ProcessImage, ThreadEntry, padded_page, page_count, padded_pages, heap_page, heap_pages, process_pages, thread_pages, trampoline_pages, images_pages, threads_pages, start_threads, start_process}
 use Rattle.sb_state.proofs.Names.{name_same}
 use Rattle.sb_state.proofs.Start.{EachPage, found_each, each_both, each_from}
 use Rattle.sb_landing.specs.Bound.{HasWordStarts}
 use Rattle.sb_landing.specs.Laws.{StartIsBound}
+use Rattle.sb_trace.proofs.Beginning.{found_name}
+use Rattle.sb_trace.proofs.Beginning.{none_flies}
 
 -- ---- pages
 
@@ -89,16 +91,10 @@ named_by true first page name found is more there = let same : first ≡ page = 
     subst (λ (one : Page). one.name ≡ name) same (name_same first.name name is)
 named_by false first page name found is more there = more there
 
--- the page that is found has the name
-found_named : (pages : List Page) (name : PageName) (page : Page) → find_page pages name ≡ Some page → page.name ≡ name
-found_named [] name page there = absurd cc
-found_named (first ∷ pages) name page there =
-    named_by (same_name first.name name) first page name (find_page pages name) refl (found_named pages name page) there
-
 first_found : (images : List ProcessImage) (entries : List ThreadEntry) (name : PageName) (page : Page)
     → find_page (first_pages images entries) name ≡ Some page → IsFirst name page.bytes
 first_found images entries name page there =
-    subst (λ (n : PageName). IsFirst n page.bytes) (found_named (first_pages images entries) name page there)
+    subst (λ (n : PageName). IsFirst n page.bytes) (found_name (first_pages images entries) name page there)
     (found_each IsFirstPage (first_pages images entries) name page (pages_first images entries) there)
 
 -- ---- threads and processes
@@ -112,11 +108,6 @@ no_bindings (entry ∷ entries) first (suc number) = no_bindings entries (first 
 
 abbrev no_flight : Option Flight
 no_flight = None
-
-none_flies : (count number : ℕ) → unwrap_or (slice_get (replicate count no_flight) number) no_flight ≡ no_flight
-none_flies zero number = refl
-none_flies (suc count) zero = refl
-none_flies (suc count) (suc number) = none_flies count number
 
 threads_long : (entries : List ThreadEntry) (first : ℕ) → length (start_threads first entries) ≡ length entries
 threads_long [] first = refl

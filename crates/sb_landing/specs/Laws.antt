@@ -5,10 +5,10 @@ use Rattle.sb_exec.specs.Fetching.{FetchesOn}
 use Rattle.sb_trace.specs.declared.event.Event.{Event}
 use Rattle.sb_state.specs.declared.state.Binding.{Binding}
 use Rattle.sb_state.specs.declared.state.Flight.{Flight}
-use Rattle.sb_trace.specs.SyscallRegister.{is_listed, with_server}
+use Rattle.sb_trace.specs.SyscallRegister.{with_server}
 use Rattle.sb_trace.specs.SyscallBind.{has_index, free_index, with_binding, new_binding}
 use Rattle.sb_state.specs.declared.state.Registration.{Registration}
-use Rattle.sb_trace.specs.State.{registration_at}
+use Rattle.sb_trace.specs.State.{registration_at, is_listed}
 use Rattle.sb_trace.specs.State.{Process, process_at}
 use Rattle.sb_trace.specs.State.{State, thread_at, flight_at, with_flight, with_regs}
 use Rattle.sb_trace.specs.Start.{ProcessImage, ThreadEntry, start_state}
@@ -21,7 +21,7 @@ use Rattle.sb_trace.specs.Sound.{IsSound}
 use Rattle.sb_landing.specs.Rows.{row_at, address_of}
 use Rattle.sb_landing.specs.AtPhase.{AreWords, AtPhase, failed_at}
 use Rattle.sb_landing.specs.Bound.{IsBound}
-use Rattle.sb_landing.specs.Lands.{landing_step, effect_at, behind, line_of, Lands}
+use Rattle.sb_landing.specs.Lands.{phase_execution, effect_at, behind, line_of, Lands}
 use Rattle.sb_landing.specs.Related.{Begun, IsBeside, AreBeside}
 
 -- a step in flight, at whatever phase
@@ -75,11 +75,11 @@ begun_behind next begun = record { start = begun.start; failed = failed_behind n
 pub record StepsBeside (old : State) (core : ℕ) (event : Event) (new : State) (flight : Flight) (begun : ℕ → Begun)
     (real : ℕ → Regs) : Type 0 where
   pub fetched : FetchesOn (plain core flight.index) old (real core).rip tt tt (Ok (row_at flight.phase).insn)
-  pub answer : (landing_step old core flight (real core)).answer ≡ Ok (effect_at flight.phase)
-  pub memory : (landing_step old core flight (real core)).meaning.pages ≡ new.pages
-  pub line : event ≡ line_of flight.phase flight.index (landing_step old core flight (real core)).registers
+  pub answer : (phase_execution old core flight (real core)).answer ≡ Ok (effect_at flight.phase)
+  pub memory : (phase_execution old core flight (real core)).meaning.pages ≡ new.pages
+  pub line : event ≡ line_of flight.phase flight.index (phase_execution old core flight (real core)).registers
   pub beside : AreBeside new (set_at core (begun_behind (flight_at new core) (begun core)) begun)
-      (set_at core (behind flight.phase (landing_step old core flight (real core)).registers) real)
+      (set_at core (behind flight.phase (phase_execution old core flight (real core)).registers) real)
 
 abbrev pub StepsStayBeside : Type 0
 StepsStayBeside =

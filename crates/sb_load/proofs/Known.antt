@@ -11,10 +11,11 @@ use Rattle.sb_bundle.specs.declared.bundle.Image.{Image}
 use Rattle.sb_bundle.specs.declared.bundle.CoreStart.{CoreStart}
 use Rattle.sb_bundle.specs.Limits.{IsBundle, IsImage, IsCoreStart, AllBelow}
 use Rattle.sb_rewrite.specs.Output.{Output}
-use Rattle.sb_load.specs.Loading.{Load, IsLoadable, nothing, rewritten_of}
+use Rattle.sb_rewrite.proofs.Length.{keeps_length}
+use Rattle.sb_load.specs.Loading.{Load, IsLoadable, AreAsLong, nothing, text_of, rewritten_of}
 use Rattle.sb_load.specs.Need.{need_of, have_of}
 use Rattle.sb_load.proofs.Parts.{as_many}
-use Rattle.sb_load.proofs.Sizes.{small_area, counted_text, rising_starts, text_of}
+use Rattle.sb_load.proofs.Sizes.{as_long, small_area, rising_starts, has_text}
 
 -- there are no more rewritten texts than processes, and no fewer
 at_most : (load : Load) → ∥ IsLoadable load ∥₁ → length load.rewritten ≤ length load.bundle.images
@@ -30,26 +31,43 @@ text_count load loadable = omega (arith, at_most load loadable, at_least load lo
 pub takes_no_more : (load : Load) → ∥ IsLoadable load ∥₁ → need_of load.bundle load.rewritten ≤ have_of load.bundle
 takes_no_more load loadable = ∥∥₁_elim loadable le_prop (λ known. known.enough)
 
+-- the rewritten texts are as long as those of the bundle
+pub are_as_long : (load : Load) → ∥ IsLoadable load ∥₁ → AreAsLong load
+are_as_long load loadable process =
+    let made : List ℕ = (rewritten_of load.rewritten process).text in
+    let text : List ℕ = text_of load.bundle.images process in
+    let same : IsLoadable load → length made ≡ length text =
+    λ known. as_long load.bundle.images load.rewritten process known.texts in
+    let most : length made ≤ length text = ∥∥₁_elim loadable le_prop (λ known. omega (arith, same known)) in
+    let least : length text ≤ length made = ∥∥₁_elim loadable le_prop (λ known. omega (arith, same known)) in
+    omega (arith, most, least)
+
 -- ---- the text of a process
 
 -- what is known of what a text becomes
-pub record IsKnown (made : Output) : Type 0 where
-  pub text : length made.text < 2 ^ 32
+pub record IsKnown (text : List ℕ) (made : Output) : Type 0 where
+  pub size : length text ≤ 2097152
+  pub most : length made.text ≤ length text
+  pub least : length text ≤ length made.text
   pub area : length made.area ≤ 65536
   pub starts : IsStrictlyIncreasing made.starts
 
-known_prop : (made : Output) → IsProp (IsKnown made)
-known_prop made = hlevel le_prop
+known_prop : (text : List ℕ) (made : Output) → IsProp (IsKnown text made)
+known_prop text made = hlevel le_prop
 
 known_of : (load : Load) (process : ℕ) → process < length load.bundle.images → IsLoadable load
-    → IsKnown (rewritten_of load.rewritten process)
+    → IsKnown (text_of load.bundle.images process) (rewritten_of load.rewritten process)
 known_of load process within known =
-    let has = text_of load.bundle.images load.rewritten process within known.grammar.images known.texts in
+    let has = has_text load.bundle.images load.rewritten process within known.grammar.images known.texts in
+    let text : List ℕ = text_of load.bundle.images process in
     let made : Output = rewritten_of load.rewritten process in
+    let same : length made.text ≡ length text = keeps_length text made has.is_rewritten in
     record {
-      text = counted_text has.text made has.size has.is_rewritten;
-      area = small_area has.text made has.is_rewritten;
-      starts = rising_starts has.text made has.is_rewritten;
+      size = has.size;
+      most = omega (arith, same);
+      least = omega (arith, same);
+      area = small_area text made has.is_rewritten;
+      starts = rising_starts text made has.is_rewritten;
     }
 
 -- what is read at the number of a process is what its text becomes
@@ -61,10 +79,13 @@ is_of load process made within loadable is =
     ap (λ found. unwrap_or found nothing) (sym (slice_get_read load.rewritten (length load.rewritten) process made refl below is))
 
 pub known : (load : Load) (process : ℕ) (made : Output) → process < length load.bundle.images → ∥ IsLoadable load ∥₁
-    → made ≡ get_or load.rewritten process made → IsKnown made
+    → made ≡ get_or load.rewritten process made → IsKnown (text_of load.bundle.images process) made
 known load process made within loadable is =
-    subst IsKnown (sym (is_of load process made within loadable is))
-    (∥∥₁_elim loadable (known_prop (rewritten_of load.rewritten process)) (λ all. known_of load process within all))
+    let text : List ℕ = text_of load.bundle.images process in
+    subst
+    (λ (one : Output). IsKnown text one)
+    (sym (is_of load process made within loadable is))
+    (∥∥₁_elim loadable (known_prop text (rewritten_of load.rewritten process)) (λ all. known_of load process within all))
 
 -- ---- the grammar
 

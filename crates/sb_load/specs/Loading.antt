@@ -1,5 +1,6 @@
 -- Which bundles may be loaded, and why one may not: its texts first, then its entries, then its frames.
 use Rattle.std.specs.Prelude.{◌≡◌, ◌≢◌, ℕ, ◌<◌, ◌≤◌, List, [], ◌∷◌, ◌++◌, length, Contains, unwrap_or, slice_get, Result, Ok, Err}
+use Rattle.std.specs.Prelude.{Option, Some, None}
 use Rattle.std.specs.List.{AllByRecursion}
 use Rattle.sb_bundle.specs.declared.bundle.Bundle.{Bundle}
 use Rattle.sb_bundle.specs.declared.bundle.Image.{Image}
@@ -19,6 +20,15 @@ AreRewritten [] [] = Unit {0}
 AreRewritten (image ∷ images) (made ∷ others) = Rewrites image.text (Ok made) × AreRewritten images others
 AreRewritten [] (made ∷ others) = ⊥
 AreRewritten (image ∷ images) [] = ⊥
+
+-- the text of an image that may be absent
+abbrev pub text_in : Option Image → List ℕ
+text_in None = []
+text_in (Some image) = image.text
+
+-- the text of a process, as it came
+abbrev pub text_of : List Image → ℕ → List ℕ
+text_of images process = text_in (slice_get images process)
 
 -- what an empty text becomes
 abbrev pub nothing : Output
@@ -61,6 +71,11 @@ pub record IsLoadable (load : Load) : Type 0 where
   pub texts : AreRewritten load.bundle.images load.rewritten
   pub entries : AllByRecursion (HasEntry load.rewritten) load.bundle.cores
   pub enough : need_of load.bundle load.rewritten ≤ have_of load.bundle
+
+-- the rewritten text of each process has as many bytes as its text, so it takes as many pages
+abbrev pub AreAsLong : Load → Type 0
+AreAsLong load =
+    (process : ℕ) → length (rewritten_of load.rewritten process).text ≡ length (text_of load.bundle.images process)
 
 -- What loading answers. The cases exclude each other, but for want of memory.
 abbrev pub Loads : Bundle → Result Load LoadRefusal → Type 0

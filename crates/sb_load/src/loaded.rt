@@ -3,7 +3,7 @@
 ghost use Rattle.std.specs.Prelude.{◌≡◌, ◌<◌, ◌≤◌, ◌-◌, ◌^◌, length};
 ghost use Rattle.std.specs.List.Sorted.{IsStrictlyIncreasing};
 ghost use Rattle.sb_bundle.specs.Limits.{IsBundle};
-ghost use Rattle.sb_load.specs.Loading.{IsLoadable, rewritten_of};
+ghost use Rattle.sb_load.specs.Loading.{IsLoadable, AreAsLong, text_of, rewritten_of};
 ghost use Rattle.sb_load.specs.Need.{need_of, have_of};
 
 use sb_abi::KEPT_FRAMES;
@@ -54,6 +54,8 @@ impl Loaded {
         ensures same { result.now ≡ self.now.bundle }
         ensures loadable { ∥ IsLoadable self.now ∥₁ }
         ensures grammar { IsBundle result.now }
+        // So the frames that were counted for its texts are those that the rewritten ones take.
+        ensures as_long { AreAsLong self.now }
     {
         &self.bundle
     }
@@ -62,6 +64,7 @@ impl Loaded {
     pub fn rewritten(&self, process: u32) -> &Rewritten
         requires { process < length self.now.bundle.images }
         ensures same { result.now ≡ rewritten_of self.now.rewritten process }
+        ensures as_long { length result.now.text ≡ length (text_of self.now.bundle.images process) }
         // Its pages can be counted in 32 bits.
         ensures text { length result.now.text < 2 ^ 32 }
         ensures area { length result.now.area ≤ 65536 }

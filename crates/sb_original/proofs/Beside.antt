@@ -23,6 +23,7 @@ use Rattle.sb_exec.proofs.Simulation.{SameRun, run_agrees_at}
 use Rattle.sb_original.specs.Words.{Words}
 use Rattle.sb_original.specs.Original.{SameAccesses}
 use Rattle.sb_original.specs.Beside.{AreBeside, IsStopped, EndAlike, MainStep}
+use Rattle.sb_exec.proofs.Simulation.{effect_told}
 
 -- ---- the same accesses
 
@@ -75,11 +76,6 @@ run_alike left right Holds IsOutside naming beside accesses words first second a
     outside
 
 -- ---- the rows
-
-effect_told : (naming : BusStop → BusStop) (effect : Effect) (answer : Result ℕ BusStop)
-    → effect_after effect (told naming answer) ≡ told naming (effect_after effect answer)
-effect_told naming effect (Ok loaded) = refl
-effect_told naming effect (Err stop) = refl
 
 ends_by : (naming : BusStop → BusStop) (row other : Row) (regs other_regs : Regs) (answer : Result ℕ BusStop)
     → EndAlike row other regs other_regs (effect_after other.effect answer) (registers_after row regs (told naming answer))

@@ -41,7 +41,8 @@ use Rattle.sb_forms.specs.declared.slots.Site.{Site}
 use Rattle.sb_forms.specs.Holding.{holds_pattern}
 use Rattle.sb_forms.specs.Pieces.{is_sib_0f, sib_exchanged}
 use Rattle.sb_forms.specs.Mains.{with_displacement}
-use Rattle.sb_forms.specs.Places.{is_distance, is_direct, HasForm}
+use Rattle.sb_insn.specs.Branch.{is_distance, is_direct}
+use Rattle.sb_forms.specs.Places.{HasForm}
 use Rattle.sb_forms.specs.Table.{Replacement, Keep, InPlace, Moved, Unmovable, move_outcome, is_vmfunc, is_modrm, is_add_esp_edx, completes_pattern, begins_with_01_d4, begins_at_modrm, has_memory, is_call, is_jump, jump_form, wide_constant_form, address_and_constant_form, address_form, constant_form, form_by, slot_form, slot_form_of, is_exchangeable, held_form, nop, add_from_rm, replacement}
 use Rattle.sb_forms.proofs.Held.{none_held}
 use Rattle.sb_forms.proofs.Operands.{modrm_is}

@@ -45,7 +45,7 @@ pub record Pieces {M A N : Type 0} (bus : Interface M A) (Holds : Words → M �
   pub lower : (helper : Helper) (state : Slotted) → Does bus Holds (save_half helper scratch_word) state (low_saved helper state)
   pub upper : (helper : Helper) (state : Slotted) → Does bus Holds (save_half helper upper_half) state (high_saved helper state)
   pub jump : (from to : ℕ) (state : Slotted) → state.regs.rip ≡ from → from + 5 < 2 ^ 63 → to < 2 ^ 63
-      → Does bus Holds (jump from to) state (jumped to state)
+      → Does bus Holds (jump_insn from to) state (jumped to state)
   pub through : (state : Slotted) → Does bus Holds (jump_through scratch_word) state (jumped (state.words.third % 2 ^ 64) state)
 
 abbrev pub PiecesDo : {M A N : Type 0} → Interface M A → (Words → M → N → Type 0) → Type 0

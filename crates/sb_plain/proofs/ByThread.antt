@@ -11,9 +11,9 @@ use Rattle.sb_exec.specs.Access.{store_answer, byte_for, where_stored}
 use Rattle.sb_exec.specs.Row.{Row, MemoryAccess, Loads, LoadsToWrite, Stores, accesses}
 use Rattle.sb_exec.specs.Execution.{Run, run, run_on, access_answer, meaning_after, Execution, Executes, execution_by, execution_of}
 use Rattle.sb_exec.specs.Fetching.{FetchesOn}
-use Rattle.sb_trace.specs.State.{State}
-use Rattle.sb_trace.specs.PlainMemory.{plain, plain_byte, plain_stored}
-use Rattle.sb_plain.specs.ThreadMemory.{ThreadMemory, memory_of, thread_memory}
+use Rattle.sb_state.specs.State.{State}
+use Rattle.sb_state.specs.PlainMemory.{plain, plain_byte, plain_stored}
+use Rattle.sb_state.specs.ThreadMemory.{ThreadMemory, memory_of, thread_memory}
 
 -- a run over the plain memory of a thread in a view, with the two in its meaning
 abbrev run_of : ℕ → ℕ → Run State (Unit {0}) → Run ThreadMemory (Unit {0})

@@ -8,9 +8,9 @@ use Rattle.sb_insn.specs.declared.registers.Regs.{Regs}
 use Rattle.sb_trace.specs.declared.event.Event.{Event}
 use Rattle.sb_state.specs.declared.state.Thread.{Thread}
 use Rattle.sb_trace.specs.Home.{Outcome}
-use Rattle.sb_trace.specs.Registers.{rax, rdi, rsi}
-use Rattle.sb_trace.specs.State.{State, thread_at, no_thread, with_regs}
-use Rattle.sb_trace.specs.Windows.{process_now}
+use Rattle.sb_state.specs.Registers.{rax, rdi, rsi}
+use Rattle.sb_state.specs.State.{State, thread_at, no_thread, with_regs}
+use Rattle.sb_state.specs.Windows.{process_now}
 use Rattle.sb_abi.specs.declared.call.CallRefusal.{CallRefusal}
 use Rattle.sb_abi.specs.declared.call.CallRefusal.TheVariants.{NoCall, Pattern}
 use Rattle.sb_abi.specs.Numbers.{refusal_number}
@@ -20,7 +20,7 @@ use Rattle.sb_trace.specs.SyscallRegister.{register_outcome}
 use Rattle.sb_trace.specs.SyscallBind.{bind_outcome}
 use Rattle.sb_trace.specs.SyscallProtect.{execute_mode_outcome, protect_outcome_by}
 use Rattle.sb_trace.specs.Syscall.{exit_outcome, outcome_by_number, syscall_outcome}
-use Rattle.sb_trace.specs.Pattern.{heap_pattern}
+use Rattle.sb_state.specs.Pattern.{heap_pattern}
 use Rattle.sb_plain.specs.Declined.{IsDeclined, KeepsOthers, LeavesAll}
 
 -- what is said of a call's outcome

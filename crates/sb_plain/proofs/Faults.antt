@@ -12,10 +12,10 @@ use Rattle.sb_bus.proofs.Stops.{ByteStops}
 use Rattle.sb_exec.proofs.Stops.{execution_stops, fetch_stops}
 use Rattle.sb_bus.specs.declared.stop.BusStop.{BusStop}
 use Rattle.sb_state.specs.declared.page.Seen.{Seen}
-use Rattle.sb_trace.specs.PageName.{permits}
-use Rattle.sb_trace.specs.State.{State}
-use Rattle.sb_trace.specs.Windows.{page_for}
-use Rattle.sb_trace.specs.PlainMemory.{plain, plain_byte, byte_seen, is_canonical, fault_at}
+use Rattle.sb_state.specs.PageName.{permits}
+use Rattle.sb_state.specs.State.{State}
+use Rattle.sb_state.specs.Windows.{page_for}
+use Rattle.sb_state.specs.PlainMemory.{plain, plain_byte, byte_seen, is_canonical, fault_at}
 use Rattle.sb_plain.specs.Faults.{IsFault}
 
 by_test : (test : Bool) (byte address : ℕ) (kind : FaultKind)

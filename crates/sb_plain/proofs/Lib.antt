@@ -1,17 +1,8 @@
 pub mod ByThread
 pub mod Faults
-pub mod Names
-pub mod Places
-pub mod Known
 pub mod Starting
-pub mod Reached
 pub mod InPage
-pub mod Spots
-pub mod WholeWord
-pub mod WordBytes
-pub mod Writing
 pub mod Threads
-pub mod Listed
 pub mod Declined
 pub mod Bits
 pub mod Lawful

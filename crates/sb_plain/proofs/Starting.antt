@@ -1,12 +1,12 @@
 -- Pages that are made one after another.
-use Rattle.std.proofs.Common.{◌≡◌, ℕ, suc, ◌+◌, ◌-◌, ◌^◌, ◌<◌, ◌≤◌, ◌++◌, List, [], ◌∷◌, length, take, drop, get_or, map, replicate, length-append, ap, sym, ◌∙◌, refl, arith, append_assoc}
-use Rattle.std.proofs.lemmas.List.{take_all, drop_more, length-map, length-replicate, replicate_more}
+use Rattle.std.proofs.Common.{◌≡◌, ℕ, suc, ◌+◌, ◌-◌, ◌^◌, ◌<◌, ◌≤◌, ◌++◌, List, [], ◌∷◌, length, drop, get_or, map, replicate, ap, sym, ◌∙◌, refl, arith, append_assoc}
+use Rattle.std.proofs.lemmas.List.{drop_more, length-map}
 use Rattle.std.proofs.Math.Seq.{append_snoc}
 use Rattle.sb_state.specs.declared.page.Page.{Page}
-use Rattle.sb_trace.specs.State.{State, Process}
+use Rattle.sb_state.specs.State.{State, Process}
 use Rattle.sb_state.specs.declared.state.Flight.{Flight}
 use Rattle.sb_state.specs.declared.state.Thread.{Thread}
-use Rattle.sb_trace.specs.Start.{ProcessImage, page_padded, pages_from, process_pages, images_pages, threads_pages, trampoline_pages, start_process, start_threads}
+use Rattle.sb_state.specs.Start.{ProcessImage, pages_from, process_pages, images_pages, threads_pages, trampoline_pages, start_process, start_threads}
 use Rattle.std.specs.Prelude.{Option, None}
 use Rattle.std.proofs.lemmas.Option.{unwrap_or-slice_get}
 use Rattle.sb_bundle.specs.declared.bundle.Image.{Image}
@@ -15,20 +15,6 @@ use Rattle.sb_load.specs.Loading.{Load, IsLoadable, nothing, rewritten_of}
 use Rattle.sb_load.proofs.Known.{text_count}
 use Rattle.sb_load.specs.Need.{need_of, have_of}
 use Rattle.sb_plain.specs.Start.{image_of, images_of, images_loaded, entry_of, first_state}
-
--- bytes that are no whole page are their first page
-pub short_page : (bytes : List ℕ) → length bytes < 4096 → bytes ≡ take 4096 bytes
-short_page bytes short = sym (take_all 4096 bytes (omega arith))
-
--- one more byte of filler behind a chunk
-pub filled_more : (chunk bytes : List ℕ) (filler count : ℕ) → length chunk ≤ count
-    → bytes ≡ chunk ++ replicate (count - length chunk) filler
-    → bytes ++ filler ∷ [] ≡ chunk ++ replicate (count + 1 - length chunk) filler
-filled_more chunk bytes filler count within so_far =
-    let next : count + 1 - length chunk ≡ count - length chunk + 1 = omega arith in
-    ap (λ (all : List ℕ). all ++ filler ∷ []) so_far ∙ append_assoc chunk (replicate (count - length chunk) filler) (filler ∷ [])
-    ∙ ap (λ (rest : List ℕ). chunk ++ rest) (replicate_more (count - length chunk) filler
-    ∙ ap (λ (many : ℕ). replicate many filler) (sym next))
 
 -- the pages from a number below the count on
 first_of : (page : ℕ → Page) (first count : ℕ) → first < count
@@ -45,11 +31,6 @@ pages_more page first count so_far grown whole below more all =
     ap (λ (pages : List Page). pages ++ pages_from page (first + 1) (count - (first + 1))) more
     ∙ append_snoc so_far (page first) (pages_from page (first + 1) (count - (first + 1)))
     ∙ ap (λ (rest : List Page). so_far ++ rest) (sym (first_of page first count below)) ∙ all
-
--- a chunk filled up has as many bytes as a page
-pub filled_whole : (chunk : List ℕ) (filler : ℕ) → length chunk ≤ 4096 → length (page_padded filler chunk) ≡ 4096
-filled_whole chunk filler within =
-    omega (arith, length-append chunk (replicate (4096 - length chunk) filler), length-replicate (4096 - length chunk) filler)
 
 -- the images of what was loaded from a place on
 abbrev pub images_from : Load → ℕ → List ProcessImage

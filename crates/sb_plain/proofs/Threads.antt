@@ -5,8 +5,8 @@ use Rattle.sb_exec.specs.Row.{Row}
 use Rattle.sb_exec.specs.Execution.{execution_of}
 use Rattle.sb_exec.proofs.Keeps.{execution_keeps}
 use Rattle.sb_state.specs.declared.page.PageName.{PageName}
-use Rattle.sb_trace.specs.State.{State, with_contents}
-use Rattle.sb_trace.specs.PlainMemory.{Placed, bytes_to_put, put_byte, put_all, plain_stored, plain}
+use Rattle.sb_state.specs.State.{State, with_contents}
+use Rattle.sb_state.specs.PlainMemory.{Placed, bytes_to_put, put_byte, put_all, plain_stored, plain}
 
 put_threads : (state : State) (name : PageName) (offset value : ℕ) → (put_byte state name offset value).threads ≡ state.threads
 unfolding put_byte with_contents

@@ -3,7 +3,7 @@ use Rattle.std.specs.Prelude.{◌≡◌, ◌≢◌, ℕ, slice_index}
 use Rattle.sb_insn.specs.declared.registers.Regs.{Regs}
 use Rattle.sb_trace.specs.declared.event.Event.{Event}
 use Rattle.sb_trace.specs.declared.event.Event.TheVariants.{Sys}
-use Rattle.sb_trace.specs.State.{State, thread_at, with_regs}
+use Rattle.sb_state.specs.State.{State, thread_at, with_regs}
 
 -- the line of a refused call: its answer is not 0
 abbrev pub IsDeclined : Event → Type 0

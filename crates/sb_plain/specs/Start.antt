@@ -7,8 +7,8 @@ use Rattle.sb_load.specs.Loading.{Load}
 use Rattle.sb_load.specs.Need.{need_of, have_of}
 use Rattle.sb_state.specs.declared.page.PageName.{PageName}
 use Rattle.sb_state.specs.declared.page.PageName.TheVariants.{Text, Area, Data}
-use Rattle.sb_trace.specs.State.{State}
-use Rattle.sb_trace.specs.Start.{ProcessImage, ThreadEntry, start_state}
+use Rattle.sb_state.specs.State.{State}
+use Rattle.sb_state.specs.Start.{ProcessImage, ThreadEntry, start_state}
 use Rattle.sb_plain.specs.declared.start.pages.Part.{Part}
 use Rattle.sb_plain.specs.declared.start.pages.Part.TheVariants as part
 

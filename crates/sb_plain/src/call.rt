@@ -5,18 +5,17 @@
 ghost use Rattle.std.specs.Prelude.{◌≡◌, ◌<◌, ◌≤◌, ◌^◌, length};
 ghost use Rattle.sb_trace.specs.declared.event.Event.TheVariants.{Entered};
 ghost use Rattle.sb_abi.specs.Numbers.{status_number};
-ghost use Rattle.sb_trace.specs.State.{thread_at};
+ghost use Rattle.sb_state.specs.State.{thread_at};
 ghost use Rattle.sb_trace.specs.KernelCall.{binding_in, pool_word, refusal_regs, refusal_outcome, refusal_or_fault, return_outcome, entry_regs, lowest_bit, state_at_handler, entry_outcome, call_outcome, kernel_call};
 
 use crate::home::fault;
 use crate::pool::{handler_of, pool_word, set_pool_word};
-use crate::registers::{eax, ecx, zero_result};
-use crate::state::Plain;
 use sb_abi::{CallStatus, FIRST_STACK_TOP, RETURN_ADDRESS, STACK_DISTANCE};
 use sb_exec::FaultKind;
 use sb_insn::Regs;
 use sb_insn::registers::{R9, R10, RAX, RCX, RSI, RSP};
-use sb_trace::{Binding, Event};
+use sb_state::{Binding, PlainState, eax, ecx, zero_result};
+use sb_trace::Event;
 
 /// The binding with this index.
 pub fn binding_in(bindings: &[Binding], index: u32) -> Option<Binding>
@@ -49,7 +48,7 @@ fn refused_regs(regs: &Regs, status: CallStatus) -> Regs
 }
 
 // A refused call, with its line: the thread is in its home view.
-fn refuse(state: &mut Plain, core: u8, line: Event, status: CallStatus) -> Event
+fn refuse(state: &mut PlainState, core: u8, line: Event, status: CallStatus) -> Event
     requires { core < length state.old.threads }
     ensures refused { (result, state.new) ≡ refusal_outcome state.old core (thread_at state.old core) line (status_number status) }
     ensures count { length state.new.threads ≡ length state.old.threads }
@@ -60,7 +59,7 @@ fn refuse(state: &mut Plain, core: u8, line: Event, status: CallStatus) -> Event
 }
 
 // No view is switched: in a server's view that is a fault at the VMFUNC.
-fn stay(state: &mut Plain, core: u8, line: Event, status: CallStatus) -> Event
+fn stay(state: &mut PlainState, core: u8, line: Event, status: CallStatus) -> Event
     requires { core < length state.old.threads }
     ensures stayed { (result, state.new) ≡ refusal_or_fault state.old core (thread_at state.old core) line (status_number status) }
     ensures count { length state.new.threads ≡ length state.old.threads }
@@ -75,7 +74,7 @@ fn stay(state: &mut Plain, core: u8, line: Event, status: CallStatus) -> Event
 }
 
 // Index 0 leads home.
-fn return_home(state: &mut Plain, core: u8) -> Event
+fn return_home(state: &mut PlainState, core: u8) -> Event
     requires { core < length state.old.threads }
     ensures returned { (result, state.new) ≡ return_outcome state.old core (thread_at state.old core) }
     ensures count { length state.new.threads ≡ length state.old.threads }
@@ -125,7 +124,7 @@ fn lowest_bit(word: u64) -> u32
 }
 
 // The server's lowest free stack, by its pool word, is taken, and the thread stands at the handler.
-fn enter(state: &mut Plain, core: u8, binding: Binding, word: u64) -> Event
+fn enter(state: &mut PlainState, core: u8, binding: Binding, word: u64) -> Event
     requires inside { core < length state.old.threads }
     requires some { 0 < word }
     ensures line { result ≡ Entered binding.index (lowest_bit word) }
@@ -144,7 +143,7 @@ fn enter(state: &mut Plain, core: u8, binding: Binding, word: u64) -> Event
 }
 
 // A call with the key: it enters where a server stack is free.
-fn take_stack(state: &mut Plain, core: u8, binding: Binding) -> Event
+fn take_stack(state: &mut PlainState, core: u8, binding: Binding) -> Event
     requires { core < length state.old.threads }
     ensures taken { (result, state.new) ≡ entry_outcome state.old core (thread_at state.old core) binding (pool_word state.old binding.server) }
     ensures count { length state.new.threads ≡ length state.old.threads }
@@ -164,7 +163,7 @@ fn take_stack(state: &mut Plain, core: u8, binding: Binding) -> Event
 // ---- the call
 
 // A call through the binding of an index, if there is one.
-fn call_through(state: &mut Plain, core: u8, index: u32) -> Event
+fn call_through(state: &mut PlainState, core: u8, index: u32) -> Event
     requires { core < length state.old.threads }
     ensures called { (result, state.new) ≡ call_outcome state.old core (thread_at state.old core) index (binding_in (thread_at state.old core).bindings index) }
     ensures count { length state.new.threads ≡ length state.old.threads }
@@ -183,7 +182,7 @@ fn call_through(state: &mut Plain, core: u8, index: u32) -> Event
 
 /// VMFUNC of the thread of a core, done at once, and its line.
 #[tactic(auto, unfolding(sb_trace::specs::KernelCall::kernel_call))]
-pub fn kernel_call(state: &mut Plain, core: u8) -> Event
+pub fn kernel_call(state: &mut PlainState, core: u8) -> Event
     requires { core < length state.old.threads }
     ensures called { (result, state.new) ≡ kernel_call state.old core }
     ensures count { length state.new.threads ≡ length state.old.threads }

@@ -1,17 +1,17 @@
 //! The plain machine at the end of a run.
 
 ghost use Rattle.std.specs.Prelude.{◌≡◌, IfOk};
-ghost use Rattle.sb_trace.specs.State.{flight_at};
+ghost use Rattle.sb_state.specs.State.{flight_at};
 ghost use Rattle.sb_trace.specs.End.{thread_end, thread_ends, end_of};
 
-use crate::state::Plain;
-use crate::windows::process_now;
-use sb_trace::{EndState, Flight, Thread, ThreadEnd, ThreadEnds};
+use crate::plain::Plain;
+use sb_state::{Flight, PlainState, Thread, process_now};
+use sb_trace::{EndState, ThreadEnd, ThreadEnds};
 use std::alloc::{AllocError, Global};
 
 /// The flight of the thread with this number, where it is in flight.
 #[tactic(auto, unfolding(sb_state::specs::State::flight_at))]
-fn flight_of(state: &Plain, number: usize) -> Option<Flight>
+fn flight_of(state: &PlainState, number: usize) -> Option<Flight>
     ensures { result ≡ flight_at state.now number }
 {
     state.flights.get(number).copied().unwrap_or(None)
@@ -30,7 +30,7 @@ fn thread_end(thread: &Thread, flight: Option<Flight>) -> ThreadEnd
     }
 }
 
-fn thread_ends(alloc: Global, state: &Plain) -> Result<ThreadEnds, AllocError>
+fn thread_ends(alloc: Global, state: &PlainState) -> Result<ThreadEnds, AllocError>
     ensures { IfOk result (λ ends. ends ≡ thread_ends state.now 0 state.now.threads) }
 {
     let mut ends = Vec::new(alloc);
@@ -40,15 +40,21 @@ fn thread_ends(alloc: Global, state: &Plain) -> Result<ThreadEnds, AllocError>
     Ok(ThreadEnds::new(ends))
 }
 
+fn end_state(alloc: Global, state: &PlainState) -> Result<EndState, AllocError>
+    ensures { IfOk result (λ end. end ≡ end_of state.now) }
+{
+    Ok(EndState {
+        threads: thread_ends(alloc, state)?,
+        free: state.free,
+        keys: state.keys.left(),
+    })
+}
+
 impl Plain {
     /// The state as the report shows it.
     pub fn end(&self, alloc: Global) -> Result<EndState, AllocError>
         ensures { IfOk result (λ end. end ≡ end_of self.now) }
     {
-        Ok(EndState {
-            threads: thread_ends(alloc, self)?,
-            free: self.free,
-            keys: self.keys.left(),
-        })
+        end_state(alloc, &self.state)
     }
 }

@@ -4,15 +4,14 @@
 //! one step. Before that the thread stays as it was at the VMFUNC.
 
 ghost use Rattle.std.specs.Prelude.{◌≡◌, ◌<◌, length};
-ghost use Rattle.sb_trace.specs.State.{thread_at};
+ghost use Rattle.sb_state.specs.State.{thread_at};
 ghost use Rattle.sb_trace.specs.Flight.{is_key, bound_pool, with_mask, decided_at, phase_after, next_flight, phase_outcome, landing_step, called_binding, vmfunc_outcome};
 
 use crate::call::{binding_in, kernel_call};
 use crate::pool::pool_word;
-use crate::registers::{eax, ecx};
-use crate::state::Plain;
 use sb_insn::registers::RSI;
-use sb_trace::{Binding, Decision, Event, Flight, Thread, VMFUNC_PHASE};
+use sb_state::{Binding, Decision, Flight, PlainState, Thread, eax, ecx};
+use sb_trace::{Event, VMFUNC_PHASE};
 
 #[cfg(test)]
 mod tests;
@@ -29,7 +28,7 @@ fn is_key(binding: Option<Binding>, word: u64) -> bool
 }
 
 // The pool word of the binding's server.
-fn bound_pool(state: &Plain, binding: Option<Binding>) -> u64
+fn bound_pool(state: &PlainState, binding: Option<Binding>) -> u64
     ensures { result ≡ bound_pool state.now binding }
 {
     match binding {
@@ -86,7 +85,7 @@ fn next_flight(flight: Flight) -> Option<Flight>
 }
 
 // A phase that decides the call does the kernel's call; each other one lands.
-fn phase_step(state: &mut Plain, core: u8, flight: Flight, decided: Option<Decision>) -> Event
+fn phase_step(state: &mut PlainState, core: u8, flight: Flight, decided: Option<Decision>) -> Event
     requires { core < length state.old.threads }
     ensures landed { (result, state.new) ≡ phase_outcome state.old core flight decided }
     ensures count { length state.new.threads ≡ length state.old.threads }
@@ -104,7 +103,7 @@ fn phase_step(state: &mut Plain, core: u8, flight: Flight, decided: Option<Decis
 
 /// A step of the thread of a core in its flight, and its line.
 #[tactic(auto, unfolding(sb_trace::specs::Flight::landing_step))]
-pub fn landing_step(state: &mut Plain, core: u8, flight: Flight) -> Event
+pub fn landing_step(state: &mut PlainState, core: u8, flight: Flight) -> Event
     requires { core < length state.old.threads }
     ensures flown { (result, state.new) ≡ landing_step state.old core flight }
     ensures count { length state.new.threads ≡ length state.old.threads }
@@ -133,7 +132,7 @@ fn called_binding(thread: &Thread) -> Option<Binding>
 
 /// VMFUNC of the thread of a core, and its line: a flight begins where it leads into a server.
 #[tactic(auto, unfolding(sb_trace::specs::Flight::vmfunc_outcome))]
-pub fn vmfunc(state: &mut Plain, core: u8) -> Event
+pub fn vmfunc(state: &mut PlainState, core: u8) -> Event
     requires { core < length state.old.threads }
     ensures switched { (result, state.new) ≡ vmfunc_outcome state.old core }
     ensures count { length state.new.threads ≡ length state.old.threads }

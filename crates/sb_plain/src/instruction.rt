@@ -5,18 +5,19 @@ ghost use Rattle.sb_insn.specs.Grammar.{IsValid};
 ghost use Rattle.sb_exec.specs.Execution.{execution_of};
 ghost use Rattle.sb_exec.specs.Fetching.{FetchesOn};
 ghost use Rattle.sb_exec.specs.Rows.{row_of};
-ghost use Rattle.sb_trace.specs.PlainMemory.{plain};
+ghost use Rattle.sb_state.specs.PlainMemory.{plain};
 ghost use Rattle.sb_plain.specs.Faults.{IsFault};
 
-use crate::bus::PlainBus;
-use crate::reach::reach;
-use crate::state::Plain;
 use sb_exec::{BusStop, Effect, execute, fetch_insn, first_insn};
 use sb_insn::{Insn, Regs};
 use sb_memory::{Access, Linear};
+use sb_state::{PlainBus, PlainState, reach};
+
+#[cfg(test)]
+mod tests;
 
 /// The instruction at an address, in a view of a thread, where it ends in the page in which it begins.
-fn fetch_in_page(state: &Plain, thread: u32, view: u32, rip: u64) -> Option<Insn>
+fn fetch_in_page(state: &PlainState, thread: u32, view: u32, rip: u64) -> Option<Insn>
     ensures fetched { IfSome result (λ insn. FetchesOn (plain thread view) state.now rip tt tt (Ok insn)) }
     ensures valid { IfSome result IsValid }
 {
@@ -32,7 +33,7 @@ fn fetch_in_page(state: &Plain, thread: u32, view: u32, rip: u64) -> Option<Insn
 /// The instruction at an address, in a view of a thread.
 ///
 /// Each error is a fault: a byte that cannot be fetched, or bytes with which no instruction begins.
-pub fn fetch_next(state: &mut Plain, thread: u32, view: u16, rip: u64) -> Result<Insn, BusStop>
+pub fn fetch_next(state: &mut PlainState, thread: u32, view: u16, rip: u64) -> Result<Insn, BusStop>
     ensures fetched { FetchesOn (plain thread view) state.old rip tt tt result }
     ensures valid { IfOk result IsValid }
     ensures fault { IfErr result IsFault }
@@ -49,7 +50,7 @@ pub fn fetch_next(state: &mut Plain, thread: u32, view: u16, rip: u64) -> Result
 /// Each error is a fault, at the first byte that may not be accessed. It, and each effect but `Next`, leave registers and
 /// memory as they were.
 pub fn perform(
-    state: &mut Plain,
+    state: &mut PlainState,
     thread: u32,
     view: u16,
     insn: &Insn,

@@ -1,16 +1,15 @@
 //! The plain machine: separate memories, and one step at a time.
 //!
 //! `Plain::new` is the machine that a loaded bundle starts: the pages of its processes and threads, the two pages of the
-//! trampoline, and a thread for each core. It keeps a blank page for each free frame, so no step takes memory. `step` runs
+//! trampoline, and a thread for each core. It has room for a page for each free frame, so no step takes memory. `step` runs
 //! one instruction of a core's thread and says what happened, `end` says how everything stands. To contracts the machine is
-//! the `State` of `sb_trace`, and each of the three is equal to its definition there: the state at the start, `Steps`, and
+//! the `State` of `sb_state`, and each of the three is equal to its definition: `first_state`, `Steps` of `sb_trace`, and its
 //! `end_of`.
 //!
-//! Inside: pages by name (`pages`) and words in them (`page_words`), the start (`start`), what a thread sees of the pages
-//! (`windows`, `reach`, `load`, `store`), the bus over them (`bus`), an instruction (`instruction`), a step (`step`); and
-//! the kernel: faults and the way home (`home`), calls and returns through VMFUNC (`call`) and the landing that stands for
-//! them (`flight`), and system calls (`system_call`). Not inside: what instructions mean (`sb_exec`), which bundles can be loaded (`sb_load`), and the text of the report
-//! (`sb_trace`).
+//! Inside: the start (`start`), an instruction (`instruction`), a step (`step`), the end (`end`); and the kernel: faults and
+//! the way home (`home`), calls and returns through VMFUNC (`call`) and the landing that stands for them (`flight`), what a
+//! process is as a server (`pool`), and system calls (`system_call`). Not inside: the state and its memory (`sb_state`), what
+//! instructions mean (`sb_exec`), which bundles can be loaded (`sb_load`), and the text of the report (`sb_trace`).
 //!
 //! ```text
 //! let mut plain = Plain::new(alloc, &loaded)?;
@@ -19,31 +18,17 @@
 //! ```
 #![tactic(auto)]
 
-mod bus;
 mod call;
 mod end;
 mod flight;
 mod home;
 mod instruction;
-mod load;
-mod page_words;
-mod pages;
-mod pattern;
+mod plain;
 mod pool;
-mod process;
-mod reach;
-mod registers;
 #[cfg(test)]
 mod samples;
 mod start;
-mod state;
 mod step;
-mod store;
 mod system_call;
-#[cfg(test)]
-mod tests;
-mod thread;
-mod windows;
 
-pub use pages::Pages;
-pub use state::Plain;
+pub use plain::Plain;

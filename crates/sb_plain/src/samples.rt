@@ -6,6 +6,7 @@ use sb_bundle::read_bundle;
 use sb_insn::registers::{RAX, RDI, RDX, RSI};
 use sb_insn::{Disp, Imm, Insn, Op};
 use sb_load::load;
+use sb_state::PlainState;
 use std::alloc::Global;
 use std::test::Fail;
 
@@ -49,7 +50,7 @@ pub fn machine(alloc: Global, frames: u16) -> Result<Plain, Fail> {
 }
 
 /// A system call that a core makes in a view, with these numbers in RAX, RDI and RSI: RAX and RDX after it.
-pub fn call(plain: &mut Plain, core: u8, view: u16, numbers: [u64; 3]) -> Option<[u64; 2]> {
+pub fn call(state: &mut PlainState, core: u8, view: u16, numbers: [u64; 3]) -> Option<[u64; 2]> {
     let syscall = Insn {
         lock: false,
         rex: None,
@@ -59,12 +60,12 @@ pub fn call(plain: &mut Plain, core: u8, view: u16, numbers: [u64; 3]) -> Option
         disp: Disp::None,
         imm: Imm::None,
     };
-    let mut regs = plain.threads.get(usize::from(core))?.regs;
+    let mut regs = state.threads.get(usize::from(core))?.regs;
     regs.general[RAX] = numbers[0];
     regs.general[RDI] = numbers[1];
     regs.general[RSI] = numbers[2];
-    plain.set_view(core, view, regs);
-    let _ = system_call(plain, core, &syscall, &regs);
-    let after = plain.threads.get(usize::from(core))?.regs;
+    state.set_view(core, view, regs);
+    let _ = system_call(state, core, &syscall, &regs);
+    let after = state.threads.get(usize::from(core))?.regs;
     Some([after.general[RAX], after.general[RDX]])
 }

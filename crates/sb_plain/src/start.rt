@@ -2,18 +2,17 @@
 
 ghost use Rattle.std.specs.Prelude.{◌≡◌, IfOk, length, map};
 ghost use Rattle.std.specs.List.Sorted.{IsStrictlyIncreasing};
-ghost use Rattle.sb_trace.specs.Start.{start_process};
+ghost use Rattle.sb_state.specs.Start.{start_process};
 ghost use Rattle.sb_plain.specs.Start.{image_of, images_loaded, first_state};
 
-use crate::process::Process;
-use crate::state::Plain;
+use crate::plain::Plain;
 use sb_bundle::Image;
 use sb_load::Loaded;
 use sb_rewrite::Rewritten;
+use sb_state::{PlainState, Process};
 use sb_tramp::KeyWords;
 use std::alloc::{AllocError, Global};
 
-mod bytes;
 mod pages;
 #[cfg(test)]
 mod tests;
@@ -43,23 +42,32 @@ fn start_processes(alloc: Global, loaded: &Loaded) -> Result<Vec<Process>, Alloc
     Ok(processes)
 }
 
+/// The state at the start, with a page for each free frame.
+fn first_state(alloc: Global, loaded: &Loaded) -> Result<PlainState, AllocError>
+    ensures { IfOk result (λ state. state ≡ first_state loaded.now) }
+{
+    let bundle = loaded.bundle();
+    let cores = bundle.cores.items();
+    let free = loaded.free();
+    let mut pages = start_pages(alloc, loaded)?;
+    pages.reserve(alloc, free)?;
+    Ok(PlainState {
+        pages,
+        processes: start_processes(alloc, loaded)?,
+        threads: start_threads(alloc, cores)?,
+        flights: start_flights(alloc, cores.len())?,
+        free,
+        keys: KeyWords::new(Vec::from_slice(alloc, bundle.keys.items())?),
+    })
+}
+
 impl Plain {
     /// The machine at the start of a loaded bundle's run. It has a page for each free frame, so no step takes memory.
     pub fn new(alloc: Global, loaded: &Loaded) -> Result<Plain, AllocError>
         ensures { IfOk result (λ plain. plain ≡ first_state loaded.now) }
     {
-        let bundle = loaded.bundle();
-        let cores = bundle.cores.items();
-        let free = loaded.free();
-        let mut pages = start_pages(alloc, loaded)?;
-        pages.reserve(alloc, free)?;
         Ok(Plain {
-            pages,
-            processes: start_processes(alloc, loaded)?,
-            threads: start_threads(alloc, cores)?,
-            flights: start_flights(alloc, cores.len())?,
-            free,
-            keys: KeyWords::new(Vec::from_slice(alloc, bundle.keys.items())?),
+            state: first_state(alloc, loaded)?,
         })
     }
 }

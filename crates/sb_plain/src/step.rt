@@ -2,7 +2,7 @@
 
 ghost use Rattle.std.specs.Prelude.{◌≡◌, ◌<◌, length};
 ghost use Rattle.sb_insn.specs.Grammar.{IsValid};
-ghost use Rattle.sb_trace.specs.State.{thread_at, flight_at};
+ghost use Rattle.sb_state.specs.State.{thread_at, flight_at};
 ghost use Rattle.sb_trace.specs.Flight.{vmfunc_outcome};
 ghost use Rattle.sb_trace.specs.Step.{Steps, GoesOn, RunsOn, Performs, StopsWith};
 ghost use Rattle.sb_trace.specs.OneStep.{StepsAlike};
@@ -14,14 +14,15 @@ ghost use Rattle.sb_plain.specs.Faults.{IsFault};
 use crate::flight::{landing_step, vmfunc};
 use crate::home::fault;
 use crate::instruction::{fetch_next, perform};
-use crate::state::Plain;
+use crate::plain::Plain;
 use crate::system_call::system_call;
 use sb_exec::{BusStop, Effect, FaultKind};
 use sb_insn::{Insn, Regs};
-use sb_trace::{EndKind, Event, Line};
+use sb_state::{EndKind, PlainState};
+use sb_trace::{Event, Line};
 
 // A refused access is a fault.
-fn stop_thread(state: &mut Plain, core: u8, stop: BusStop) -> Event
+fn stop_thread(state: &mut PlainState, core: u8, stop: BusStop) -> Event
     requires inside { core < length state.old.threads }
     requires fault { IsFault stop }
     ensures stopped { StopsWith state.old core stop (result, state.new) }
@@ -34,7 +35,7 @@ fn stop_thread(state: &mut Plain, core: u8, stop: BusStop) -> Event
 }
 
 // The instruction that was fetched, from these registers, in this view.
-fn execute_next(state: &mut Plain, core: u8, view: u16, insn: &Insn, regs: &Regs) -> Event
+fn execute_next(state: &mut PlainState, core: u8, view: u16, insn: &Insn, regs: &Regs) -> Event
     requires inside { core < length state.old.threads }
     requires valid { IsValid insn.now }
     ensures performed { Performs vmfunc_outcome state.old core view insn.now regs.now (result, state.new) }
@@ -55,7 +56,7 @@ fn execute_next(state: &mut Plain, core: u8, view: u16, insn: &Insn, regs: &Regs
 }
 
 // The instruction at RIP of a thread with these registers in this view.
-fn run_from(state: &mut Plain, core: u8, view: u16, regs: &Regs) -> Event
+fn run_from(state: &mut PlainState, core: u8, view: u16, regs: &Regs) -> Event
     requires { core < length state.old.threads }
     ensures ran { RunsOn vmfunc_outcome state.old core view regs.now (result, state.new) }
     ensures count { length state.new.threads ≡ length state.old.threads }
@@ -67,7 +68,7 @@ fn run_from(state: &mut Plain, core: u8, view: u16, regs: &Regs) -> Event
 }
 
 // The step of a thread that runs: its flight goes on, or it executes an instruction.
-fn go_on(state: &mut Plain, core: u8) -> Event
+fn go_on(state: &mut PlainState, core: u8) -> Event
     requires { core < length state.old.threads }
     ensures ran { GoesOn state.old core (thread_at state.old core) (flight_at state.old core) (result, state.new) }
     ensures count { length state.new.threads ≡ length state.old.threads }
@@ -81,7 +82,7 @@ fn go_on(state: &mut Plain, core: u8) -> Event
 }
 
 // A step of a core: a thread that has ended is idle.
-fn next_line(state: &mut Plain, core: u8) -> Line
+fn next_line(state: &mut PlainState, core: u8) -> Line
     requires { core < length state.old.threads }
     ensures core { result.core ≡ core }
     ensures step { Steps state.old core result.event state.new }
@@ -110,6 +111,6 @@ impl Plain {
         ensures one_switch { IsSound self.old → HasOneSwitch self.new }
         ensures sound { IsSound self.old → IsSound self.new }
     {
-        next_line(self, core)
+        next_line(&mut self.state, core)
     }
 }

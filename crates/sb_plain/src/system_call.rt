@@ -15,13 +15,12 @@ mod tests;
 ghost use Rattle.std.specs.Prelude.{◌≡◌, ◌<◌, length};
 ghost use Rattle.sb_exec.specs.Operand.{next_rip};
 ghost use Rattle.sb_calls.specs.SyscallRegisters.{after_syscall};
-ghost use Rattle.sb_trace.specs.State.{thread_at};
+ghost use Rattle.sb_state.specs.State.{thread_at};
 ghost use Rattle.sb_trace.specs.SyscallAnswer.{state_after_call, syscall_refusal, syscall_acceptance};
 ghost use Rattle.sb_trace.specs.Syscall.{exit_outcome, outcome_by_number, syscall_outcome};
 ghost use Rattle.sb_plain.specs.Declined.{IsDeclined, LeavesAll};
 
 use crate::home::send_home;
-use crate::state::Plain;
 use bind::bind;
 use protect::protect;
 use register::register;
@@ -29,12 +28,13 @@ use sb_abi::CallRefusal;
 use sb_calls::{after_syscall, regs_with_answer};
 use sb_insn::registers::{RAX, RDI};
 use sb_insn::{Insn, Regs};
-use sb_trace::{EndKind, Event};
+use sb_state::{EndKind, PlainState};
+use sb_trace::Event;
 
 // ---- the ways in which a call ends
 
 // The thread goes on after SYSCALL, with an answer and a second value.
-fn go_on(state: &mut Plain, core: u8, next: &Regs, answer: u64, second: u64)
+fn go_on(state: &mut PlainState, core: u8, next: &Regs, answer: u64, second: u64)
     requires { core < length state.old.threads }
     ensures returned { state.new ≡ state_after_call state.old core next.now answer second }
     ensures count { length state.new.threads ≡ length state.old.threads }
@@ -43,7 +43,13 @@ fn go_on(state: &mut Plain, core: u8, next: &Regs, answer: u64, second: u64)
 }
 
 // The call is refused, with a second value.
-fn decline(state: &mut Plain, core: u8, next: &Regs, refusal: CallRefusal, second: u64) -> Event
+fn decline(
+    state: &mut PlainState,
+    core: u8,
+    next: &Regs,
+    refusal: CallRefusal,
+    second: u64,
+) -> Event
     requires { core < length state.old.threads }
     ensures declined { (result, state.new) ≡ syscall_refusal state.old core next.now refusal second }
     ensures count { length state.new.threads ≡ length state.old.threads }
@@ -57,7 +63,7 @@ fn decline(state: &mut Plain, core: u8, next: &Regs, refusal: CallRefusal, secon
 }
 
 // The call did what it does, and has no second value.
-fn accept(state: &mut Plain, core: u8, next: &Regs) -> Event
+fn accept(state: &mut PlainState, core: u8, next: &Regs) -> Event
     requires { core < length state.old.threads }
     ensures accepted { (result, state.new) ≡ syscall_acceptance state.old core next.now }
     ensures count { length state.new.threads ≡ length state.old.threads }
@@ -72,7 +78,7 @@ fn accept(state: &mut Plain, core: u8, next: &Regs) -> Event
 // ---- exit and print
 
 // At home the thread ends with a status; in a server's view it is sent home.
-fn exit(state: &mut Plain, core: u8, next: &Regs) -> Event
+fn exit(state: &mut PlainState, core: u8, next: &Regs) -> Event
     requires { core < length state.old.threads }
     ensures exited { (result, state.new) ≡ exit_outcome state.old core next.now }
     ensures count { length state.new.threads ≡ length state.old.threads }
@@ -89,7 +95,7 @@ fn exit(state: &mut Plain, core: u8, next: &Regs) -> Event
 
 // ---- by number
 
-fn call_by_number(state: &mut Plain, core: u8, next: &Regs, number: u64) -> Event
+fn call_by_number(state: &mut PlainState, core: u8, next: &Regs, number: u64) -> Event
     requires { core < length state.old.threads }
     ensures called { (result, state.new) ≡ outcome_by_number state.old core (thread_at state.old core) next.now number }
     ensures count { length state.new.threads ≡ length state.old.threads }
@@ -111,7 +117,7 @@ fn call_by_number(state: &mut Plain, core: u8, next: &Regs, number: u64) -> Even
 
 /// SYSCALL of the thread of a core, which began with these registers, and its line.
 #[tactic(auto, using(crate::proofs::Declined::called_leaves), unfolding(sb_trace::specs::Syscall::syscall_outcome))]
-pub fn system_call(state: &mut Plain, core: u8, insn: &Insn, regs: &Regs) -> Event
+pub fn system_call(state: &mut PlainState, core: u8, insn: &Insn, regs: &Regs) -> Event
     requires { core < length state.old.threads }
     ensures called { (result, state.new) ≡ syscall_outcome state.old core (after_syscall (next_rip insn.now regs.now) regs.now) }
     ensures declined { IsDeclined result → LeavesAll state.old state.new core regs.now }

@@ -1,5 +1,9 @@
-//! Tests of the public calls of `sb_trace` and `sb_plain`: the text of the report.
+//! Tests of the public calls of `sb_state`, `sb_trace` and `sb_plain`: pages, the memory of threads, the text of the report.
 #![tactic(auto)]
 
+#[cfg(test)]
+mod memory;
+#[cfg(test)]
+mod pages;
 #[cfg(test)]
 mod report;

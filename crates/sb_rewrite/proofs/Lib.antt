@@ -16,5 +16,4 @@ pub mod Placed
 pub mod Reading
 pub mod Refused
 pub mod Remembered
-pub mod Search
 pub mod Unmovable

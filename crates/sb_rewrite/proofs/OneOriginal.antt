@@ -11,7 +11,7 @@ use Rattle.sb_rewrite.specs.Listing.{text_address}
 use Rattle.sb_rewrite.specs.Placing.{Place, slot_bytes, area_address, area_end}
 use Rattle.sb_rewrite.specs.Output.{Output, output, starts_of, moves_of, moves_by, IsOrdered, IsMain, RunsAt}
 use Rattle.sb_rewrite.specs.Rewriting.{EndsBehindArea, NoneOf, ArePlaces, OneOriginal}
-use Rattle.sb_rewrite.proofs.Search.{in_order}
+use Rattle.sb_list.proofs.Search.{in_order}
 use Rattle.sb_rewrite.proofs.Jumps.{starts_within}
 use Rattle.sb_rewrite.proofs.Placed.{starts_placed}
 use Rattle.sb_rewrite.proofs.Ordered.{ordered}

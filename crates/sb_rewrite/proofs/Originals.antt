@@ -12,7 +12,7 @@ use Rattle.std.proofs.lemmas.List.{get_or-map, get_or_default, length-map}
 use Rattle.std.proofs.lemmas.List.Sorted.{IsNonDecreasingBy-from_default}
 use Rattle.sb_rewrite.specs.declared.edit.Move.{Move}
 use Rattle.sb_rewrite.specs.Output.{Output, IsInPlace, IsMovedTo, IsOriginal}
-use Rattle.sb_rewrite.proofs.Search.{in_order}
+use Rattle.sb_list.proofs.Search.{in_order}
 
 abbrev pub nowhere : Move
 nowhere = record { start = 0; main = 0 }

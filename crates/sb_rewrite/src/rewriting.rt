@@ -138,7 +138,7 @@ fn first_refusal(alloc: Global, text: &[u8], met: RewriteRefusal) -> RewriteRefu
     met
 }
 
-/// Rewrites a text, which stands at `TEXT_ADDRESS`, so that it does the same and the bytes of VMFUNC stand nowhere.
+/// Rewrites a text, which stands at `TEXT_ADDRESS`, by the table of forms, so that the bytes of VMFUNC stand nowhere.
 ///
 /// # Errors
 ///

@@ -7,7 +7,7 @@ use Rattle.sb_memory.proofs.Changes.{beside_word}
 use Rattle.sb_walks.specs.Entry.{entry_in}
 use Rattle.sb_root.specs.Calls.{SameBeside}
 
-contains_cons : (first frame : ℕ) (frames : List ℕ) → Contains frames frame → Contains (first ∷ frames) frame
+pub contains_cons : (first frame : ℕ) (frames : List ℕ) → Contains frames frame → Contains (first ∷ frames) frame
 contains_cons first frame frames (k, within, is) = (suc k, omega arith, is)
 
 -- only bytes of the list's frame and of these frames differ

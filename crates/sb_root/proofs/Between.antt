@@ -91,7 +91,7 @@ pub set_switched : (root : RootKernel) (memory : Physical) (thread index : ℕ) 
 set_switched root memory thread index list stands is set small =
     list_switched root memory thread index list stands is small ∙ rw (set_pointer root memory thread index stands set) refl
 
-free_entry : (kept : Option View) → is_listed kept ≡ false → entry_of_index kept ≡ 0
+pub free_entry : (kept : Option View) → is_listed kept ≡ false → entry_of_index kept ≡ 0
 free_entry None free = refl
 free_entry (Some view) free = rw free refl
 

@@ -10,12 +10,12 @@ use Rattle.sb_root.specs.declared.root_kernel.RootKernel.{RootKernel}
 use Rattle.sb_root.specs.declared.tables.ViewTables.{ViewTables}
 use Rattle.sb_root.specs.declared.view.View.{View}
 use Rattle.sb_root.specs.Entry.{eptp_to, is_rights, leaf_to}
-use Rattle.sb_root.specs.Tables.{IsExposed, IsRootMemory, HasTables, base_tables, base_entries, view_entries, shared_place}
+use Rattle.sb_root.specs.Tables.{IsExposed, IsRootMemory, HasTables, base_tables, base_entries, rights_in, view_entries, shared_place}
 use Rattle.sb_root.specs.Root.{Use, ListOf, PartOf, view_of, list_entry, used_frame}
 use Rattle.sb_root.specs.Standing.{HasView, Stands}
 use Rattle.sb_root.specs.Answers.{Exposes, ExposesIn}
 use Rattle.sb_root.proofs.Walk.{page_entry, tables_walk, walked_by_same}
-use Rattle.sb_root.proofs.Leaves.{each_rights, exposed_by, exposed_stays}
+use Rattle.sb_root.proofs.Leaves.{each_rights, exposed_by, exposed_stays, leaf_rights}
 use Rattle.sb_root.proofs.Stays.{FrameStays, page_stays, stays_beside, tables_stay, whole_stays}
 use Rattle.sb_root.proofs.Kept.{view_stays}
 use Rattle.sb_root.proofs.Reaches.{reaches}
@@ -130,3 +130,10 @@ module _ (root : RootKernel) (memory : Physical) (frame rights : ℕ) (stands : 
         (exposes_by view.0.tables (view_entries view.0) (stands.views thread index view.0 view.1).tables
         (view_after thread index view.0 view.1).tables);
   }
+
+  -- the rights are read back, and those of other pages stay
+  pub rights_here : rights_in exposed frame ≡ rights
+  rights_here = ap (λ (entry : ℕ). entry % 8) word_here ∙ leaf_rights frame rights possible
+
+  pub rights_other : (page : ℕ) → page ≢ frame → rights_in exposed page ≡ rights_in memory page
+  rights_other page differ = ap (λ (entry : ℕ). entry % 8) (word_other page differ)

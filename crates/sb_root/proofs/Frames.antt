@@ -9,6 +9,7 @@ use Rattle.std.proofs.lemmas.List.Elements.{Contains-get_or}
 use Rattle.std.proofs.lemmas.List.FromFn.{length-range_with_len, get_or-range_with_len}
 use Rattle.sb_root.specs.Tables.{base_frames, shared_frames}
 use Rattle.sb_root.specs.Root.{AreDifferent}
+use Rattle.sb_root.proofs.Beside.{contains_cons}
 
 -- a frame of a list has an index there
 pub contains_index : (frames : List ℕ) (frame : ℕ) → Contains frames frame
@@ -57,16 +58,12 @@ shared_small frame among =
     let is = index.2 in
     (omega arith, omega arith)
 
--- one more frame before others
-later_among : (first frame : ℕ) (frames : List ℕ) → Contains frames frame → Contains (first ∷ frames) frame
-later_among first frame frames (k, within, is) = (suc k, omega arith, is)
-
 pub base_shared : (frame : ℕ) → Contains shared_frames frame → Contains base_frames frame
 base_shared frame among =
-    later_among 5 frame (6 ∷ 7 ∷ 32 ∷ shared_frames)
-    (later_among 6 frame (7 ∷ 32 ∷ shared_frames)
-    (later_among 7 frame (32 ∷ shared_frames)
-    (later_among 32 frame shared_frames among)))
+    contains_cons 5 frame (6 ∷ 7 ∷ 32 ∷ shared_frames)
+    (contains_cons 6 frame (7 ∷ 32 ∷ shared_frames)
+    (contains_cons 7 frame (32 ∷ shared_frames)
+    (contains_cons 32 frame shared_frames among)))
 
 pub base_upper : (frame : ℕ) → Contains (5 ∷ 6 ∷ 7 ∷ []) frame → Contains base_frames frame
 base_upper frame (zero, within, is) = (0, omega arith, is)

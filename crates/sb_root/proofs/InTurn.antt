@@ -56,7 +56,7 @@ all_fewer book new (frame ∷ frames) (mid, first, rest) =
 
 -- ---- the parts of a view in the book
 
-different_behind : (first : ℕ) (frames : List ℕ) → AreDifferent (first ∷ frames) → AreDifferent frames
+pub different_behind : (first : ℕ) (frames : List ℕ) → AreDifferent (first ∷ frames) → AreDifferent frames
 different_behind first frames different =
     λ i j within within' differ. different (suc i) (suc j) (omega arith) (omega arith) (omega arith)
 

@@ -60,7 +60,8 @@ module _ (frames frame at : ℕ) (inside : frame < frames) (few : frames ≤ 819
 
 -- ---- entries of the shared tables
 
-leaf_rights : (frame rights : ℕ) → IsTrue (is_rights rights) → leaf_to frame rights % 8 ≡ rights
+-- what it permits is read back
+pub leaf_rights : (frame rights : ℕ) → IsTrue (is_rights rights) → leaf_to frame rights % 8 ≡ rights
 leaf_rights frame rights possible = elim (each_rights rights possible) [
   | inl none ↦ rw none refl
   | inr (inl one) ↦ rw one (omega arith)

@@ -22,7 +22,7 @@ use Rattle.sb_root.proofs.LowPages.{alike_page}
 use Rattle.sb_root.proofs.Stays.{page_stays, stays_outside}
 
 -- what replicates a value holds it at each index, or nothing
-repeated : {A : Type 0} (count index : ℕ) (value : A) → get_or (replicate count value) index value ≡ value
+pub repeated : {A : Type 0} (count index : ℕ) (value : A) → get_or (replicate count value) index value ≡ value
 repeated count index value = elim (cases_lt index count) [
   | inl within ↦ get_or-replicate count index value value within
   | inr beyond ↦ let size = length-replicate count value in

@@ -107,7 +107,8 @@ view_answers memory view whole base standing record_inside scratch_inside =
 
 -- ---- the base that was just built
 
-none_by : (memory : Physical) (page : ℕ) → page ≢ 1 → (16 ≤ page → page < 32 → ⊥)
+-- a page of the first 2 MiB, or one whose shared entry is 0
+pub none_by : (memory : Physical) (page : ℕ) → page ≢ 1 → (16 ≤ page → page < 32 → ⊥)
     → (512 ≤ page → word_at memory.bytes (shared_place page) ≡ 0) → (low : Bool) → nat_lt page 512 ≡ low
     → (if low then base_entries page else word_at memory.bytes (shared_place page)) ≡ 0
 none_by memory page differ no_root shared true e = base_other page differ no_root

@@ -6,7 +6,7 @@ use Rattle.sb_walks.specs.Ept.{ept_walk}
 use Rattle.sb_root.specs.declared.root_kernel.RootKernel.{RootKernel}
 use Rattle.sb_root.specs.declared.view.View.{View}
 use Rattle.sb_root.specs.Entry.{entry_reached}
-use Rattle.sb_root.specs.Tables.{base_eptp, trampoline_frame}
+use Rattle.sb_root.specs.Tables.{base_eptp, rights_in, trampoline_frame}
 use Rattle.sb_root.specs.Root.{IsSet, list_entry}
 
 -- each address answers behind a pointer as it did
@@ -36,6 +36,21 @@ pub record IsFirstBase (memory : Physical) : Type 0 where
   pub trampoline : (at : ℕ) (access : Access) → at / 4096 ≡ 1 → ept_walk memory base_eptp at access ≡ entry_reached 1 4 at access
   pub others : (at : ℕ) (access : Access) → at / 4096 ≢ 1 → ((16 ≤ at / 4096) → (at / 4096 < 32) → ⊥)
       → IsErr (ept_walk memory base_eptp at access)
+
+-- the base at all times: as it was built but for the pages from 512 on, each of which leads to its own frame with the rights that
+-- are read back from its entry
+pub record IsBase (memory : Physical) : Type 0 where
+  pub roots : (at : ℕ) (access : Access) → 16 ≤ at / 4096 → at / 4096 < 32
+      → ept_walk memory base_eptp at access ≡ entry_reached (at / 4096) 1 at access
+  pub trampoline : (at : ℕ) (access : Access) → at / 4096 ≡ 1 → ept_walk memory base_eptp at access ≡ entry_reached 1 4 at access
+  pub shared : (at : ℕ) (access : Access) → 512 ≤ at / 4096 → at / 4096 < 8192
+      → ept_walk memory base_eptp at access ≡ entry_reached (at / 4096) (rights_in memory (at / 4096)) at access
+  pub others : (at : ℕ) (access : Access) → at / 4096 ≢ 1 → ((16 ≤ at / 4096) → (at / 4096 < 32) → ⊥)
+      → ((512 ≤ at / 4096) → (at / 4096 < 8192) → ⊥) → IsErr (ept_walk memory base_eptp at access)
+
+-- each page from 512 on has the rights that it had
+abbrev pub SameRights : Physical → Physical → Type 0
+SameRights old new = (page : ℕ) → 512 ≤ page → page < 8192 → rights_in new page ≡ rights_in old page
 
 -- a view answers as the base but for four pages: the page of its thread's CR3, and those of its trampoline, its record and its
 -- scratch page

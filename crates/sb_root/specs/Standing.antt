@@ -1,5 +1,5 @@
 -- A root kernel whose tables and lists stand in a memory, and whose frames are taken in a book.
-use Rattle.std.specs.Prelude.{ℕ, ◌≡◌, ◌≢◌, ◌+◌, ◌<◌, ◌≤◌, None, Some, List, length}
+use Rattle.std.specs.Prelude.{ℕ, ◌≡◌, ◌≢◌, ◌+◌, ◌<◌, ◌≤◌, ◌⊎◌, None, Some, List, length}
 use Rattle.std.specs.List.{Contains}
 use Rattle.sb_memory.specs.Physical.{Physical, frame_count}
 use Rattle.sb_memory.specs.declared.address.Frame.{Frame}
@@ -43,6 +43,11 @@ pub record IsBooked (root : RootKernel) (book : Book) (memory : Physical) : Type
 abbrev pub IsTable : Use → Type 0
 IsTable (ListOf thread) = Unit {0}
 IsTable (PartOf thread index part) = part < 4
+
+-- a frame of the base, or one that holds a table of a view or a list
+abbrev pub IsTableFrame : RootKernel → ℕ → Type 0
+IsTableFrame root frame =
+    Contains base_frames frame ⊎ ((purpose : Use) × IsTable purpose × (used_frame root purpose ≡ Some frame))
 
 -- none of these frames holds a table or a list
 pub record IsApart (root : RootKernel) (frames : List ℕ) : Type 0 where

@@ -26,6 +26,6 @@ mod taking;
 mod view;
 
 pub use eptp_switch::switch;
-pub use law::{lists_lead_to_views, roots_keep_apart, views_answer};
+pub use law::{base_answers, lists_lead_to_views, roots_keep_apart, views_answer, walks_read_tables};
 pub use root_kernel::{NoFrames, RootKernel};
 pub use switch_answer::Switch;

@@ -10,7 +10,7 @@ ghost use Rattle.sb_walks.specs.Entry.{entry_in};
 ghost use Rattle.sb_frames.specs.Book.{Book, free_count};
 ghost use Rattle.sb_root.specs.declared.view.View.{View};
 ghost use Rattle.sb_root.specs.Entry.{is_rights, leaf_to};
-ghost use Rattle.sb_root.specs.Tables.{base_frames, shared_frames, shared_place};
+ghost use Rattle.sb_root.specs.Tables.{base_frames, rights_in, shared_frames, shared_place};
 ghost use Rattle.sb_root.specs.Root.{HasFreeIndex, IsLowestFree, IsSet, entry_of_view, is_listed, eptp_list_frame, no_threads, without_listing, view_of, with_view};
 ghost use Rattle.sb_root.specs.Standing.{IsBooked, IsRootFrame, Stands};
 ghost use Rattle.sb_root.specs.Answers.{Exposes, IsFirstBase, SameViews};
@@ -63,6 +63,7 @@ impl RootKernel {
         ensures stands { Stands result memory.new }
         ensures booked { (book : Book) → length book + 512 ≡ frame_count memory.new → IsBooked result book memory.new }
         ensures base { IsFirstBase memory.new }
+        ensures rights { (page : ℕ) → 512 ≤ page → page < 8192 → rights_in memory.new page ≡ 0 }
         ensures same { SameOutside base_frames memory.old memory.new }
     {
         BASE.put_upper(memory);
@@ -87,6 +88,8 @@ impl RootKernel {
         ensures stands { Stands self.new memory.new }
         ensures booked { (book : Book) → IsBooked self.old book memory.old → IsBooked self.new book memory.new }
         ensures exposes { Exposes self.old memory.old memory.new frame.0 rights }
+        ensures rights { rights_in memory.new frame.0 ≡ rights }
+        ensures other_rights { (page : ℕ) → page ≢ frame.0 → rights_in memory.new page ≡ rights_in memory.old page }
     {
         let table = region_table(frame.0 as usize / 512);
         memory.set_word(table.word(u64::from(frame.0 % 512)), leaf(frame, rights));

@@ -21,12 +21,12 @@ use Rattle.sb_state.specs.declared.page.PageName.TheVariants.{Heap}
 use Rattle.sb_state.specs.declared.page.Page.{Page}
 use Rattle.sb_state.specs.declared.state.Thread.{Thread}
 use Rattle.sb_trace.specs.PageName.{same_name, mode_of}
-use Rattle.sb_trace.specs.State.{State, find_page}
+use Rattle.sb_trace.specs.State.{State, find_page, with_mode}
 use Rattle.sb_trace.specs.Windows.{name_at, is_within}
-use Rattle.sb_trace.specs.SyscallProtect.{with_mode, with_heap_mode}
+use Rattle.sb_trace.specs.SyscallProtect.{with_heap_mode}
 use Rattle.sb_state.proofs.Names.{name_same}
-use Rattle.sb_state.proofs.Pages.{with_executable}
-use Rattle.sb_trace.proofs.Modes.{mode_same, mode_other}
+use Rattle.sb_state.proofs.PageLists.{with_executable}
+use Rattle.sb_state.proofs.Modes.{mode_same, mode_other}
 use Rattle.sb_shows.specs.Placement.{Placement, BaseTable, GuestTable, Holds, IsThere, IsOneToOne, is_own, guest_page, leaf_for, leaf_if, rights_for, name_entry, entry_of}
 use Rattle.sb_shows.specs.Keeping.{HasContents, Keeps}
 use Rattle.sb_shows.specs.Windows.{page_number, IsOf}

@@ -22,7 +22,7 @@ use Rattle.sb_trace.specs.Start.{pages_from}
 use Rattle.sb_trace.specs.SyscallRegister.{stack_bytes, server_stack_page, with_registration, with_server}
 use Rattle.sb_trace.specs.Windows.{name_at, is_within}
 use Rattle.sb_state.proofs.Names.{name_other}
-use Rattle.sb_state.proofs.Pages.{found_other}
+use Rattle.sb_state.proofs.PageLists.{found_other}
 use Rattle.sb_state.proofs.Start.{zeros_size}
 use Rattle.sb_shows.specs.Placement.{Placement, is_own}
 use Rattle.sb_shows.specs.Keeping.{Keeps}
@@ -34,6 +34,7 @@ use Rattle.sb_shows.proofs.Putting.{keeps_replaced}
 use Rattle.sb_shows.proofs.Adding.{added_other}
 use Rattle.sb_shows.proofs.AddingPages.{pages_added}
 use Rattle.sb_shows.proofs.Threads.{keeps_moved}
+use Rattle.sb_trace.proofs.KeptPages.{size_if}
 
 -- ---- a word of a page
 
@@ -103,11 +104,6 @@ stack_seen threads count process page there few = record {
 
 -- ---- the pages of the stacks
 
-size_if : (test : Bool) (one other : List ℕ) → length one ≡ 4096 → length other ≡ 4096
-    → length (if test then one else other) ≡ 4096
-size_if true one other first second = first
-size_if false one other first second = second
-
 pub stack_size : (page : ℕ) → length (stack_bytes page) ≡ 4096
 unfolding stack_bytes
 stack_size page =
@@ -138,12 +134,12 @@ new_stacks (suc count) first threads processes pages process there few none = (
 
 -- ---- the call
 
-registered_count : (found : Option Process) (processes : List Process) (number : ℕ) (registration : Registration)
+pub registered_count : (found : Option Process) (processes : List Process) (number : ℕ) (registration : Registration)
     → length (with_registration found processes number registration) ≡ length processes
 registered_count None processes number registration = refl
 registered_count (Some process) processes number registration = length-set processes number _
 
-pools_differ : (process page : ℕ) → Pool process ≢ ServerStack process page
+pub pools_differ : (process page : ℕ) → Pool process ≢ ServerStack process page
 pools_differ process page same = cc
 
 -- the pool word is set, then the pages of the stacks are added in their order

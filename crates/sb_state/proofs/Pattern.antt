@@ -4,6 +4,8 @@ use Rattle.std.specs.Option.{option_map}
 use Rattle.std.proofs.lemmas.Bool.{and_parts, eqb-true, eq-eqb}
 use Rattle.sb_scan.specs.Pattern.{HasPatternAt, IsFirstPattern}
 use Rattle.sb_state.specs.Pattern.{begins_pattern, first_pattern}
+use Rattle.sb_scan.proofs.Held.{behind}
+use Rattle.sb_scan.proofs.Held.{before}
 
 begins_there : (bytes : List ℕ) → begins_pattern bytes ≡ true → HasPatternAt bytes 0
 begins_there bytes begins =
@@ -20,15 +22,6 @@ one_behind : (byte : ℕ) (bytes : List ℕ) (place count : ℕ)
 one_behind byte bytes place count = let moved : suc place + count ≡ suc (place + count) = omega arith in
     ap (λ (k : ℕ). get_or (byte ∷ bytes) k 0) moved
 
--- a place behind the first byte is one among the others
-behind_first : (byte : ℕ) (bytes : List ℕ) (place : ℕ) → HasPatternAt (byte ∷ bytes) (suc place) → HasPatternAt bytes place
-behind_first byte bytes place (first, second, third) =
-    (first, sym (one_behind byte bytes place 1) ∙ second, sym (one_behind byte bytes place 2) ∙ third)
-
-ahead_of_first : (byte : ℕ) (bytes : List ℕ) (place : ℕ) → HasPatternAt bytes place → HasPatternAt (byte ∷ bytes) (suc place)
-ahead_of_first byte bytes place (first, second, third) =
-    (first, one_behind byte bytes place 1 ∙ second, one_behind byte bytes place 2 ∙ third)
-
 at_first : (byte : ℕ) (bytes : List ℕ) (found : Option ℕ) → HasPatternAt (byte ∷ bytes) 0
     → IsFirstPattern (byte ∷ bytes) found → found ≡ Some 0
 at_first byte bytes None here first = absurd (first 0 here)
@@ -42,13 +35,13 @@ among_others : (byte : ℕ) (bytes : List ℕ) (found : Option ℕ) → ¬ HasPa
     → found ≡ option_map suc (first_pattern bytes)
 among_others byte bytes None not_here first rest =
     ap (λ (inside : Option ℕ). option_map suc inside)
-    (rest None (λ place there. first (suc place) (ahead_of_first byte bytes place there)))
+    (rest None (λ place there. first (suc place) (behind byte bytes place there)))
 among_others byte bytes (Some zero) not_here first rest = absurd (not_here first.0)
 among_others byte bytes (Some (suc place)) not_here first rest =
     ap (λ (inside : Option ℕ). option_map suc inside)
     (rest (Some place) (
-      behind_first byte bytes place first.0,
-      λ earlier before there. first.1 (suc earlier) (omega arith) (ahead_of_first byte bytes earlier there),
+      before byte bytes place first.0,
+      λ earlier before there. first.1 (suc earlier) (omega arith) (behind byte bytes earlier there),
     ))
 
 by_test : (byte : ℕ) (bytes : List ℕ) (found : Option ℕ) (test : Bool) → begins_pattern (byte ∷ bytes) ≡ test

@@ -6,4 +6,9 @@ pub mod Windows
 pub mod PlainMemory
 pub mod Registers
 pub mod Pattern
+pub mod Store
+pub mod Places
+pub mod Reach
+pub mod Spots
+pub mod ThreadMemory
 pub mod Start

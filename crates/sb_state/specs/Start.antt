@@ -1,5 +1,5 @@
 -- The state at the start of images and entries (docs/FORMATS.md, "The start").
-use Rattle.std.specs.Prelude.{ℕ, zero, suc, ◌+◌, ◌-◌, ◌*◌, ◌/◌, false, List, [], ◌∷◌, ◌++◌, length, take, drop, map, replicate, slice_set, None}
+use Rattle.std.specs.Prelude.{ℕ, zero, suc, ◌+◌, ◌-◌, ◌*◌, ◌/◌, List, [], ◌∷◌, ◌++◌, length, take, drop, map, replicate, slice_set, None}
 pub use Rattle.sb_memory.specs.Pages.{page_count}
 use Rattle.sb_insn.specs.declared.registers.Regs.{Regs}
 use Rattle.sb_state.specs.declared.end_kind.EndKind.TheVariants.{Running}
@@ -11,6 +11,7 @@ use Rattle.sb_tramp.specs.declared.record_words.RecordWords.{RecordWords}
 unfoldable pub use Rattle.sb_tramp.specs.Record.{record_bytes}
 use Rattle.sb_tramp.specs.Home.{home_page}
 use Rattle.sb_tramp.specs.Server.{server_page}
+pub use Rattle.sb_state.specs.State.{page_with}
 use Rattle.sb_state.specs.State.{State, Process}
 use Rattle.sb_state.specs.PageWords.{zeros}
 use Rattle.sb_state.specs.Registers.{no_flags}
@@ -38,9 +39,6 @@ page_padded filler bytes = bytes ++ replicate (4096 - length bytes) filler
 -- one page of bytes that go over several pages, of which the last is filled up
 abbrev pub page_of : ℕ → List ℕ → ℕ → List ℕ
 page_of filler bytes page = page_padded filler (take 4096 (drop (4096 * page) bytes))
-
-abbrev pub page_with : PageName → List ℕ → Page
-page_with name bytes = record { name = name; executable = false; bytes = bytes }
 
 -- the pages from a first number on, so many
 abbrev pub pages_from : (ℕ → Page) → ℕ → ℕ → List Page

@@ -1,5 +1,5 @@
 -- The state of the plain machine: pages by name, processes, threads, and what is left to be given out.
-use Rattle.std.specs.Prelude.{ℕ, false, List, [], ◌∷◌, Option, Some, None, slice_get, slice_set, unwrap_or, if◌then◌else◌}
+use Rattle.std.specs.Prelude.{ℕ, ◌==◌, ◌||◌, Bool, false, List, [], ◌∷◌, Option, Some, None, slice_get, slice_set, unwrap_or, if◌then◌else◌}
 use Rattle.sb_insn.specs.declared.registers.Regs.{Regs}
 use Rattle.sb_state.specs.declared.end_kind.EndKind.{EndKind}
 use Rattle.sb_state.specs.declared.end_kind.EndKind.TheVariants.{Ended}
@@ -28,7 +28,16 @@ pub record State : Type 0 where
   -- the key words that are left
   pub keys : List ℕ
 
+-- whether an address is one of these
+abbrev pub is_listed : List ℕ → ℕ → Bool
+is_listed [] address = false
+is_listed (start ∷ starts) address = (start == address) || is_listed starts address
+
 -- ---- pages by name
+
+-- a page of this name with these bytes; if it is one of the heap, in write mode
+abbrev pub page_with : PageName → List ℕ → Page
+page_with name bytes = record { name = name; executable = false; bytes = bytes }
 
 -- the first page of this name
 abbrev pub find_page : List Page → PageName → Option Page
@@ -40,6 +49,12 @@ abbrev pub with_page_bytes : List Page → PageName → List ℕ → List Page
 with_page_bytes [] name bytes = []
 with_page_bytes (page ∷ pages) name bytes =
     if same_name page.name name then (record page { bytes = bytes }) ∷ pages else page ∷ with_page_bytes pages name bytes
+
+-- the pages with the first of this name executable, or not
+abbrev pub with_mode : List Page → PageName → Bool → List Page
+with_mode [] name executable = []
+with_mode (page ∷ pages) name executable =
+    if same_name page.name name then record page { executable = executable } ∷ pages else page ∷ with_mode pages name executable
 
 abbrev pub bytes_of : Option Page → List ℕ
 bytes_of None = []

@@ -16,8 +16,7 @@ use Rattle.sb_state.specs.declared.page.Page.{Page}
 use Rattle.sb_state.specs.declared.page.Mode.{Mode}
 use Rattle.sb_state.specs.declared.page.Mode.TheVariants.{ReadWrite}
 use Rattle.sb_trace.specs.PageName.{same_name, mode_of}
-use Rattle.sb_trace.specs.State.{State, find_page}
-use Rattle.sb_trace.specs.Start.{page_with}
+use Rattle.sb_trace.specs.State.{State, find_page, page_with}
 use Rattle.sb_state.proofs.Names.{name_same}
 use Rattle.sb_shows.specs.Placement.{Placement, Unused, GuestTable, Holds, IsThere, leaf_for, rights_for}
 use Rattle.sb_shows.specs.Calls.{SetsPage, ExposesFrame, AddsPage, placed_with, IsNewPage}

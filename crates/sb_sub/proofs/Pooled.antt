@@ -31,7 +31,7 @@ use Rattle.sb_trace.specs.State.{State, Process, find_page, with_page_bytes, con
 use Rattle.sb_trace.specs.Windows.{name_at}
 use Rattle.sb_trace.specs.SyscallRegister.{with_registration, with_server}
 use Rattle.sb_state.proofs.Names.{name_other, name_same}
-use Rattle.sb_state.proofs.Pages.{found_other, found_same, with_bytes as page_with}
+use Rattle.sb_state.proofs.PageLists.{found_other, found_same, with_bytes as page_with}
 use Rattle.sb_shows.specs.Placement.{Placement, Holds, IsThere, is_own, guest_page, leaf_for, leaf_if, entry_of, entries_of}
 use Rattle.sb_shows.specs.Keeping.{Keeps}
 use Rattle.sb_shows.proofs.Leaves.{guest_permits, leaf_judged}
@@ -42,10 +42,9 @@ use Rattle.sb_sub.specs.Carries.{Carries}
 use Rattle.sb_sub.specs.Registering.{FindsPool, RegistersPages, Registered, pool_at, pool_found}
 use Rattle.sb_sub.proofs.Led.{on_judged, led_if, answer_fact}
 use Rattle.sb_sub.proofs.Stacks.{StacksCarried, stacks_carried}
-
-pool_named : (threads : List Thread) (thread view process : ℕ) → name_at threads thread view 0x70006 process ≡ Some (Pool process)
-unfolding name_at
-pool_named threads thread view process = refl
+use Rattle.sb_shows.proofs.Registering.{registered_count}
+use Rattle.sb_shows.proofs.Seen.{pool_named}
+use Rattle.sb_shows.proofs.Registering.{pools_differ}
 
 pool_window : IsInWindow pool_at
 unfolding page_table_of
@@ -60,14 +59,6 @@ there_put true pages name other bytes is (page, found) =
           ∙ (found_same pages name bytes ∙ ap (option_map (page_with bytes)) (ap (find_page pages) same ∙ found)),
     )
 there_put false pages name other bytes is (page, found) = (page, found_other pages name other bytes is ∙ found)
-
-registered_count : (found : Option Process) (processes : List Process) (number : ℕ) (registration : Registration)
-    → length (with_registration found processes number registration) ≡ length processes
-registered_count None processes number registration = refl
-registered_count (Some process) processes number registration = length-set processes number _
-
-pools_differ : (process page : ℕ) → Pool process ≢ ServerStack process page
-pools_differ process page same = cc
 
 module _ (placement : Placement) (root : RootKernel) (book : Book) (memory : Physical) (state : State)
     (carries : Carries placement root book memory state) (process : ℕ) (one : Page)

@@ -16,12 +16,12 @@ use Rattle.sb_state.specs.declared.page.PageName.{PageName}
 use Rattle.sb_state.specs.declared.page.PageName.TheVariants.{Heap}
 use Rattle.sb_state.specs.declared.page.Page.{Page}
 use Rattle.sb_trace.specs.PageName.{same_name, mode_of}
-use Rattle.sb_trace.specs.State.{State, Process, find_page, process_at}
+use Rattle.sb_trace.specs.State.{State, Process, find_page, process_at, with_mode}
 use Rattle.sb_trace.specs.Pattern.{heap_pattern}
-use Rattle.sb_trace.specs.SyscallProtect.{heap_count, with_mode, with_heap_mode}
+use Rattle.sb_trace.specs.SyscallProtect.{heap_count, with_heap_mode}
 use Rattle.sb_state.proofs.Names.{name_same}
-use Rattle.sb_state.proofs.Pages.{with_executable}
-use Rattle.sb_trace.proofs.Modes.{mode_same, mode_other}
+use Rattle.sb_state.proofs.PageLists.{with_executable}
+use Rattle.sb_state.proofs.Modes.{mode_same, mode_other}
 use Rattle.sb_abi.specs.declared.call.CallRefusal.{CallRefusal}
 use Rattle.sb_abi.specs.declared.call.CallRefusal.TheVariants.{BadPage, BadMode}
 use Rattle.sb_calls.specs.Refusals.{protect_refusal}

@@ -20,7 +20,8 @@ use Rattle.sb_sub.specs.Carries.{Carries}
 use Rattle.sb_sub.specs.Registering.{RegistersPages, Registered, with_entry}
 use Rattle.sb_sub.proofs.Finding.{process_found, process_there, set_is}
 use Rattle.sb_sub.proofs.Pooled.{registered_carried}
-use Rattle.sb_sub.proofs.WholeServer.{set_here, set_there, server_whole}
+use Rattle.sb_sub.proofs.WholeServer.{set_here, server_whole}
+use Rattle.sb_state.proofs.Threads.{set_other}
 
 map_set : (list : List Entry) (index : ℕ) (entry : Entry)
     → map process_of (slice_set list index entry) ≡ slice_set (map process_of list) index (process_of entry)
@@ -82,7 +83,7 @@ module _ (kernel : Kernel) (root : RootKernel) (book : Book) (memory : Physical)
       ap done.after.sets at ∙ (done.stays.sets process ∙ (set_same ∙ same))
   sets_by false other one is found =
       done.stays.sets other
-      ∙ stands.sets other one (sym (set_there kernel.processes process other after (eqb-false other process is)) ∙ found)
+      ∙ stands.sets other one (sym (set_other kernel.processes process other after (eqb-false other process is)) ∙ found)
 
   processes_now : map process_of (slice_set kernel.processes process after) ≡ (with_server state process handler stacks).processes
   unfolding with_server with_word with_contents process_at

@@ -14,7 +14,7 @@ use Rattle.sb_trace.specs.Start.{pages_from}
 use Rattle.sb_trace.specs.SyscallRegister.{server_stack_page, with_server}
 use Rattle.sb_trace.specs.Windows.{name_at, process_shown, page_by_name, page_and_mode, page_for}
 use Rattle.sb_state.proofs.Names.{name_same}
-use Rattle.sb_state.proofs.Pages.{either, found_added, found_other, found_same, with_bytes as page_with}
+use Rattle.sb_state.proofs.PageLists.{either, found_added, found_other, found_same, with_bytes as page_with}
 use Rattle.sb_shows.proofs.Bytes.{IsFound, seen_there}
 use Rattle.sb_sub.specs.Translations.{RegisterStays}
 

@@ -14,8 +14,8 @@ use Rattle.sb_state.specs.declared.page.Page.{Page}
 use Rattle.sb_state.specs.declared.page.Mode.TheVariants.{ReadWrite}
 use Rattle.sb_trace.specs.PageName.{mode_of}
 use Rattle.sb_trace.specs.PageWords.{zeros}
-use Rattle.sb_trace.specs.State.{State, find_page}
-use Rattle.sb_trace.specs.Start.{page_with, pages_from}
+use Rattle.sb_trace.specs.State.{State, find_page, page_with}
+use Rattle.sb_trace.specs.Start.{pages_from}
 use Rattle.sb_trace.specs.SyscallRegister.{stack_bytes, server_stack_page}
 use Rattle.sb_state.proofs.Names.{name_other}
 use Rattle.sb_shows.specs.Placement.{Placement, IsThere, is_own}

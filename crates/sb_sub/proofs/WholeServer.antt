@@ -17,11 +17,12 @@ use Rattle.sb_trace.specs.Start.{pages_from}
 use Rattle.sb_trace.specs.SyscallRegister.{server_stack_page, with_registration, with_server}
 use Rattle.sb_trace.specs.SyscallProtect.{heap_count}
 use Rattle.sb_state.proofs.Names.{name_same}
-use Rattle.sb_state.proofs.Pages.{either, found_added, found_other, found_same, with_bytes as page_with}
+use Rattle.sb_state.proofs.PageLists.{either, found_added, found_other, found_same, with_bytes as page_with}
 use Rattle.sb_shows.specs.Placement.{IsThere}
 use Rattle.sb_shows.proofs.Names.{name_self}
 use Rattle.sb_sub.specs.Whole.{ImagePages, Belongs, IsWhole, stacks_in}
 use Rattle.sb_sub.proofs.Pooled.{there_put}
+use Rattle.sb_state.proofs.Threads.{set_other}
 
 -- ---- one process changes
 
@@ -30,14 +31,6 @@ pub set_here : {A : Type 0} (list : List A) (index : ℕ) (value : A) → index 
 set_here [] index value below = absurd (omega (arith, below))
 set_here (first ∷ list) zero value below = refl
 set_here (first ∷ list) (suc index) value below = set_here list index value (omega arith)
-
-pub set_there : {A : Type 0} (list : List A) (index other : ℕ) (value : A) → other ≢ index
-    → slice_get (slice_set list index value) other ≡ slice_get list other
-set_there [] index other value apart = refl
-set_there (first ∷ list) zero zero value apart = absurd (apart refl)
-set_there (first ∷ list) zero (suc other) value apart = refl
-set_there (first ∷ list) (suc index) zero value apart = refl
-set_there (first ∷ list) (suc index) (suc other) value apart = set_there list index other value (λ same. apart (ap suc same))
 
 -- ---- the pages
 
@@ -132,7 +125,7 @@ module _ (images : ℕ
       let at = eqb-true other process is in
       ap (λ (n : ℕ). heap_count (slice_get after n)) at
       ∙ (ap heap_count here ∙ (sym (ap heap_count found) ∙ sym (ap (λ (n : ℕ). heap_count (slice_get processes n)) at)))
-  heap_by false other is = ap heap_count (set_there processes process other _ (eqb-false other process is))
+  heap_by false other is = ap heap_count (set_other processes process other _ (eqb-false other process is))
 
   pub heap_same : (other : ℕ) → heap_count (slice_get after other) ≡ heap_count (slice_get processes other)
   heap_same other = heap_by (other == process) other refl
@@ -146,7 +139,7 @@ module _ (images : ℕ
   stacks_there : (other : ℕ) → other ≢ process
       → stacks_in (registration_of (slice_get after other)) ≡ stacks_in (registration_of (slice_get processes other))
   stacks_there other apart =
-      ap (λ (p : Option Process). stacks_in (registration_of p)) (set_there processes process other _ apart)
+      ap (λ (p : Option Process). stacks_in (registration_of p)) (set_other processes process other _ apart)
 
   forth_by : (same : Bool) (other page : ℕ) → (other == process) ≡ same
       → page < 4 * stacks_in (registration_of (slice_get processes other))

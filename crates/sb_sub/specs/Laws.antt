@@ -8,8 +8,7 @@ use Rattle.sb_state.specs.declared.page.Page.{Page}
 use Rattle.sb_state.specs.declared.page.PageName.{PageName}
 use Rattle.sb_state.specs.declared.page.PageName.TheVariants.{Pool, ServerStack}
 use Rattle.sb_trace.specs.PageName.{mode_of}
-use Rattle.sb_trace.specs.Start.{page_with}
-use Rattle.sb_trace.specs.State.{State, Process, find_page, process_at}
+use Rattle.sb_trace.specs.State.{State, Process, find_page, process_at, page_with}
 use Rattle.sb_shows.specs.Calls.{IsNewPage, placed_with}
 use Rattle.sb_shows.specs.Placement.{Placement}
 use Rattle.sb_shows.specs.Windows.{page_number}

@@ -15,14 +15,14 @@ use Rattle.sb_state.specs.declared.page.Page.{Page}
 use Rattle.sb_state.specs.declared.page.Mode.TheVariants as mode
 use Rattle.sb_state.specs.declared.state.Flight.{Flight}
 use Rattle.sb_state.specs.PageName.{same_name, mode_of, permits}
-use Rattle.sb_state.specs.State.{find_page, thread_at, no_thread, flight_at}
+use Rattle.sb_state.specs.State.{find_page, thread_at, no_thread, flight_at, page_with}
 use Rattle.sb_state.specs.PageWords.{zeros}
-use Rattle.sb_state.specs.Start.{ProcessImage, ThreadEntry, page_padded, page_of, page_with, padded_page, page_count, padded_pages, heap_page, heap_pages, process_pages, home_words, thread_pages, trampoline_pages, images_pages, threads_pages, start_threads, start_state}
+use Rattle.sb_state.specs.Start.{ProcessImage, ThreadEntry, page_padded, page_of, padded_page, page_count, padded_pages, heap_page, heap_pages, process_pages, home_words, thread_pages, trampoline_pages, images_pages, threads_pages, start_threads, start_state}
 use Rattle.sb_trace.specs.Code.{fetched_byte, code_byte, HasNoCodePattern}
 use Rattle.sb_trace.specs.Sound.{HasPage, ArePagesSound, HasView, IsFlightSound}
 use Rattle.sb_trace.specs.Laws.{HasCleanCode, StartIsSound}
 use Rattle.sb_state.proofs.Names.{name_same}
-use Rattle.sb_state.proofs.Pages.{either, found_added}
+use Rattle.sb_state.proofs.PageLists.{either, found_added}
 use Rattle.sb_state.proofs.Start.{zeros_size, record_size, EachPage, found_each, each_both, each_from}
 
 -- ---- bytes that fill pages
@@ -173,7 +173,7 @@ named_by true first page found name test more is = let same : first ≡ page = c
 named_by false first page found name test more is = more is
 
 -- a page that is found has the name
-found_name : (pages : List Page) (name : PageName) (page : Page) → find_page pages name ≡ Some page → page.name ≡ name
+pub found_name : (pages : List Page) (name : PageName) (page : Page) → find_page pages name ≡ Some page → page.name ≡ name
 found_name [] name page is = absurd cc
 found_name (first ∷ pages) name page is =
     named_by (same_name first.name name) first page (find_page pages name) name refl (found_name pages name page) is
@@ -333,7 +333,7 @@ view_starts (entry ∷ entries) first (suc number) = view_starts entries (first 
 abbrev no_flight : Option Flight
 no_flight = None
 
-none_flies : (count number : ℕ) → unwrap_or (slice_get (replicate count no_flight) number) no_flight ≡ no_flight
+pub none_flies : (count number : ℕ) → unwrap_or (slice_get (replicate count no_flight) number) no_flight ≡ no_flight
 none_flies zero number = refl
 none_flies (suc count) zero = refl
 none_flies (suc count) (suc number) = none_flies count number

@@ -19,7 +19,7 @@ use Rattle.sb_trace.specs.Sound.{HasPage, ArePagesSound}
 use Rattle.sb_trace.specs.Changes.{IsClosed, Shape, shape_of, WritesOpen, with_first_word}
 use Rattle.sb_state.proofs.Cases.{clash, same_found}
 use Rattle.sb_state.proofs.Names.{name_same, name_other}
-use Rattle.sb_state.proofs.Pages.{with_bytes, found_other, found_same, either, found_added}
+use Rattle.sb_state.proofs.PageLists.{with_bytes, found_other, found_same, either, found_added}
 use Rattle.sb_state.proofs.Start.{EachPage, found_each}
 
 -- ---- where the same bytes may be fetched

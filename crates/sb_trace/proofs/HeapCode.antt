@@ -11,15 +11,14 @@ use Rattle.sb_state.specs.declared.page.PageName.TheVariants.{Text, Area, Heap, 
 use Rattle.sb_state.specs.declared.page.Mode.TheVariants as mode
 use Rattle.sb_state.specs.declared.page.Page.{Page}
 use Rattle.sb_state.specs.PageName.{same_name, mode_of, permits}
-use Rattle.sb_state.specs.State.{State, find_page}
-use Rattle.sb_trace.specs.SyscallProtect.{with_mode}
+use Rattle.sb_state.specs.State.{State, find_page, with_mode}
 use Rattle.sb_state.specs.Pattern.{begins_pattern, first_pattern, executable_bytes, bytes_before, bytes_behind, heap_address, heap_pattern, pattern_around}
 use Rattle.sb_trace.specs.Code.{fetched_byte, code_byte, HasCodePatternAt, HasNoCodePattern}
 use Rattle.sb_trace.specs.Sound.{HasPage, ArePagesSound}
 use Rattle.sb_state.proofs.Cases.{clash, none_some, same_some}
 use Rattle.sb_state.proofs.Names.{name_same, name_other}
-use Rattle.sb_state.proofs.Pages.{with_executable}
-use Rattle.sb_trace.proofs.Modes.{mode_other, mode_same}
+use Rattle.sb_state.proofs.PageLists.{with_executable}
+use Rattle.sb_state.proofs.Modes.{mode_other, mode_same}
 use Rattle.sb_trace.proofs.CodePages.{SameCode, no_pattern_kept, code_where_found}
 
 -- ---- the pattern in bytes

@@ -22,7 +22,7 @@ use Rattle.sb_trace.proofs.HeapCode.{mode_sound}
 
 -- ---- sizes of new pages
 
-size_if : (test : Bool) (one other : List ℕ) → length one ≡ 4096 → length other ≡ 4096
+pub size_if : (test : Bool) (one other : List ℕ) → length one ≡ 4096 → length other ≡ 4096
     → length (if test then one else other) ≡ 4096
 size_if true one other first second = first
 size_if false one other first second = second

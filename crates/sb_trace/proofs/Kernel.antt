@@ -144,7 +144,8 @@ unfolding with_view with_word with_contents thread_at
 did_entered state core binding word bound = let mid = with_word state (Pool binding.server) 0 (word - 2 ^ lowest_bit word) in
     record {
       changes = record {
-        thread = only_both state core mid (with_thread mid core (enters state core binding word)) (only_none state core mid refl refl)
+        thread =
+            only_both state core mid (with_thread mid core (enters state core binding word)) (only_none state core mid refl refl)
             (only_thread mid core (enters state core binding word) refl);
         rest = record {
           server = binding.server;

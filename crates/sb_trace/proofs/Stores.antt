@@ -21,7 +21,7 @@ use Rattle.sb_state.specs.Windows.{page_for, page_by_name, page_and_mode, name_a
 use Rattle.sb_state.specs.PlainMemory.{Placed, bytes_to_put, placed_at, put_byte, put_all, plain_stored, plain, plain_byte, byte_seen, is_canonical, fault_at}
 use Rattle.sb_trace.specs.Changes.{IsClosed, Shape, shape_of}
 use Rattle.sb_state.proofs.Names.{name_same, name_other}
-use Rattle.sb_state.proofs.Pages.{with_bytes, found_other, found_same}
+use Rattle.sb_state.proofs.PageLists.{with_bytes, found_other, found_same}
 
 -- ---- one byte
 
@@ -126,17 +126,17 @@ abbrev IsDone : {A : Type 0} → Result A BusStop → Type 0
 IsDone (Ok value) = Unit {0}
 IsDone (Err stop) = ⊥
 
-done_first : {A B : Type 0} (answer : Result A BusStop) (next : A → Result B BusStop) → IsDone (and_then answer next)
+pub done_first : {A B : Type 0} (answer : Result A BusStop) (next : A → Result B BusStop) → IsDone (and_then answer next)
     → IsDone answer
 done_first (Ok value) next given = tt
 done_first (Err stop) next given = given
 
-done_rest : (byte : Result ℕ BusStop) (rest : Result (List ℕ) BusStop)
+pub done_rest : (byte : Result ℕ BusStop) (rest : Result (List ℕ) BusStop)
     → IsDone (and_then byte (λ lowest. and_then rest (λ others. Ok (lowest ∷ others)))) → IsDone rest
 done_rest (Ok lowest) rest given = done_first rest _ given
 done_rest (Err stop) rest given = absurd given
 
-done_bytes : (bytes : Result (List ℕ) BusStop) → done bytes ≡ Ok tt → IsDone bytes
+pub done_bytes : (bytes : Result (List ℕ) BusStop) → done bytes ≡ Ok tt → IsDone bytes
 done_bytes (Ok list) given = tt
 done_bytes (Err stop) given = cc
 

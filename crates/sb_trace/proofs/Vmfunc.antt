@@ -19,6 +19,7 @@ use Rattle.sb_bus.specs.declared.stop.BusStop.{BusStop}
 use Rattle.sb_exec.specs.Fetching.{Stands, HasShortFronts, Fetches}
 use Rattle.sb_scan.specs.Pattern.{pattern}
 use Rattle.sb_tramp.specs.Forms.{opcode_alone}
+use Rattle.sb_exec.proofs.OneFetch.{short_fronts}
 
 -- ---- its spelling
 
@@ -56,25 +57,6 @@ longer_front : (whole rest : List ℕ) (count : ℕ) (front : List ℕ) → leng
     → front ≡ whole ++ rest → ⊥
 longer_front whole rest count front size below is =
     let sum : length front ≡ length whole + length rest = ap length is ∙ length-append whole rest in omega (arith, sum)
-
--- no instruction begins a proper front of one, and the front may go on to it
-pub short_fronts : (insn : Insn) → IsValid insn → HasShortFronts (spelling insn)
-unfolding HasShortFronts
-short_fronts insn valid count below =
-    let whole : take count (spelling insn) ++ drop count (spelling insn) ≡ spelling insn =
-    take-append-drop count (spelling insn) in
-    let size : length (take count (spelling insn)) ≡ count = length-take-le count (spelling insn) (omega arith) in (
-      λ other begins.
-          let split : spelling insn ≡ spelling other ++ (begins.1.0 ++ drop count (spelling insn)) =
-          sym whole
-          ∙ (ap (λ front. front ++ drop count (spelling insn)) begins.1.1
-          ∙ append_assoc (spelling other) begins.1.0 (drop count (spelling insn))) in
-          let same : other ≡ insn =
-          none_begins_another other insn (begins.1.0 ++ drop count (spelling insn)) begins.0 valid split in
-          longer_front (spelling insn) begins.1.0 count (take count (spelling insn)) size below
-          (begins.1.1 ∙ ap (λ (one : Insn). spelling one ++ begins.1.0) same),
-      (drop count (spelling insn), insn, (valid, ([], whole ∙ sym (append-nil (spelling insn))))),
-    )
 
 -- ---- fetching
 

@@ -11,13 +11,12 @@ use Rattle.sb_state.specs.declared.page.PageName.TheVariants.{Heap, Pool}
 use Rattle.sb_state.specs.declared.page.Page.{Page}
 use Rattle.sb_state.specs.declared.page.Seen.{Seen}
 use Rattle.sb_state.specs.PageName.{permits}
-use Rattle.sb_state.specs.State.{State, find_page, contents, with_page_bytes, thread_at}
+use Rattle.sb_state.specs.State.{State, find_page, contents, with_page_bytes, thread_at, with_mode}
 use Rattle.sb_state.specs.Windows.{page_for, process_now, server_of}
 use Rattle.sb_trace.specs.Start.{pages_from}
 use Rattle.sb_state.specs.Pattern.{heap_pattern}
 use Rattle.sb_trace.specs.SyscallRegister.{server_stack_page}
 use Rattle.sb_trace.specs.SyscallBind.{binding_pages}
-use Rattle.sb_trace.specs.SyscallProtect.{with_mode}
 
 -- ---- threads
 

@@ -1,10 +1,11 @@
 -- The laws of runs of the plain machine (docs/LAWS.md).
-use Rattle.std.specs.Prelude.{◌≡◌, ℕ, ◌%◌, ◌^◌, List, map, Option, Some, None}
+use Rattle.std.specs.Prelude.{◌≡◌, ℕ, ◌%◌, ◌^◌, List, take, Option, Some, None}
 use Rattle.std.specs.List.{AllByRecursion}
 use Rattle.sb_scan.specs.Pattern.{pattern, HasNoPattern}
 use Rattle.sb_exec.specs.Fetching.{Stands, fetch_of}
 use Rattle.sb_trace.specs.declared.event.Event.{Event}
 use Rattle.sb_trace.specs.declared.event.Event.TheVariants.{Landing, WrongKey, PoolEmpty, Entered}
+use Rattle.sb_trace.specs.declared.end.EndState.{EndState}
 use Rattle.sb_trace.specs.declared.event.Line.{Line}
 use Rattle.sb_state.specs.declared.state.Decision.{Decision}
 use Rattle.sb_state.specs.declared.state.Decision.TheVariants as decision
@@ -17,7 +18,9 @@ use Rattle.sb_state.specs.PlainMemory.{plain}
 use Rattle.sb_trace.specs.Start.{ProcessImage, ThreadEntry, start_state}
 use Rattle.sb_trace.specs.Run.{RunBy}
 use Rattle.sb_trace.specs.Step.{Steps}
-use Rattle.sb_trace.specs.OneStep.{StepsOnce, StepsAlike, without_flights, without_landings, core_of}
+use Rattle.sb_trace.specs.End.{end_of}
+use Rattle.sb_trace.specs.OneStep.{StepsAlike}
+use Rattle.sb_trace.specs.Runs.{Runs, RunsAtOnce, IsTextOfRun}
 use Rattle.sb_trace.specs.Sound.{IsSound, vmfunc_address}
 use Rattle.sb_trace.specs.Changes.{StepChanges}
 
@@ -36,7 +39,7 @@ abbrev pub StepsKeepSound : Type 0
 StepsKeepSound = (old : State) (core : ℕ) (event : Event) (new : State) → IsSound old → Steps old core event new → IsSound new
 
 abbrev pub RunsKeepSound : Type 0
-RunsKeepSound = (old : State) (cores : List ℕ) (lines : List Line) (new : State) → IsSound old → RunBy Steps old cores lines new
+RunsKeepSound = (old : State) (cores : List ℕ) (lines : List Line) (new : State) → IsSound old → Runs old cores lines new
     → IsSound new
 
 -- ---- the laws
@@ -56,8 +59,8 @@ StepsDrop = (old : State) (core : ℕ) (event : Event) (new : State) → IsSound
 -- Without the landing lines and their entries of the schedule, a run is one of the machine that calls in one step.
 abbrev pub LandingsDrop : Type 0
 LandingsDrop =
-    (old : State) (cores : List ℕ) (lines : List Line) (new : State) → IsSound old → RunBy Steps old cores lines new
-    → RunBy StepsOnce (without_flights old) (map core_of (without_landings lines)) (without_landings lines) (without_flights new)
+    (old : State) (cores : List ℕ) (lines : List Line) (new : State) → IsSound old → Runs old cores lines new
+    → RunsAtOnce old lines new
 
 -- the decision of a flight's phase, if it decides
 abbrev pub decision_at : State → ℕ → Flight → Option Decision
@@ -95,8 +98,35 @@ HasOneSwitch state =
 abbrev pub OnePattern : Type 0
 OnePattern = (state : State) → IsSound state → HasOneSwitch state
 
+-- the same of each state of a run: each front of it ends in one
+abbrev pub KeepsOneSwitch : State → List ℕ → List Line → Type 0
+KeepsOneSwitch first schedule lines =
+    (count : ℕ) (state : State) → Runs first (take count schedule) (take count lines) state → HasOneSwitch state
+
+abbrev pub RunsKeepOneSwitch : Type 0
+RunsKeepOneSwitch = (first : State) (schedule : List ℕ) (lines : List Line) → IsSound first → KeepsOneSwitch first schedule lines
+
 -- and there they do stand, in each view that shows a process
 abbrev pub SwitchStands : Type 0
 SwitchStands =
     (state : State) (thread view process address : ℕ) → IsSound state → process_shown state.threads thread view ≡ Some process
     → address % 2 ^ 64 ≡ vmfunc_address → Stands (fetch_of (plain thread view) state) address pattern
+
+-- ---- the text of a run
+
+-- of a run from one state by one schedule there is one text
+abbrev pub HasOneText : Type 0
+HasOneText =
+    (text_of : List Line → EndState → List ℕ) (first : State) (schedule text other : List ℕ)
+    → IsTextOfRun text_of first schedule text → IsTextOfRun text_of first schedule other → text ≡ other
+
+-- this text is written of the run, and the laws hold of it
+abbrev pub IsTextOfLawfulRun : (List Line → EndState → List ℕ) → State → List ℕ → List ℕ → Type 0
+IsTextOfLawfulRun text_of first schedule text =
+    (lines : List Line) × (end : State) × Runs first schedule lines end × (text ≡ text_of lines (end_of end))
+    × RunsAtOnce first lines end × KeepsOneSwitch first schedule lines
+
+abbrev pub TextsAreOfLawfulRuns : Type 0
+TextsAreOfLawfulRuns =
+    (text_of : List Line → EndState → List ℕ) (first : State) (schedule text : List ℕ) → IsSound first
+    → IsTextOfRun text_of first schedule text → IsTextOfLawfulRun text_of first schedule text

@@ -25,6 +25,7 @@ pub mod SyscallProtect
 pub mod Syscall
 pub mod Step
 pub mod OneStep
+pub mod Runs
 pub mod Code
 pub mod Sound
 pub mod Whole

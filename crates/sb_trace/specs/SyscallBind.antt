@@ -13,12 +13,12 @@ use Rattle.sb_state.specs.declared.page.Page.{Page}
 use Rattle.sb_state.specs.declared.page.PageName.TheVariants.{Buffer, Record, Scratch}
 use Rattle.sb_state.specs.declared.state.Binding.{Binding}
 use Rattle.sb_state.specs.declared.state.Thread.{Thread}
-use Rattle.sb_state.specs.State.{State, with_thread, with_regs, registration_at}
+use Rattle.sb_state.specs.State.{State, with_thread, with_regs, registration_at, page_with}
 use Rattle.sb_state.specs.PageWords.{zeros}
 use Rattle.sb_state.specs.Registers.{rax, rdi}
 use Rattle.sb_trace.specs.Home.{Outcome}
 use Rattle.sb_trace.specs.KernelCall.{handler_in}
-use Rattle.sb_trace.specs.Start.{page_with, pages_from, record_bytes}
+use Rattle.sb_trace.specs.Start.{pages_from, record_bytes}
 use Rattle.sb_trace.specs.SyscallAnswer.{syscall_refusal}
 use Rattle.sb_trace.specs.SyscallRegister.{is_registered}
 

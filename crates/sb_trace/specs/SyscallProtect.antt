@@ -1,5 +1,5 @@
 -- System call 4, protect: a heap page is written, or executed.
-use Rattle.std.specs.Prelude.{ℕ, ◌==◌, Bool, true, false, List, [], ◌∷◌, Option, Some, None, if◌then◌else◌}
+use Rattle.std.specs.Prelude.{ℕ, ◌==◌, Bool, true, false, Option, Some, None, if◌then◌else◌}
 use Rattle.sb_insn.specs.declared.registers.Regs.{Regs}
 use Rattle.sb_abi.specs.declared.call.CallRefusal.{CallRefusal}
 use Rattle.sb_abi.specs.declared.call.CallRefusal.TheVariants.{Pattern}
@@ -7,8 +7,7 @@ use Rattle.sb_calls.specs.Refusals.{protect_refusal}
 use Rattle.sb_state.specs.declared.page.Page.{Page}
 use Rattle.sb_state.specs.declared.page.PageName.{PageName}
 use Rattle.sb_state.specs.declared.page.PageName.TheVariants.{Heap}
-use Rattle.sb_state.specs.PageName.{same_name}
-use Rattle.sb_state.specs.State.{State, Process, process_at}
+use Rattle.sb_state.specs.State.{State, Process, with_mode, process_at}
 use Rattle.sb_trace.specs.Home.{Outcome}
 use Rattle.sb_state.specs.Pattern.{heap_pattern}
 use Rattle.sb_trace.specs.SyscallAnswer.{syscall_refusal, syscall_acceptance}
@@ -17,12 +16,6 @@ use Rattle.sb_trace.specs.SyscallAnswer.{syscall_refusal, syscall_acceptance}
 abbrev pub heap_count : Option Process → ℕ
 heap_count None = 0
 heap_count (Some process) = process.heap_pages
-
--- the pages with the first of this name executable, or not
-abbrev pub with_mode : List Page → PageName → Bool → List Page
-with_mode [] name executable = []
-with_mode (page ∷ pages) name executable =
-    if same_name page.name name then record page { executable = executable } ∷ pages else page ∷ with_mode pages name executable
 
 -- the state with a heap page executable, or not
 unfoldable pub with_heap_mode : State → ℕ → ℕ → Bool → State

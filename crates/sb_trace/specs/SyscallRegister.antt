@@ -1,5 +1,5 @@
 -- System call 2, register: the process becomes a server.
-use Rattle.std.specs.Prelude.{ℕ, ◌+◌, ◌-◌, ◌*◌, ◌%◌, ◌^◌, ◌==◌, ◌||◌, Bool, true, false, List, [], ◌∷◌, ◌++◌, Option, Some, None, if◌then◌else◌, slice_set}
+use Rattle.std.specs.Prelude.{ℕ, ◌+◌, ◌-◌, ◌*◌, ◌%◌, ◌^◌, ◌==◌, Bool, true, false, List, [], ◌∷◌, ◌++◌, Option, Some, None, if◌then◌else◌, slice_set}
 use Rattle.sb_insn.specs.declared.registers.Regs.{Regs}
 use Rattle.sb_abi.specs.declared.call.CallRefusal.{CallRefusal}
 use Rattle.sb_abi.specs.declared.space.TheConstants.{STACK_PAGES, TOP_WORD}
@@ -9,19 +9,14 @@ use Rattle.sb_memory.specs.Words.{put_word}
 use Rattle.sb_state.specs.declared.page.Page.{Page}
 use Rattle.sb_state.specs.declared.page.PageName.TheVariants.{Pool, ServerStack}
 use Rattle.sb_state.specs.declared.state.Registration.{Registration}
-use Rattle.sb_state.specs.State.{State, Process, process_at, registration_at}
+use Rattle.sb_state.specs.State.{State, Process, is_listed, page_with, process_at, registration_at}
 use Rattle.sb_state.specs.PageWords.{zeros, with_word}
 use Rattle.sb_state.specs.Registers.{rsi, rdi}
 use Rattle.sb_trace.specs.Home.{Outcome}
-use Rattle.sb_trace.specs.Start.{page_with, pages_from}
+use Rattle.sb_trace.specs.Start.{pages_from}
 use Rattle.sb_trace.specs.SyscallAnswer.{syscall_refusal, syscall_acceptance}
 
 -- ---- refusals
-
--- whether an address is one of these
-abbrev pub is_listed : List ℕ → ℕ → Bool
-is_listed [] address = false
-is_listed (start ∷ starts) address = (start == address) || is_listed starts address
 
 -- whether an instruction of the process's text starts at an address
 abbrev pub is_start : Option Process → ℕ → Bool

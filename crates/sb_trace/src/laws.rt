@@ -1,6 +1,6 @@
 //! The laws of runs of the plain machine: functions without a body, each of which states one (docs/LAWS.md).
 
-ghost use Rattle.sb_trace.specs.Laws.{StartIsSound, StepsKeepSound, RunsKeepSound, LandingsDrop, StepsDrop, HasOneRun, FlightLines, StepsChange, OnePattern, SwitchStands};
+ghost use Rattle.sb_trace.specs.Laws.{StartIsSound, StepsKeepSound, RunsKeepSound, LandingsDrop, StepsDrop, HasOneRun, FlightLines, StepsChange, OnePattern, RunsKeepOneSwitch, SwitchStands, HasOneText, TextsAreOfLawfulRuns};
 ghost use Rattle.sb_trace.specs.OneStep.{StepsOnce};
 ghost use Rattle.sb_trace.specs.Step.{Steps};
 
@@ -42,7 +42,19 @@ pub fn steps_change()
 {}
 
 /// In every view of every thread, VMFUNC's bytes may be fetched at `70000040`, and at no other address.
+///
+/// `run` says it of each state of a run from a sound state.
 pub fn one_pattern()
     ensures only { OnePattern }
+    ensures run { RunsKeepOneSwitch }
     ensures there { SwitchStands }
+{}
+
+/// From one state, by one schedule, one text can be written of a run.
+///
+/// `lawful` says that from a sound state it is the text of a run whose landing lines can be dropped, and in each state of
+/// which VMFUNC's bytes may be fetched at one address alone.
+pub fn runs_have_one_text()
+    ensures one { HasOneText }
+    ensures lawful { TextsAreOfLawfulRuns }
 {}

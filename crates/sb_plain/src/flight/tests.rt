@@ -17,9 +17,9 @@ const HOME: u64 = 0x7000_0043;
 /// The machine with a server of three stacks, to which core 1 is bound with the key 1, at the VMFUNC with this key.
 fn at_vmfunc(alloc: Global, key: u64) -> Result<Plain, Fail> {
     let mut plain = machine(alloc, LOADED + 100)?;
-    call(&mut plain, 0, 0, [2, HANDLER, 3]).ok_or("core 0 has a thread")?;
-    call(&mut plain, 1, 0, [3, 0, 0]).ok_or("core 1 has a thread")?;
-    let thread = plain.threads.get_mut(1).ok_or("core 1 has a thread")?;
+    call(&mut plain.state, 0, 0, [2, HANDLER, 3]).ok_or("core 0 has a thread")?;
+    call(&mut plain.state, 1, 0, [3, 0, 0]).ok_or("core 1 has a thread")?;
+    let thread = plain.state.threads.get_mut(1).ok_or("core 1 has a thread")?;
     thread.regs.rip = VMFUNC;
     thread.regs.general[RAX] = 0;
     thread.regs.general[RCX] = 1;
@@ -29,7 +29,7 @@ fn at_vmfunc(alloc: Global, key: u64) -> Result<Plain, Fail> {
 
 /// A step of core 1, if it has a thread.
 fn step(plain: &mut Plain) -> Option<Event> {
-    if plain.threads.len() > 1 {
+    if plain.state.threads.len() > 1 {
         Some(plain.step(1).event)
     } else {
         None
@@ -43,7 +43,7 @@ fn lands(plain: &mut Plain, phases: &[u8], later: u64) -> bool {
             return false;
         }
         if phase == 2 {
-            set_pool_word(plain, 0, later);
+            set_pool_word(&mut plain.state, 0, later);
         }
     }
     true
@@ -115,13 +115,18 @@ fn landings_go_by_their_phases(rt: HostRuntime) -> Result<(), Fail> {
     ];
     for (name, key, [pool, later], [before, behind], decided, registers) in rows {
         let mut plain = at_vmfunc(rt.alloc(), key)?;
-        set_pool_word(&mut plain, 0, pool);
+        set_pool_word(&mut plain.state, 0, pool);
         assert!(rt; lands(&mut plain, before, later), "{name}");
         assert_eq!(rt; step(&mut plain), Some(decided), "{name}");
-        assert!(rt; plain.flight(1).is_some(), "{name}");
+        assert!(rt; plain.state.flight(1).is_some(), "{name}");
         assert!(rt; lands(&mut plain, behind, later), "{name}");
-        assert_eq!(rt; plain.flight(1), None, "{name}");
-        let regs = plain.threads.get(1).ok_or("core 1 has a thread")?.regs;
+        assert_eq!(rt; plain.state.flight(1), None, "{name}");
+        let regs = plain
+            .state
+            .threads
+            .get(1)
+            .ok_or("core 1 has a thread")?
+            .regs;
         assert_eq!(rt;
             [regs.rip, regs.general[RSP], regs.general[R9]],
             registers,

@@ -1,17 +1,19 @@
 //! The pages at the start.
 
 ghost use Rattle.std.specs.Prelude.{◌≡◌, ◌^◌, ◌<◌, ◌++◌, ◌∷◌, [], IfOk, OnOk, length, map};
-ghost use Rattle.sb_trace.specs.PageWords.{zeros};
-ghost use Rattle.sb_trace.specs.Start.{page_with, padded_pages, heap_pages, process_pages, thread_pages, trampoline_pages, images_pages, threads_pages};
+ghost use Rattle.sb_state.specs.State.{page_with};
+ghost use Rattle.sb_state.specs.PageWords.{zeros};
+ghost use Rattle.sb_state.specs.Start.{padded_pages, heap_pages, process_pages, thread_pages, trampoline_pages, images_pages, threads_pages};
 ghost use Rattle.sb_plain.specs.Start.{image_of, images_loaded, part_name, part_filler, entry_of};
 
-use super::bytes::{home_record, home_trampoline, page_bytes, server_trampoline};
-use crate::pages::{Pages, zero_bytes};
 use sb_bundle::{CoreStart, Image};
 use sb_load::Loaded;
 use sb_memory::page_count;
 use sb_rewrite::Rewritten;
-use sb_trace::{Page, PageBytes, PageName};
+use sb_state::{
+    Page, PageBytes, PageName, Pages, home_record, home_trampoline, page_bytes, server_trampoline,
+    zero_bytes,
+};
 use std::alloc::{AllocError, Global};
 
 /// A part of a process that has bytes at the start.
@@ -90,7 +92,7 @@ fn push_heap(alloc: Global, pages: &mut Pages, process: u32, count: u32) -> Resu
 }
 
 /// Text, rewrite area, initial data, heap and pool page.
-#[tactic(auto, unfolding(sb_trace::specs::Start::process_pages))]
+#[tactic(auto, unfolding(sb_state::specs::Start::process_pages))]
 fn push_process(
     alloc: Global,
     pages: &mut Pages,
@@ -111,7 +113,7 @@ fn push_process(
 }
 
 /// Save page, stack, and the record and the scratch page of the home view.
-#[tactic(auto, unfolding(sb_trace::specs::Start::thread_pages))]
+#[tactic(auto, unfolding(sb_state::specs::Start::thread_pages))]
 fn push_thread(alloc: Global, pages: &mut Pages, thread: u32, home: u32) -> Result<(), AllocError>
     ensures { OnOk result (pages.new.pages ≡ pages.old.pages ++ thread_pages thread home) }
 {
@@ -129,7 +131,7 @@ fn push_thread(alloc: Global, pages: &mut Pages, thread: u32, home: u32) -> Resu
 }
 
 /// The two pages of the trampoline.
-#[tactic(auto, unfolding(sb_trace::specs::Start::trampoline_pages))]
+#[tactic(auto, unfolding(sb_state::specs::Start::trampoline_pages))]
 fn push_trampolines(alloc: Global, pages: &mut Pages) -> Result<(), AllocError>
     ensures { OnOk result (pages.new.pages ≡ pages.old.pages ++ trampoline_pages) }
 {

@@ -1,9 +1,10 @@
 //! The pages of a small machine at its start.
 
-use crate::{Pages, Plain};
+use crate::Plain;
 use sb_bundle::read_bundle;
 use sb_load::load;
-use sb_trace::{Event, PageName};
+use sb_state::PageName;
+use sb_trace::Event;
 use std::alloc::Global;
 use std::test::Fail;
 
@@ -70,8 +71,8 @@ fn a_machine_starts_with_these_words(rt: HostRuntime) -> Result<(), Fail> {
         ),
     ];
     for (name, page, place, word) in rows {
-        assert!(rt; plain.pages.find(page).is_some(), "{name}");
-        assert_eq!(rt; plain.pages.word(page, place), word, "{name}");
+        assert!(rt; plain.state.pages.find(page).is_some(), "{name}");
+        assert_eq!(rt; plain.state.pages.word(page, place), word, "{name}");
     }
     let missing = [
         PageName::Data(0, 0),
@@ -80,7 +81,7 @@ fn a_machine_starts_with_these_words(rt: HostRuntime) -> Result<(), Fail> {
         PageName::ServerStack(1, 0),
     ];
     for page in missing {
-        assert!(rt; plain.pages.find(page).is_none());
+        assert!(rt; plain.state.pages.find(page).is_none());
     }
     Ok(())
 }
@@ -108,7 +109,7 @@ const MOVED: [u8; 51] = [
 
 /// A step of core 0, if it has a thread.
 fn step(plain: &mut Plain) -> Option<Event> {
-    if plain.threads.is_empty() {
+    if plain.state.threads.is_empty() {
         None
     } else {
         Some(plain.step(0).event)
@@ -139,7 +140,7 @@ fn a_moved_instruction_runs_through_its_slot(rt: HostRuntime) -> Result<(), Fail
         ),
     ];
     for (name, page, place, word) in words {
-        assert_eq!(rt; plain.pages.word(page, place), word, "{name}");
+        assert_eq!(rt; plain.state.pages.word(page, place), word, "{name}");
     }
     for rip in [0x40_0000, 0x1000, 0x1008, 0x100F, 0x1016, 0x1018, 0x1020] {
         assert_eq!(rt; step(&mut plain), Some(Event::Step { rip }));
@@ -152,33 +153,5 @@ fn a_moved_instruction_runs_through_its_slot(rt: HostRuntime) -> Result<(), Fail
         );
         assert_eq!(rt; thread.regs.rip, 0x40_0005);
     }
-    Ok(())
-}
-
-#[test]
-fn pages_are_added_and_changed(rt: HostRuntime) -> Result<(), Fail> {
-    let page = PageName::Heap(0, 0);
-    let mut pages = Pages::new(rt.alloc());
-    pages.reserve(rt.alloc(), 1)?;
-    pages.add(page, 8, &[0x1122_3344_5566_7788, 1]);
-    pages.put_word(page, 24, 9);
-    let rows: [(&str, PageName, usize, u64); 6] = [
-        ("before the words", page, 0, 0),
-        ("the first word", page, 8, 0x1122_3344_5566_7788),
-        (
-            "across two words, the lowest byte first",
-            page,
-            9,
-            0x0111_2233_4455_6677,
-        ),
-        ("the second word", page, 16, 1),
-        ("a word that was put", page, 24, 9),
-        ("a page that is not there", PageName::Heap(0, 1), 8, 0),
-    ];
-    for (name, page, place, word) in rows {
-        assert_eq!(rt; pages.word(page, place), word, "{name}");
-    }
-    pages.set_executable(page, true);
-    assert!(rt; pages.find(page).is_some_and(|found| found.executable));
     Ok(())
 }

@@ -1,24 +1,17 @@
 //! The threads at the start.
 
 ghost use Rattle.std.specs.Prelude.{◌≡◌, ◌^◌, ◌<◌, None, IfOk, length, map, replicate};
-ghost use Rattle.sb_trace.specs.Start.{save_address, start_registers, start_threads};
+ghost use Rattle.sb_state.specs.Start.{start_registers, start_threads};
 ghost use Rattle.sb_plain.specs.Start.{entry_of};
 
 use sb_abi::{STACKS_ADDRESS, THREAD_DISTANCE};
 use sb_bundle::CoreStart;
 use sb_insn::registers::{RDI, RSP};
 use sb_insn::{Flags, Regs};
-use sb_trace::{Bindings, EndKind, Flight, Thread};
+use sb_state::{Bindings, EndKind, Flight, Thread};
 use std::alloc::{AllocError, Global};
 
-/// The linear address of a thread's save page.
-pub fn save_address(thread: u32) -> u64
-    ensures { result ≡ save_address thread }
-{
-    STACKS_ADDRESS + u64::from(thread) * THREAD_DISTANCE
-}
-
-#[tactic(auto, unfolding(sb_trace::specs::Start::start_registers))]
+#[tactic(auto, unfolding(sb_state::specs::Start::start_registers))]
 fn start_registers(thread: u32, address: u64) -> Regs
     ensures { result ≡ start_registers thread address }
 {

@@ -1,19 +1,21 @@
 //! System call 3: a thread gets a view of a server.
 
 ghost use Rattle.std.specs.Prelude.{◌≡◌, ◌<◌, ◌≤◌, ◌+◌, ◌-◌, ◌^◌, ◌++◌, ◌∷◌, None, length, drop};
-ghost use Rattle.sb_trace.specs.State.{thread_at};
-ghost use Rattle.sb_trace.specs.Registers.{rdi};
+ghost use Rattle.sb_tramp.specs.Record.{record_bytes};
+ghost use Rattle.sb_state.specs.declared.page.PageName.TheVariants.{Record};
+ghost use Rattle.sb_state.specs.State.{page_with, thread_at};
+ghost use Rattle.sb_state.specs.Store.{added};
+ghost use Rattle.sb_state.specs.Registers.{rdi};
 ghost use Rattle.sb_trace.specs.SyscallBind.{refusal_of_bind, has_index, free_index, buffer_page, binding_pages, first_key, new_binding, with_binding, bind_outcome};
 
 use super::decline;
-use crate::pages::Pages;
 use crate::pool::{handler_of, registration_of};
-use crate::state::Plain;
 use sb_abi::{BIND_FRAMES, CallRefusal};
 use sb_calls::{bind_refusal, regs_after_bind, server_record};
 use sb_insn::Regs;
 use sb_insn::registers::{RAX, RDI};
-use sb_trace::{Binding, Event, PageName, Thread};
+use sb_state::{Binding, PageName, Pages, PlainState, Thread};
+use sb_trace::Event;
 use sb_tramp::RecordWords;
 
 /// The greatest index of a binding.
@@ -23,7 +25,7 @@ const LAST_INDEX: u16 = 15;
 
 // Why the thread does not get a view of a process.
 #[tactic(auto, unfolding(sb_calls::specs::Refusals::bind_refusal))]
-fn refusal_of(state: &Plain, thread: &Thread, server: u64) -> Option<CallRefusal>
+fn refusal_of(state: &PlainState, thread: &Thread, server: u64) -> Option<CallRefusal>
     ensures refusal { result ≡ refusal_of_bind state.now thread.now server }
     ensures number { result ≡ None → server < 2 ^ 32 }
     ensures bindings { result ≡ None → length thread.now.bindings < 15 }
@@ -64,14 +66,23 @@ fn free_index(bindings: &[Binding]) -> u16
     index
 }
 
+// The record page of a view.
+#[tactic(auto, using(sb_state::proofs::Start::record_page))]
+fn add_record(pages: &mut Pages, thread: u32, index: u32, words: &RecordWords)
+    requires { 0 < pages.old.room }
+    ensures { pages.new ≡ added pages.old (page_with (Record thread index) (record_bytes words.now)) }
+{
+    pages.add(PageName::Record(thread, index), 0, &words.in_order());
+}
+
 // The record page, the scratch page and the buffer of a view.
-#[tactic(auto, unfolding(sb_trace::specs::SyscallBind::binding_pages, sb_trace::specs::Start::record_bytes))]
+#[tactic(auto, unfolding(sb_trace::specs::SyscallBind::binding_pages))]
 fn add_view(pages: &mut Pages, thread: u32, index: u32, words: &RecordWords)
     requires { 6 ≤ pages.old.room }
     ensures pages { pages.new.pages ≡ pages.old.pages ++ binding_pages thread index words.now }
     ensures room { pages.new.room + 6 ≡ pages.old.room }
 {
-    pages.add(PageName::Record(thread, index), 0, &words.in_order());
+    add_record(pages, thread, index, words);
     pages.add(PageName::Scratch(thread, index), 0, &[]);
     pages.add(PageName::Buffer(thread, index, 0), 0, &[]);
     pages.add(PageName::Buffer(thread, index, 1), 0, &[]);
@@ -80,7 +91,7 @@ fn add_view(pages: &mut Pages, thread: u32, index: u32, words: &RecordWords)
 }
 
 // The pages of a view are there, and its frames are taken.
-fn take_view(state: &mut Plain, thread: u8, index: u16, words: &RecordWords)
+fn take_view(state: &mut PlainState, thread: u8, index: u16, words: &RecordWords)
     requires { 10 ≤ state.old.free }
     ensures { state.new ≡ record state.old { pages = state.old.pages ++ binding_pages thread index words.now; free = state.old.free - 10 } }
 {
@@ -89,7 +100,7 @@ fn take_view(state: &mut Plain, thread: u8, index: u16, words: &RecordWords)
 }
 
 // The next key word, which is there.
-fn draw_key(state: &mut Plain) -> u64
+fn draw_key(state: &mut PlainState) -> u64
     ensures key { result ≡ first_key state.old.keys }
     ensures left { state.new ≡ record state.old { keys = drop 1 state.old.keys } }
 {
@@ -98,7 +109,7 @@ fn draw_key(state: &mut Plain) -> u64
 
 // The thread has a view of a server more, with its pages and a key of its own.
 #[tactic(auto, unfolding(sb_trace::specs::SyscallBind::with_binding, sb_state::specs::State::thread_at, sb_state::specs::State::registration_at, sb_state::specs::State::process_at))]
-fn make_binding(state: &mut Plain, core: u8, server: u32) -> Binding
+fn make_binding(state: &mut PlainState, core: u8, server: u32) -> Binding
     requires inside { core < length state.old.threads }
     requires bindings { length (thread_at state.old core).bindings < 15 }
     requires frames { 10 ≤ state.old.free }
@@ -119,7 +130,7 @@ fn make_binding(state: &mut Plain, core: u8, server: u32) -> Binding
 
 /// Binds the thread to the process in RDI. RDX becomes the index of the view, R8 its key, and R10 the address of its
 /// buffer.
-pub fn bind(state: &mut Plain, core: u8, next: &Regs) -> Event
+pub fn bind(state: &mut PlainState, core: u8, next: &Regs) -> Event
     requires { core < length state.old.threads }
     ensures bound { (result, state.new) ≡ bind_outcome state.old core (thread_at state.old core) next.now (refusal_of_bind state.old (thread_at state.old core) (rdi next.now)) }
     ensures count { length state.new.threads ≡ length state.old.threads }

@@ -1,24 +1,22 @@
 //! System call 4: a heap page is written, or executed.
 
 ghost use Rattle.std.specs.Prelude.{◌≡◌, ◌<◌, ◌+◌, ◌^◌, length};
-ghost use Rattle.sb_trace.specs.State.{thread_at, process_at};
-ghost use Rattle.sb_trace.specs.Registers.{rdi, rsi};
-ghost use Rattle.sb_trace.specs.Windows.{process_now};
-ghost use Rattle.sb_trace.specs.Pattern.{heap_pattern};
+ghost use Rattle.sb_state.specs.State.{thread_at, process_at};
+ghost use Rattle.sb_state.specs.Registers.{rdi, rsi};
+ghost use Rattle.sb_state.specs.Windows.{process_now};
+ghost use Rattle.sb_state.specs.Pattern.{heap_pattern};
 ghost use Rattle.sb_trace.specs.SyscallProtect.{heap_count, with_heap_mode, execute_mode_outcome, protect_outcome};
 
 use super::{accept, decline};
-use crate::pattern::heap_pattern;
-use crate::state::Plain;
-use crate::windows::process_now;
 use sb_abi::CallRefusal;
 use sb_calls::{EXECUTE_MODE, protect_refusal};
 use sb_insn::Regs;
 use sb_insn::registers::{RDI, RSI};
-use sb_trace::{Event, PageName};
+use sb_state::{PageName, PlainState, process_now};
+use sb_trace::Event;
 
 #[tactic(auto, unfolding(sb_state::specs::State::process_at))]
-fn heap_count(state: &Plain, process: u32) -> u32
+fn heap_count(state: &PlainState, process: u32) -> u32
     ensures { result ≡ heap_count (process_at state.now process) }
 {
     match state.processes.get(process as usize) {
@@ -28,7 +26,7 @@ fn heap_count(state: &Plain, process: u32) -> u32
 }
 
 #[tactic(auto, unfolding(sb_trace::specs::SyscallProtect::with_heap_mode))]
-fn set_executable(state: &mut Plain, process: u32, page: u32, executable: bool)
+fn set_executable(state: &mut PlainState, process: u32, page: u32, executable: bool)
     ensures protected { state.new ≡ with_heap_mode state.old process page executable }
     ensures threads { state.new.threads ≡ state.old.threads }
 {
@@ -37,13 +35,13 @@ fn set_executable(state: &mut Plain, process: u32, page: u32, executable: bool)
 }
 
 // Executable only where the bytes of VMFUNC stand neither in the page nor across its borders with executable ones.
-fn make_executable(state: &mut Plain, core: u8, next: &Regs, process: u32, page: u32) -> Event
+fn make_executable(state: &mut PlainState, core: u8, next: &Regs, process: u32, page: u32) -> Event
     requires inside { core < length state.old.threads }
     requires behind { page + 1 < 2 ^ 32 }
     ensures made { (result, state.new) ≡ execute_mode_outcome state.old core next.now process page (heap_pattern state.old process page) }
     ensures count { length state.new.threads ≡ length state.old.threads }
 {
-    if let Some(address) = heap_pattern(state, process, page) {
+    if let Some(address) = state.heap_pattern(process, page) {
         return decline(state, core, next, CallRefusal::Pattern, address);
     }
     set_executable(state, process, page, true);
@@ -53,7 +51,7 @@ fn make_executable(state: &mut Plain, core: u8, next: &Regs, process: u32, page:
 /// Gives a heap page of the process that the view shows a mode: the page is in RDI, the mode in RSI.
 ///
 /// Where the bytes of VMFUNC refuse it, RDX has the lowest address at which they stand.
-pub fn protect(state: &mut Plain, core: u8, next: &Regs) -> Event
+pub fn protect(state: &mut PlainState, core: u8, next: &Regs) -> Event
     requires { core < length state.old.threads }
     ensures protected { (result, state.new) ≡ protect_outcome state.old core next.now (process_now (thread_at state.old core)) (rdi next.now) (rsi next.now) }
     ensures count { length state.new.threads ≡ length state.old.threads }

@@ -1,24 +1,21 @@
 //! System call 2: the process becomes a server.
 
 ghost use Rattle.std.specs.Prelude.{◌≡◌, ◌<◌, ◌≤◌, ◌-◌, ◌*◌, ◌++◌, None, length, slice_get};
-ghost use Rattle.sb_trace.specs.State.{thread_at, process_at};
-ghost use Rattle.sb_trace.specs.Registers.{rdi, rsi};
-ghost use Rattle.sb_trace.specs.Windows.{process_now};
-ghost use Rattle.sb_trace.specs.Start.{pages_from};
+ghost use Rattle.sb_state.specs.State.{thread_at, process_at};
+ghost use Rattle.sb_state.specs.Registers.{rdi, rsi};
+ghost use Rattle.sb_state.specs.Windows.{process_now};
+ghost use Rattle.sb_state.specs.Start.{pages_from};
 ghost use Rattle.sb_trace.specs.SyscallRegister.{is_start, refusal_of_register, server_stack_page, with_registration, with_server, register_outcome};
-ghost use Rattle.sb_plain.specs.Store.{added};
+ghost use Rattle.sb_state.specs.Store.{added};
 
 use super::{accept, decline};
-use crate::pages::Pages;
 use crate::pool::{registration_of, set_pool_word};
-use crate::process::Process;
-use crate::state::Plain;
-use crate::windows::process_now;
 use sb_abi::{CallRefusal, EXIT_STUB, STACK_PAGES, TOP_WORD};
 use sb_calls::register_refusal;
 use sb_insn::Regs;
 use sb_insn::registers::{RDI, RSI};
-use sb_trace::{Event, PageName, Registration};
+use sb_state::{PageName, Pages, PlainState, Process, Registration, process_now};
+use sb_trace::Event;
 
 /// The pages of a server stack, as numbers of pages are counted here.
 const PAGES: u32 = STACK_PAGES as u32;
@@ -26,7 +23,7 @@ const PAGES: u32 = STACK_PAGES as u32;
 // ---- refusals
 
 #[tactic(auto, unfolding(sb_state::specs::State::process_at))]
-fn is_start(state: &Plain, process: u32, address: u64) -> bool
+fn is_start(state: &PlainState, process: u32, address: u64) -> bool
     ensures { result ≡ is_start (process_at state.now process) address }
 {
     match state.processes.get(process as usize) {
@@ -37,7 +34,7 @@ fn is_start(state: &Plain, process: u32, address: u64) -> bool
 
 // Why the process that a view shows does not become a server.
 fn refusal_of(
-    state: &Plain,
+    state: &PlainState,
     view: u16,
     process: u32,
     handler: u64,
@@ -78,7 +75,7 @@ fn add_stacks(pages: &mut Pages, process: u32, count: u32)
 }
 
 // The stacks are there, and their frames are taken.
-fn take_stacks(state: &mut Plain, process: u32, pages: u32)
+fn take_stacks(state: &mut PlainState, process: u32, pages: u32)
     requires { pages ≤ state.old.free }
     ensures { state.new ≡ record state.old { pages = state.old.pages ++ pages_from (server_stack_page process) 0 pages; free = state.old.free - pages } }
 {
@@ -97,7 +94,7 @@ fn note_registration(processes: &mut [Process], process: u32, registration: Regi
 }
 
 #[tactic(auto, unfolding(sb_state::specs::State::process_at))]
-fn set_registration(state: &mut Plain, process: u32, registration: Registration)
+fn set_registration(state: &mut PlainState, process: u32, registration: Registration)
     ensures { state.new ≡ record state.old { processes = with_registration (process_at state.old process) state.old.processes process registration } }
 {
     note_registration(&mut state.processes, process, registration);
@@ -105,7 +102,7 @@ fn set_registration(state: &mut Plain, process: u32, registration: Registration)
 
 // The process has so many stacks, all of them free.
 #[tactic(auto, unfolding(sb_trace::specs::SyscallRegister::with_server, sb_state::specs::State::process_at, sb_state::specs::PageWords::with_word, sb_state::specs::State::with_contents))]
-fn make_server(state: &mut Plain, process: u32, handler: u64, stacks: u32)
+fn make_server(state: &mut PlainState, process: u32, handler: u64, stacks: u32)
     requires count { stacks ≤ 16 }
     requires frames { 4 * stacks ≤ state.old.free }
     ensures made { state.new ≡ with_server state.old process handler stacks }
@@ -117,7 +114,7 @@ fn make_server(state: &mut Plain, process: u32, handler: u64, stacks: u32)
 }
 
 /// Makes the process that the view shows a server: its handler is in RDI, its number of stacks in RSI.
-pub fn register(state: &mut Plain, core: u8, next: &Regs) -> Event
+pub fn register(state: &mut PlainState, core: u8, next: &Regs) -> Event
     requires { core < length state.old.threads }
     ensures registered { (result, state.new) ≡ register_outcome state.old core next.now (process_now (thread_at state.old core)) (refusal_of_register state.old (thread_at state.old core).view (process_now (thread_at state.old core)) (rdi next.now) (rsi next.now)) }
     ensures count { length state.new.threads ≡ length state.old.threads }

@@ -1,8 +1,7 @@
 //! Refusals of the system calls that a server and its clients make.
 
-use crate::Plain;
 use crate::samples::{HANDLER, LOADED, call, machine};
-use sb_trace::PageName;
+use sb_state::{PageName, PlainState};
 use std::test::Fail;
 
 const REGISTER: u64 = 2;
@@ -15,9 +14,9 @@ const PROTECT: u64 = 4;
 type Row = (&'static str, (u8, u16), [u64; 3], [u64; 2]);
 
 /// The name of the first row whose answer is another one.
-fn first_other(plain: &mut Plain, rows: &[Row]) -> Option<&'static str> {
+fn first_other(state: &mut PlainState, rows: &[Row]) -> Option<&'static str> {
     for &(name, (core, view), numbers, answer) in rows {
-        if call(plain, core, view, numbers) != Some(answer) {
+        if call(state, core, view, numbers) != Some(answer) {
             return Some(name);
         }
     }
@@ -30,9 +29,9 @@ fn calls_are_refused_in_order(rt: HostRuntime) -> Result<(), Fail> {
     let mut scarce = machine(rt.alloc(), LOADED + 14)?;
     let mut ample = machine(rt.alloc(), LOADED + 200)?;
     // The pattern, across the border of the two heap pages of the server.
-    ample.pages.put(PageName::Heap(0, 0), 4095, 0x0F);
-    ample.pages.put(PageName::Heap(0, 1), 0, 0x01);
-    ample.pages.put(PageName::Heap(0, 1), 1, 0xD4);
+    ample.state.pages.put(PageName::Heap(0, 0), 4095, 0x0F);
+    ample.state.pages.put(PageName::Heap(0, 1), 0, 0x01);
+    ample.state.pages.put(PageName::Heap(0, 1), 1, 0xD4);
     let few_frames: [Row; 4] = [
         (
             "16 frames for 4 stacks",
@@ -112,11 +111,14 @@ fn calls_are_refused_in_order(rt: HostRuntime) -> Result<(), Fail> {
         ("bind with no key word", (2, 0), [BIND, 0, 0], [17, 0]),
         ("no call", (2, 0), [5, 0, 0], [21, 0]),
     ];
-    assert_eq!(rt; first_other(&mut scarce, &few_frames), None);
-    assert_eq!(rt; first_other(&mut ample, &rows), None);
+    assert_eq!(rt; first_other(&mut scarce.state, &few_frames), None);
+    assert_eq!(rt; first_other(&mut ample.state, &rows), None);
     for index in 2..16 {
-        assert_eq!(rt; call(&mut ample, 1, 0, [BIND, 0, 0]), Some([0, index]));
+        assert_eq!(rt;
+            call(&mut ample.state, 1, 0, [BIND, 0, 0]),
+            Some([0, index])
+        );
     }
-    assert_eq!(rt; first_other(&mut ample, &last), None);
+    assert_eq!(rt; first_other(&mut ample.state, &last), None);
     Ok(())
 }

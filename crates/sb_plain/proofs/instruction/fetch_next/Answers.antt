@@ -1,6 +1,6 @@
 use Rattle.std.proofs.Common.{rules}
 use Rattle.sb_exec.specs.Fetching.{FetchesOn}
-use Rattle.sb_trace.specs.PlainMemory.{plain}
+use Rattle.sb_state.specs.PlainMemory.{plain}
 use Rattle.sb_plain.proofs.Faults.{fetch_faults}
 use Rattle.sb_plain.proofs.instruction.fetch_next.Goals as goal
 

@@ -1,8 +1,7 @@
-use Rattle.std.proofs.Common.{rules}
+use Rattle.std.proofs.Common.{rules, ap, ◌∙◌}
 use Rattle.sb_exec.specs.Rows.{row_of}
 use Rattle.sb_plain.proofs.ByThread.{performed}
-use Rattle.std.proofs.Common.{ap, ◌∙◌}
-use Rattle.sb_trace.specs.State.{State}
+use Rattle.sb_state.specs.State.{State}
 use Rattle.sb_plain.proofs.Faults.{execution_faults}
 use Rattle.sb_plain.proofs.Threads.{execution_threads}
 use Rattle.sb_plain.proofs.instruction.perform.Goals as goal

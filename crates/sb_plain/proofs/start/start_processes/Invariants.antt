@@ -1,6 +1,6 @@
 -- The processes so far and those that are left make up the whole.
 use Rattle.std.proofs.Common.{◌≡◌, ◌++◌, drop, map, length}
-use Rattle.sb_trace.specs.Start.{start_process}
+use Rattle.sb_state.specs.Start.{start_process}
 use Rattle.sb_plain.specs.Start.{images_of, images_loaded}
 use Rattle.sb_plain.proofs.start.start_processes.Given as goal
 

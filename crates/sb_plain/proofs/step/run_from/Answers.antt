@@ -1,7 +1,7 @@
 use Rattle.std.proofs.Common.{ℕ, Ok, subst}
 use Rattle.sb_exec.specs.Fetching.{FetchesOn}
-use Rattle.sb_trace.specs.State.{State}
-use Rattle.sb_trace.specs.PlainMemory.{plain}
+use Rattle.sb_state.specs.State.{State}
+use Rattle.sb_state.specs.PlainMemory.{plain}
 use Rattle.sb_trace.specs.Flight.{vmfunc_outcome}
 use Rattle.sb_trace.specs.Step.{Performs}
 use Rattle.sb_plain.proofs.step.run_from.Goals as goal

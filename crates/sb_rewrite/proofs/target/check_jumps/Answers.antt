@@ -6,7 +6,7 @@ use Rattle.std.specs.Ordering.{nat_cmp}
 use Rattle.std.proofs.lemmas.Bool.{false≢true}
 use Rattle.std.proofs.lemmas.List.{take_all}
 use Rattle.std.proofs.lemmas.List.Elements.{All-more}
-use Rattle.sb_rewrite.proofs.Search.{found_start}
+use Rattle.sb_list.proofs.Search.{found_start}
 use Rattle.sb_rewrite.proofs.Remembered.{no_jump, jump_at, jump_among}
 use Rattle.sb_rewrite.proofs.target.check_jumps.Goals as goal
 

@@ -1,3 +1,4 @@
+use Rattle.sb_root.proofs.BaseAnswers.{rights_stay}
 use Rattle.sb_root.proofs.Kept.{stands_kept, views_kept}
 use Rattle.sb_root.proofs.Between.{booked_kept, booked_beside}
 use Rattle.sb_root.proofs.law.roots_keep_apart.Goals as goal
@@ -13,3 +14,6 @@ returns-clause-booked c = booked_kept
 
 pub returns-clause-book : goal.returns-clause-book
 returns-clause-book c = booked_beside
+
+pub returns-clause-rights : goal.returns-clause-rights
+returns-clause-rights c = rights_stay

@@ -1,7 +1,7 @@
 -- Each process of the bundle has a rewritten text.
 use Rattle.std.proofs.Common.{◌≡◌, ◌<◌, ◌∙◌, ap, length, get_or, subst, arith}
 use Rattle.sb_rewrite.specs.Output.{Output}
-use Rattle.sb_load.specs.Loading.{Load, rewritten_of}
+use Rattle.sb_load.specs.Loading.{Load, text_of, rewritten_of}
 use Rattle.sb_load.proofs.Known.{IsKnown, text_count, is_of, known}
 use Rattle.sb_load.proofs.loaded.Loaded.rewritten.Goals as goal
 
@@ -23,8 +23,19 @@ pub returns-clause-text : goal.returns-clause-text
 returns-clause-text c =
     let load : Load = record { bundle = c.self.inside.bundle; rewritten = c.self.inside.rewritten } in
     let within : c.args.process < length load.bundle.images = rw (← c.self.view_is) at c.requires in
-    (known load c.args.process c.index-items-process.result within c.self.invariant.0
-    (rw c.items.ensures at c.index-items-process.is)).text
+    let found = known load c.args.process c.index-items-process.result within c.self.invariant.0
+    (rw c.items.ensures at c.index-items-process.is) in
+    omega (arith, found.size, found.most)
+
+pub returns-clause-as_long : goal.returns-clause-as_long
+returns-clause-as_long c =
+    let load : Load = record { bundle = c.self.inside.bundle; rewritten = c.self.inside.rewritten } in
+    let within : c.args.process < length load.bundle.images = rw (← c.self.view_is) at c.requires in
+    let found = known load c.args.process c.index-items-process.result within c.self.invariant.0
+    (rw c.items.ensures at c.index-items-process.is) in
+    rw (← c.self.view_is)
+        (let same : length c.index-items-process.result.text ≡ length (text_of load.bundle.images c.args.process) =
+               omega (arith, found.most, found.least) in same)
 
 pub returns-clause-area : goal.returns-clause-area
 returns-clause-area c =

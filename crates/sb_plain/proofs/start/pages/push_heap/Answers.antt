@@ -1,5 +1,5 @@
 use Rattle.std.proofs.Common.{◌<◌, rules}
-use Rattle.sb_trace.specs.Start.{heap_page}
+use Rattle.sb_state.specs.Start.{heap_page}
 use Rattle.sb_plain.proofs.Starting.{pages_more}
 use Rattle.sb_plain.proofs.start.pages.push_heap.Goals as goal
 

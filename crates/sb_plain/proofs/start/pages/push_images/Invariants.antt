@@ -1,6 +1,6 @@
 -- The pages so far and those of the images that are left make up the whole.
 use Rattle.std.proofs.Common.{◌≡◌, ◌++◌, drop}
-use Rattle.sb_trace.specs.Start.{images_pages}
+use Rattle.sb_state.specs.Start.{images_pages}
 use Rattle.sb_plain.specs.Start.{images_of, images_loaded}
 use Rattle.sb_plain.proofs.start.pages.push_images.Given as goal
 

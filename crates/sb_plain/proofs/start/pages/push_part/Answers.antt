@@ -1,5 +1,6 @@
 use Rattle.std.proofs.Common.{◌<◌, ◌++◌, ◌∷◌, [], List, ℕ, length, ap, ◌∙◌, rules}
-use Rattle.sb_trace.specs.Start.{padded_page, page_with, page_of, page_count}
+use Rattle.sb_state.specs.State.{page_with}
+use Rattle.sb_state.specs.Start.{padded_page, page_of, page_count}
 use Rattle.sb_plain.specs.Start.{part_name, part_filler}
 use Rattle.sb_plain.proofs.Starting.{pages_more}
 use Rattle.sb_plain.proofs.start.pages.push_part.Goals as goal

@@ -1,6 +1,6 @@
 -- The pages so far and those that are left make up the whole.
 use Rattle.std.proofs.Common.{◌≡◌, ◌++◌, ◌-◌, length}
-use Rattle.sb_trace.specs.Start.{padded_page, padded_pages, page_count, pages_from}
+use Rattle.sb_state.specs.Start.{padded_page, padded_pages, page_count, pages_from}
 use Rattle.sb_plain.specs.Start.{part_name, part_filler}
 use Rattle.sb_plain.proofs.start.pages.push_part.Given as goal
 

@@ -1,6 +1,6 @@
 -- The pages so far and those of the threads that are left make up the whole.
 use Rattle.std.proofs.Common.{◌≡◌, ◌++◌, drop, map}
-use Rattle.sb_trace.specs.Start.{threads_pages}
+use Rattle.sb_state.specs.Start.{threads_pages}
 use Rattle.sb_plain.specs.Start.{entry_of}
 use Rattle.sb_plain.proofs.start.pages.push_threads.Given as goal
 

@@ -1,6 +1,6 @@
 -- The threads so far and those that are left make up the whole.
 use Rattle.std.proofs.Common.{◌≡◌, ◌++◌, drop, map}
-use Rattle.sb_trace.specs.Start.{start_threads}
+use Rattle.sb_state.specs.Start.{start_threads}
 use Rattle.sb_plain.specs.Start.{entry_of}
 use Rattle.sb_plain.proofs.start.threads.start_threads.Given as goal
 

@@ -1,6 +1,6 @@
 use Rattle.std.proofs.Common.{◌<◌, ap, arith, rules}
 use Rattle.sb_trace.specs.SyscallRegister.{server_stack_page}
-use Rattle.sb_plain.specs.Store.{Store}
+use Rattle.sb_state.specs.Store.{Store}
 use Rattle.sb_plain.proofs.Starting.{pages_more}
 use Rattle.sb_plain.proofs.system_call.register.add_stacks.Goals as goal
 

@@ -1,7 +1,7 @@
 -- The pages so far and those that are left make up the whole.
 use Rattle.std.proofs.Common.{◌≡◌, ◌++◌, ◌-◌, ◌+◌}
 use Rattle.sb_trace.specs.SyscallRegister.{server_stack_page}
-use Rattle.sb_trace.specs.Start.{pages_from}
+use Rattle.sb_state.specs.Start.{pages_from}
 use Rattle.sb_plain.proofs.system_call.register.add_stacks.Given as goal
 
 abbrev pub invariant-loop-page : goal.invariant-loop-page

@@ -1,5 +1,5 @@
 -- The starts rise, so a binary search finds each of them.
-use Rattle.sb_rewrite.proofs.Search.{found_start}
+use Rattle.sb_list.proofs.Search.{found_start}
 use Rattle.sb_rewrite.proofs.listing.Listing.is_start.Goals as goal
 
 pub returns : goal.returns

@@ -1,3 +1,4 @@
+use Rattle.std.proofs.Common.{ℕ, ◌%◌, ap}
 use Rattle.sb_root.proofs.NewBase.{IsBuilt, built, booked_empty}
 use Rattle.sb_root.proofs.Reaches.{first_base}
 use Rattle.sb_root.proofs.root_kernel.RootKernel.new.Goals as goal
@@ -21,3 +22,6 @@ returns-clause-base c = first_base c.clear_shared.new.memory (finished c).whole 
 
 pub returns-clause-same : goal.returns-clause-same
 returns-clause-same c = (finished c).same
+
+pub returns-clause-rights : goal.returns-clause-rights
+returns-clause-rights c = λ page from below. ap (λ (entry : ℕ). entry % 8) (c.clear_shared.ensures.zeros page from below)

@@ -1,0 +1,170 @@
+-- A word that is stored in one page.
+use Rattle.std.proofs.Common.{◌≡◌, ℕ, zero, suc, ◌+◌, ◌*◌, ◌/◌, ◌%◌, ◌^◌, ◌<◌, ◌≤◌, Bool, true, false, List, [], ◌∷◌, Result, Ok, Err, refl, ap, sym, ◌∙◌, arith}
+use Rattle.std.specs.Prelude.{Option, Some, None, if◌then◌else◌, slice_set}
+use Rattle.std.specs.Option.{option_map}
+use Rattle.std.specs.Int.{byte_at, bytes_low_first}
+use Rattle.std.proofs.lemmas.List.Edits.{sets}
+use Rattle.std.proofs.Math.Nat.{pow-suc, div-div-eq-div-mul}
+use Rattle.sb_memory.specs.declared.address.Access.TheVariants.{Write}
+use Rattle.sb_memory.specs.Words.{put_word}
+use Rattle.sb_bus.specs.declared.stop.BusStop.{BusStop}
+use Rattle.sb_bus.specs.Access.{bytes_from, byte_for, store_answer}
+use Rattle.sb_bus.proofs.Loads.{stored_where_loaded, stops_where_loaded}
+use Rattle.sb_state.specs.declared.page.PageName.{PageName}
+use Rattle.sb_state.specs.declared.page.Page.{Page}
+use Rattle.sb_state.specs.PageName.{same_name}
+use Rattle.sb_state.specs.State.{State, find_page, with_page_bytes, bytes_of, contents, with_contents}
+use Rattle.sb_state.specs.PlainMemory.{plain_byte, Placed, put_byte, bytes_to_put, put_all, plain_stored}
+use Rattle.sb_state.proofs.PageLists.{found_same}
+use Rattle.sb_state.specs.Reach.{reached}
+use Rattle.sb_state.specs.Spots.{spot_at}
+use Rattle.sb_state.proofs.InPage.{further, reached_again, word_in_page, word_refused}
+use Rattle.sb_state.proofs.Spots.{placed_first}
+
+-- ---- bytes that are put one after another into one page
+
+abbrev placed_from : PageName → ℕ → List ℕ → List Placed
+placed_from name offset [] = []
+placed_from name offset (byte ∷ bytes) =
+    record { name = name; offset = offset; value = byte } ∷ placed_from name (suc offset) bytes
+
+self_by : (test : Bool) (page : Page) (pages : List Page) (name : PageName)
+    → with_page_bytes pages name (bytes_of (find_page pages name)) ≡ pages
+    → (if test then (record page { bytes = bytes_of (if test then Some page else find_page pages name) }) ∷ pages
+    else page ∷ with_page_bytes pages name (bytes_of (if test then Some page else find_page pages name))) ≡ page ∷ pages
+self_by true page pages name more = refl
+self_by false page pages name more = ap (λ (others : List Page). page ∷ others) more
+
+-- a page is given its own bytes
+replaced_self : (pages : List Page) (name : PageName) → with_page_bytes pages name (bytes_of (find_page pages name)) ≡ pages
+replaced_self [] name = refl
+replaced_self (page ∷ pages) name = self_by (same_name page.name name) page pages name (replaced_self pages name)
+
+again_by : (test : Bool) (page : Page) (pages : List Page) (name : PageName) (first second : List ℕ)
+    → same_name page.name name ≡ test
+    → with_page_bytes (with_page_bytes pages name first) name second ≡ with_page_bytes pages name second
+    → with_page_bytes (if test then (record page { bytes = first }) ∷ pages else page ∷ with_page_bytes pages name first) name
+    second
+    ≡ (if test then (record page { bytes = second }) ∷ pages else page ∷ with_page_bytes pages name second)
+again_by true page pages name first second is more = rw is refl
+again_by false page pages name first second is more = rw is (ap (λ (others : List Page). page ∷ others) more)
+
+-- a page is given bytes, and then others
+replaced_again : (pages : List Page) (name : PageName) (first second : List ℕ)
+    → with_page_bytes (with_page_bytes pages name first) name second ≡ with_page_bytes pages name second
+replaced_again [] name first second = refl
+replaced_again (page ∷ pages) name first second =
+    again_by (same_name page.name name) page pages name first second refl (replaced_again pages name first second)
+
+with_same : (state : State) (name : PageName) → with_contents state name (contents state name) ≡ state
+unfolding contents with_contents
+with_same state name = ap (λ (pages : List Page). record state { pages = pages }) (replaced_self state.pages name)
+
+with_again : (state : State) (name : PageName) (first second : List ℕ)
+    → with_contents (with_contents state name first) name second ≡ with_contents state name second
+unfolding with_contents
+with_again state name first second =
+    ap (λ (pages : List Page). record state { pages = pages }) (replaced_again state.pages name first second)
+
+found_given : (state : State) (name : PageName) (page : Page) (bytes : List ℕ) → find_page state.pages name ≡ Some page
+    → find_page (with_contents state name bytes).pages name ≡ Some (record page { bytes = bytes })
+unfolding with_contents
+found_given state name page bytes found = rw (found_same state.pages name bytes, found) refl
+
+contents_given : (state : State) (name : PageName) (page : Page) (bytes : List ℕ) → find_page state.pages name ≡ Some page
+    → contents (with_contents state name bytes) name ≡ bytes
+unfolding contents
+contents_given state name page bytes found = rw (found_given state name page bytes found) refl
+
+-- byte by byte, or all at once
+puts_sets : (bytes : List ℕ) (state : State) (name : PageName) (page : Page) (offset : ℕ) → find_page state.pages name ≡ Some page
+    → put_all state (placed_from name offset bytes) ≡ with_contents state name (sets (contents state name) offset bytes)
+unfolding put_byte
+puts_sets [] state name page offset found = sym (with_same state name)
+puts_sets (byte ∷ bytes) state name page offset found =
+    let first : List ℕ = slice_set (contents state name) offset byte in
+    puts_sets bytes (with_contents state name first) name (record page { bytes = first }) (suc offset)
+    (found_given state name page first found)
+    ∙ ap (λ (now : List ℕ). with_contents (with_contents state name first) name (sets now (suc offset) bytes))
+    (contents_given state name page first found)
+    ∙ with_again state name first (sets first (suc offset) bytes)
+
+-- ---- the bytes of a number
+
+abbrev low : ℕ → ℕ → List ℕ
+low zero value = []
+low (suc count) value = value % 256 ∷ low count (value / 256)
+
+byte_is : (index value : ℕ) → value / 256 ^ index % 256 ≡ byte_at index value
+byte_is zero value = let whole : value / 256 ^ 0 ≡ value = omega arith in ap (λ (n : ℕ). n % 256) whole
+byte_is (suc index) value = refl
+
+low_bytes : (count index value : ℕ) → low count (value / 256 ^ index) ≡ bytes_low_first index count value
+low_bytes zero index value = refl
+low_bytes (suc count) index value =
+    let shift : value / 256 ^ index / 256 ≡ value / 256 ^ suc index =
+    div-div-eq-div-mul value (256 ^ index) 256 ∙ ap (λ (p : ℕ). value / p) (sym (pow-suc 256 index)) in
+    ap (λ (byte : ℕ). byte ∷ low count (value / 256 ^ index / 256)) (byte_is index value)
+    ∙ ap (λ (others : List ℕ). byte_at index value ∷ others) (ap (λ (n : ℕ). low count n) shift
+    ∙ low_bytes count (suc index) value)
+
+-- ---- a store in one page
+
+spot_of : (thread view : ℕ) (state : State) (address : ℕ) (name : PageName) → reached thread view state address Write ≡ Ok name
+    → spot_at thread view state address ≡ Ok (record { name = name; offset = address % 4096 })
+unfolding spot_at
+spot_of thread view state address name is = rw is refl
+
+placed_on : (size thread view : ℕ) (state : State) (address index value : ℕ) (name : PageName) → address < 2 ^ 64
+    → address % 4096 + index + size ≤ 4096 → reached thread view state address Write ≡ Ok name
+    → bytes_to_put state thread view (further address index) size value
+    ≡ placed_from name (address % 4096 + index) (low size value)
+unfolding bytes_to_put
+placed_on zero thread view state address index value name fits inside is = refl
+placed_on (suc size) thread view state address index value name fits inside is =
+    let same : further address index / 4096 ≡ address / 4096 = omega (arith, fits, inside) in
+    let place : further address index % 4096 ≡ address % 4096 + index = omega (arith, fits, inside) in
+    let next : (further address index + 1) % 2 ^ 64 ≡ further address (suc index) = omega (arith, fits) in
+    let behind : address % 4096 + suc index ≡ suc (address % 4096 + index) = omega arith in
+    let others = placed_on size thread view state address (suc index) (value / 256) name fits (omega (arith, inside)) is in
+    let spot : spot_at thread view state (further address index)
+    ≡ Ok (record { name = name; offset = further address index % 4096 }) =
+    spot_of thread view state (further address index) name
+    (reached_again thread view state address _ Write name same is) in
+    placed_first thread view state (further address index) (value % 256)
+    (record { name = name; offset = further address index % 4096 }) _ spot
+    ∙ rw (next, others, place, behind) refl
+
+-- a word that ends in the page in which it begins
+pub word_stored : (thread view : ℕ) (state : State) (address value : ℕ) (name : PageName) (page : Page) → address < 2 ^ 64
+    → address % 4096 + 8 ≤ 4096 → reached thread view state address Write ≡ Ok name → find_page state.pages name ≡ Some page
+    → plain_stored thread view state address 8 value
+    ≡ with_contents state name (put_word (contents state name) (address % 4096) value)
+unfolding plain_stored put_word
+word_stored thread view state address value name page fits inside is found =
+    let here : further address 0 ≡ address = omega (arith, fits) in
+    let place : address % 4096 + 0 ≡ address % 4096 = omega arith in
+    let whole : value / 256 ^ 0 ≡ value = omega arith in
+    let list : bytes_to_put state thread view (further address 0) 8 value
+    ≡ placed_from name (address % 4096 + 0) (low 8 value) =
+    placed_on 8 thread view state address 0 value name fits (omega (arith, inside)) is in
+    let bytes : low 8 value ≡ bytes_low_first 0 8 value = ap (λ (n : ℕ). low 8 n) (sym whole) ∙ low_bytes 8 0 value in
+    ap (λ (at : ℕ). put_all state (bytes_to_put state thread view at 8 value)) (sym here)
+    ∙ ap (λ (all : List Placed). put_all state all) list
+    ∙ ap (λ (all : List ℕ). put_all state (placed_from name (address % 4096 + 0) all)) bytes
+    ∙ ap (λ (at : ℕ). put_all state (placed_from name at (bytes_low_first 0 8 value))) place
+    ∙ puts_sets (bytes_low_first 0 8 value) state name page (address % 4096) found
+
+pub word_may_be_stored : (thread view : ℕ) (state : State) (address : ℕ) (name : PageName) (page : Page) → address < 2 ^ 64
+    → address % 4096 + 8 ≤ 4096 → reached thread view state address Write ≡ Ok name → find_page state.pages name ≡ Some page
+    → store_answer (byte_for (plain_byte thread view state) Write) address 8 ≡ Ok tt
+word_may_be_stored thread view state address name page fits inside is found =
+    stored_where_loaded (byte_for (plain_byte thread view state) Write) address 8 _
+    (word_in_page thread view state address Write name page fits inside is found)
+
+pub word_not_stored : (thread view : ℕ) (state : State) (address : ℕ) (stop : BusStop)
+    → reached thread view state address Write ≡ Err stop
+    → store_answer (byte_for (plain_byte thread view state) Write) address 8 ≡ Err stop
+word_not_stored thread view state address stop is =
+    stops_where_loaded (byte_for (plain_byte thread view state) Write) address 8 stop
+    (word_refused thread view state address Write stop is)

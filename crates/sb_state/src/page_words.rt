@@ -1,0 +1,37 @@
+//! Words of 8 bytes in the bytes of a page, the lowest byte first.
+
+ghost use Rattle.std.specs.Prelude.{◌≡◌, ◌+◌, ◌*◌, ◌≤◌, length};
+ghost use Rattle.sb_memory.specs.Words.{put_word};
+ghost use Rattle.sb_state.specs.PageWords.{words_put};
+
+use crate::page::PageBytes;
+
+/// How many bytes a word has.
+const WORD_SIZE: usize = 8;
+
+/// Puts a word at a place.
+#[tactic(auto, using(crate::proofs::WordBytes::sets_more), unfolding(sb_memory::specs::Words::put_word))]
+pub fn put_word(bytes: &mut PageBytes, place: usize, word: u64)
+    requires size { length bytes.old ≡ 4096 }
+    requires within { place + 8 ≤ 4096 }
+    ensures put { bytes.new ≡ put_word bytes.old place word }
+    ensures size { length bytes.new ≡ 4096 }
+{
+    let lowest_first = word.to_le_bytes();
+    for (index, byte) in lowest_first.iter().enumerate() {
+        bytes.set(place + index, *byte);
+    }
+}
+
+/// Puts words one after another, from a place on.
+#[tactic(auto, using(crate::proofs::WordBytes::words_more))]
+pub fn put_words(bytes: &mut PageBytes, place: usize, words: &[u64])
+    requires size { length bytes.old ≡ 4096 }
+    requires within { place + 8 * length words.now ≤ 4096 }
+    ensures put { bytes.new ≡ words_put bytes.old place words.now }
+    ensures size { length bytes.new ≡ 4096 }
+{
+    for (index, word) in words.iter().enumerate() {
+        put_word(bytes, place + WORD_SIZE * index, *word);
+    }
+}

@@ -1,0 +1,32 @@
+//! Values of registers, as the kernel reads and puts them.
+
+ghost use Rattle.std.specs.Prelude.{◌≡◌};
+ghost use Rattle.sb_state.specs.Registers.{eax, ecx, zero_flags};
+
+use sb_insn::registers::{RAX, RCX};
+use sb_insn::{Flags, Regs};
+
+/// The leaf of VMFUNC (SDM volume 3, section 25.5.6): the lower 32 bits of RAX.
+pub fn eax(regs: &Regs) -> u32
+    ensures { result ≡ eax regs.now }
+{
+    (regs.general[RAX] % (1 << 32)) as u32
+}
+
+/// The index of EPTP switching: the lower 32 bits of RCX.
+pub fn ecx(regs: &Regs) -> u32
+    ensures { result ≡ ecx regs.now }
+{
+    (regs.general[RCX] % (1 << 32)) as u32
+}
+
+/// The flags of a logical instruction whose result is 0.
+pub fn zero_result() -> Flags
+    ensures { result ≡ zero_flags }
+{
+    Flags {
+        pf: true,
+        zf: true,
+        ..Flags::CLEAR
+    }
+}

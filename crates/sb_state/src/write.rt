@@ -1,0 +1,133 @@
+//! Numbers written to the memory of a thread in a view.
+
+ghost use Rattle.std.specs.Prelude.{◌≡◌, ◌≤◌, ◌+◌, ◌%◌, Ok, Err, OnOk, IfErr, length};
+ghost use Rattle.sb_memory.specs.declared.address.Access.TheVariants.{Write};
+ghost use Rattle.sb_bus.specs.Access.{bytes_from, byte_for, store_answer, where_stored};
+ghost use Rattle.sb_state.specs.PlainMemory.{plain_byte, plain_stored, put_all};
+ghost use Rattle.sb_state.specs.Spots.{spot_at, placed_in};
+
+use crate::page::PageName;
+use crate::plain_state::PlainState;
+use crate::translate::reach;
+use sb_bus::BusStop;
+use sb_memory::{Access, Linear};
+
+/// A place in a page.
+#[derive(Clone, Copy)]
+pub struct Spot {
+    name: PageName,
+    offset: usize,
+}
+
+/// No place of its own, before a place is found.
+const NOWHERE: Spot = Spot {
+    name: PageName::HomeTrampoline,
+    offset: 0,
+};
+
+/// Where a byte that is written at an address goes.
+#[tactic(auto, unfolding(crate::specs::Spots::spot_at))]
+fn find_spot(state: &PlainState, thread: u32, view: u32, at: Linear) -> Result<Spot, BusStop>
+    ensures { result ≡ spot_at thread view state.now at.0 }
+{
+    let (name, _) = reach(state, thread, view, at, Access::Write)?;
+    let offset = (at.0 % 4096) as usize;
+    Ok(Spot { name, offset })
+}
+
+/// Where the bytes that are written from an address upwards go.
+#[tactic(auto, using(crate::proofs::Spots::spots_none, crate::proofs::Spots::spots_stop, crate::proofs::Spots::spots_stop_later, crate::proofs::Spots::spots_more))]
+fn find_spots(
+    state: &PlainState,
+    thread: u32,
+    view: u32,
+    at: Linear,
+    spots: &mut [Spot],
+) -> Result<(), BusStop>
+    ensures ok { OnOk result (bytes_from (spot_at thread view state.now) at.0 (length spots.old) ≡ Ok spots.new) }
+    ensures err { IfErr result (λ stop. bytes_from (spot_at thread view state.now) at.0 (length spots.old) ≡ Err stop) }
+{
+    if let Some((lowest, others)) = spots.split_first_mut() {
+        *lowest = find_spot(state, thread, view, at)?;
+        find_spots(state, thread, view, Linear(at.0.wrapping_add(1)), others)?;
+    }
+    Ok(())
+}
+
+/// Puts the lowest bytes of a number at these places, the lowest first.
+#[tactic(auto, unfolding(crate::specs::PlainMemory::put_byte, crate::specs::State::with_contents, crate::specs::State::contents))]
+fn put(state: &mut PlainState, spots: &[Spot], value: u64)
+    ensures { state.new ≡ put_all state.old (placed_in spots.now value) }
+{
+    if let Some((lowest, others)) = spots.split_first() {
+        state
+            .pages
+            .put(lowest.name, lowest.offset, (value % 256) as u8);
+        put(state, others, value / 256);
+    }
+}
+
+/// Writes the lowest bytes of a number from an address upwards, as many as there is room for their places, if each of
+/// them may be written.
+#[tactic(auto, using(crate::proofs::Spots::store_done, crate::proofs::Spots::store_stopped, crate::proofs::Spots::spots_stored))]
+fn store_by(
+    state: &mut PlainState,
+    thread: u32,
+    view: u32,
+    at: Linear,
+    value: u64,
+    spots: &mut [Spot],
+) -> Result<(), BusStop>
+    ensures answer { result ≡ store_answer (byte_for (plain_byte thread view state.old) Write) at.0 (length spots.old) }
+    ensures written { state.new ≡ where_stored result (plain_stored thread view state.old at.0 (length spots.old) value) state.old }
+{
+    find_spots(state, thread, view, at, spots)?;
+    put(state, spots, value);
+    Ok(())
+}
+
+/// Writes a word at an address, which ends in the page in which it begins, if it may be written: the page's mode is looked
+/// up once.
+#[tactic(auto, using(crate::proofs::WholeWord::word_stored, crate::proofs::WholeWord::word_may_be_stored, crate::proofs::WholeWord::word_not_stored), unfolding(crate::specs::State::with_contents, crate::specs::State::contents))]
+fn store_word(
+    state: &mut PlainState,
+    thread: u32,
+    view: u32,
+    at: Linear,
+    value: u64,
+) -> Result<(), BusStop>
+    requires { at.0 % 4096 + 8 ≤ 4096 }
+    ensures answer { result ≡ store_answer (byte_for (plain_byte thread view state.old) Write) at.0 8 }
+    ensures written { state.new ≡ where_stored result (plain_stored thread view state.old at.0 8 value) state.old }
+{
+    let (name, _) = reach(state, thread, view, at, Access::Write)?;
+    state.pages.put_word(name, (at.0 % 4096) as usize, value);
+    Ok(())
+}
+
+/// Writes the lowest bytes of a number from an address upwards, if each of them may be written.
+pub fn store(
+    state: &mut PlainState,
+    thread: u32,
+    view: u32,
+    at: Linear,
+    size: u8,
+    value: u64,
+) -> Result<(), BusStop>
+    requires { size ≤ 8 }
+    ensures answer { result ≡ store_answer (byte_for (plain_byte thread view state.old) Write) at.0 size }
+    ensures written { state.new ≡ where_stored result (plain_stored thread view state.old at.0 size value) state.old }
+{
+    if size == 8 && at.0 % 4096 <= 4088 {
+        return store_word(state, thread, view, at, value);
+    }
+    let mut spots = [NOWHERE; 8];
+    store_by(
+        state,
+        thread,
+        view,
+        at,
+        value,
+        &mut spots[..usize::from(size)],
+    )
+}
