@@ -104,8 +104,8 @@ pub unread_accepted : (command : BundleCommand) (left left' : Option (List ℕ))
     → ReadWhole left left' bytes → now ≡ bytes
     → refusal ≡ variant.Bundle why → Reports {A = Unit {0}} command now (Err refusal) → ¬ IsTold left SomeAccepted
 unread_accepted command left left' bytes now refusal why read same is refused claim =
-    let (bundle, good) = told left left' bytes now SomeAccepted read same claim in
-    is_read now bundle why (good.0.1, good.0.2) (read_refused command now refusal why is refused)
+    let (bundle, spelled, loaded) = told left left' bytes now SomeAccepted read same claim in
+    is_read now bundle why spelled (read_refused command now refusal why is refused)
 
 -- ---- no start
 
@@ -133,8 +133,8 @@ pub unloaded_accepted : (command : BundleCommand) (left left' : Option (List ℕ
     → refusal ≡ variant.Load why → Reports {A = Unit {0}} command now (Err refusal) → ¬ IsTold left SomeAccepted
 unloaded_accepted command left left' bytes now refusal why read same is answer claim =
     let refused = load_refused command now refusal why is answer in
-    let (bundle, good) = told left left' bytes now SomeAccepted read same claim in
-    is_loaded now bundle refused.0 why (good.0.1, good.0.2) good.1 refused.1 refused.2 refused.3
+    let (bundle, spelled, loaded) = told left left' bytes now SomeAccepted read same claim in
+    is_loaded now bundle refused.0 why spelled loaded refused.1 refused.2 refused.3
 
 -- what a refusal of the loader says of the bytes
 pub unloaded_told : (command : BundleCommand) (left left' : Option (List ℕ)) (bytes now : List ℕ) (refusal : Refusal)

@@ -2,6 +2,7 @@ pub mod Parts
 pub mod Schedule
 pub mod Determined
 pub mod Apart
+pub mod Limit
 pub mod Lawful
 pub mod Numbers
 pub mod TextInsns

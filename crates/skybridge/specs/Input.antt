@@ -40,5 +40,8 @@ SomeNoBundle bytes = (refusal : BundleRefusal) × IsNoBundle bytes refusal
 abbrev pub SomeNotLoadable : List ℕ → Type 0
 SomeNotLoadable bytes = (refusal : LoadRefusal) × IsNotLoadable bytes refusal
 
+-- the bytes spell a bundle that the loader accepts; there are no more of them than an input may have
 abbrev pub SomeAccepted : List ℕ → Type 0
-SomeAccepted bytes = (bundle : Bundle) × IsAccepted bytes bundle
+SomeAccepted bytes =
+    (bundle : Bundle) × (IsBundle bundle × (bytes ≡ spelling bundle))
+    × ((load : Load) × (load.bundle ≡ bundle) × IsLoadable load)

@@ -1,7 +1,7 @@
 -- Statuses.
-use Rattle.std.specs.Prelude.{⊤}
+use Rattle.std.specs.Prelude.{ℕ, ⊤}
 use Rattle.skybridge.specs.declared.top.Status.{Status}
-use Rattle.skybridge.specs.declared.top.Status.TheVariants.{Done, BadWords, WriteFault, NoMemory}
+use Rattle.skybridge.specs.declared.top.Status.TheVariants.{Done, BadWords, ReadFault, WriteFault, BundleRefused, LoadRefused, NoMemory, TooLong}
 
 -- a status that says nothing of an input
 abbrev pub IsOwn : Status → Type 0
@@ -10,3 +10,14 @@ IsOwn BadWords = ⊤
 IsOwn WriteFault = ⊤
 IsOwn NoMemory = ⊤
 IsOwn _ = ⊥
+
+-- the program's exit status
+abbrev pub status_number : Status → ℕ
+status_number Done = 0
+status_number BadWords = 2
+status_number ReadFault = 3
+status_number WriteFault = 4
+status_number BundleRefused = 5
+status_number LoadRefused = 6
+status_number NoMemory = 7
+status_number TooLong = 8

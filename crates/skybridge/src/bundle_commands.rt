@@ -16,15 +16,19 @@ use sb_load::{LoadRefusal, Loaded, load};
 use sb_plain::Plain;
 use sb_trace::{EndState, Lines, report_text};
 use std::alloc::{AllocError, Global};
+use thiserror::Error;
 
 /// Why a command has nothing to write of an input.
-#[derive(Clone, Copy, Debug, PartialEq, Eq)]
+#[derive(Clone, Copy, Debug, PartialEq, Eq, Error)]
 pub enum Refusal {
     /// Its bytes are no bundle.
+    #[error("{0}")]
     Bundle(BundleRefusal),
     /// Its bundle cannot be loaded.
+    #[error("{0}")]
     Load(LoadRefusal),
     /// Memory did not suffice.
+    #[error("out of memory")]
     Memory,
 }
 

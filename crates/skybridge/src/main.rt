@@ -56,10 +56,10 @@ fn words_or_none(alloc: Global, rt: &(impl Env + AllocGlobal)) -> io::Result<Vec
 
 fn main(rt: HostRuntime) -> ExitCode {
     let Ok(words) = words_or_none(rt.alloc(), &rt) else {
-        return ExitCode::from(Status::NoMemory as u8);
+        return ExitCode::from(Status::NoMemory.number());
     };
     let mut source = ReadSource::new(rt.reader());
     let mut sink = WriteSink::new(io::writer(&rt));
     let status = bridge(rt.alloc(), &words, &mut source, &mut sink);
-    ExitCode::from(status as u8)
+    ExitCode::from(status.number())
 }

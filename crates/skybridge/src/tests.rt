@@ -3,7 +3,9 @@
 ghost use Rattle.std.specs.Prelude.{◌<◌, ◌^◌, length};
 
 use crate::help::described;
-use crate::{Status, bridge};
+use crate::{Refusal, Status, bridge};
+use sb_bundle::BundleRefusal;
+use sb_load::LoadRefusal;
 use sb_port::{MemorySink, MemorySource};
 use std::alloc::Global;
 use std::test::Fail;
@@ -187,6 +189,156 @@ fn threads_run_to_their_report(rt: HostRuntime) -> Result<(), Fail> {
     Ok(())
 }
 
+/// What a thread does at VMFUNC, the bundle, and its report. Neither the bundles nor the reports come from this program.
+#[rattlefmt::skip]
+const SWITCHES: [(&str, &[u8], &str); 4] = [
+    ("index 1 has no view", &[
+        0x53, 0x4B, 0x59, 0x42, 1, 0, 1, 1, 0x40, 2, 0, 0, 0, 0, 0, 0, 0x0E, 0, 0, 0, 0x0C, 0, 0, 0, 0, 0, 0, 0, 0, 0,
+        0, 0, 0xB9, 1, 0, 0, 0, 0x31, 0xC0, 0xE9, 0x34, 0, 0xC0, 0x6F, 0, 0, 0, 0, 0, 0, 0x40, 0, 0, 0, 0, 0, 0, 0, 0,
+        0, 0, 0, 0, 0, 0, 0, 0, 0, 0, 0,
+    ],
+"skybridge report 1
+0 step 400000
+0 step 400005
+0 step 400007
+0 call 1 unbound
+0 step 70000043
+0 step 7000004b
+0 step 7000004e
+0 step 70000052
+0 step 70000056
+0 step 7000005a
+0 step 7000005e
+0 step 70000062
+0 step 70000066
+0 fault memory 0
+thread 0 home 0 view 0 at 0 faulted memory 0
+regs 0 rip 70000069 flags 44 3 0 0 0 0 0 0 0 0 3 0 0 0 0 0 0
+free 39
+keys 0
+end
+"),
+    ("EAX is not 0", &[
+        0x53, 0x4B, 0x59, 0x42, 1, 0, 1, 1, 0x40, 2, 0, 0, 0, 0, 0, 0, 0x0E, 0, 0, 0, 0x0F, 0, 0, 0, 0, 0, 0, 0, 0, 0,
+        0, 0, 0xB9, 0, 2, 0, 0, 0xB8, 1, 0, 0, 0, 0xE9, 0x31, 0, 0xC0, 0x6F, 0, 0, 0, 0, 0, 0, 0x40, 0, 0, 0, 0, 0, 0,
+        0, 0, 0, 0, 0, 0, 0, 0, 0, 0, 0, 0, 0,
+    ],
+"skybridge report 1
+0 step 400000
+0 step 400005
+0 step 40000a
+0 call 512 bad leaf
+0 step 70000043
+0 step 7000004b
+0 step 7000004e
+0 step 70000052
+0 step 70000056
+0 step 7000005a
+0 step 7000005e
+0 step 70000062
+0 step 70000066
+0 fault memory 0
+thread 0 home 0 view 0 at 0 faulted memory 0
+regs 0 rip 70000069 flags 44 5 0 0 0 0 0 0 0 0 5 0 0 0 0 0 0
+free 39
+keys 0
+end
+"),
+    ("index 0 at home", &[
+        0x53, 0x4B, 0x59, 0x42, 1, 0, 1, 1, 0x40, 2, 0, 0, 0, 0, 0, 0, 0x0E, 0, 0, 0, 9, 0, 0, 0, 0, 0, 0, 0, 0, 0, 0,
+        0, 0x31, 0xC9, 0x31, 0xC0, 0xE9, 0x37, 0, 0xC0, 0x6F, 0, 0, 0, 0, 0, 0, 0x40, 0, 0, 0, 0, 0, 0, 0, 0, 0, 0, 0,
+        0, 0, 0, 0, 0, 0, 0, 0,
+    ],
+"skybridge report 1
+0 step 400000
+0 step 400002
+0 step 400004
+0 turn
+0 step 70000043
+0 step 7000004b
+0 step 7000004e
+0 step 70000052
+0 step 70000056
+0 step 7000005a
+0 step 7000005e
+0 step 70000062
+0 step 70000066
+0 fault memory 0
+thread 0 home 0 view 0 at 0 faulted memory 0
+regs 0 rip 70000069 flags 44 0 0 0 0 0 0 0 0 0 0 0 0 0 0 0 0
+free 39
+keys 0
+end
+"),
+    ("a schedule that ends in a landing", &[
+        0x53, 0x4B, 0x59, 0x42, 1, 0, 2, 2, 0x80, 2, 0, 0, 1, 0, 0, 0, 0x22, 0, 0, 0, 5, 0, 0, 0, 0, 0, 0, 0, 0x27, 0,
+        0, 0, 8, 0, 0, 0, 0, 0, 0, 0, 0xBF, 0x17, 0, 0x40, 0, 0xBE, 2, 0, 0, 0, 0xB8, 2, 0, 0, 0, 0x0F, 5, 0x31, 0xFF,
+        0x31, 0xC0, 0x0F, 5, 0xBA, 1, 0, 0, 0, 0xF0, 0x48, 0x0F, 0xC1, 0x14, 0x25, 0, 0, 0x80, 0, 0xC3, 0, 0, 0, 0, 0,
+        0, 0, 0, 0x3C, 0, 0, 0, 0, 0, 0, 0, 0, 0, 0, 0, 0xBF, 0, 0, 0, 0, 0xB8, 3, 0, 0, 0, 0x0F, 5, 0x85, 0xC0, 0x75,
+        0xF0, 0x49, 0x89, 0xD4, 0x4D, 0x89, 0xC5, 0x41, 0xBE, 1, 0, 0, 0, 0x4C, 0x89, 0xE7, 0x4C, 0x89, 0xEE, 0xE8,
+        0xD9, 0xFF, 0xBF, 0x6F, 0x48, 0x89, 0xD7, 0xB8, 1, 0, 0, 0, 0x0F, 5, 0x41, 0xFF, 0xCE, 0x75, 0xE6, 0x31, 0xFF,
+        0x31, 0xC0, 0x0F, 5, 0, 0, 0, 0, 0, 0, 0x40, 0, 0, 0, 0, 0, 1, 0, 0, 0, 0, 0, 0x40, 0, 0, 0, 0, 0, 0, 0, 0, 0,
+        0, 0, 0, 1, 1, 1, 1, 1, 1, 1, 1, 1, 1, 1, 1, 1, 1, 1, 1, 1, 1, 1, 1, 1, 1, 1, 1, 1, 1, 1,
+    ],
+"skybridge report 1
+0 step 400000
+0 step 400005
+0 step 40000a
+0 sys 2 0
+0 step 400011
+0 step 400013
+0 exit 0
+1 step 400000
+1 step 400005
+1 sys 3 0
+1 step 40000c
+1 step 40000e
+1 step 400010
+1 step 400013
+1 step 400016
+1 step 40001c
+1 step 40001f
+1 step 400022
+1 step 70000000
+1 step 70000008
+1 step 7000000b
+1 step 7000000f
+1 step 70000013
+1 step 70000017
+1 step 7000001b
+1 step 7000001f
+1 step 70000023
+1 step 70000025
+1 step 70000027
+1 landing v
+1 landing 0
+1 landing 1
+1 landing 2
+1 landing 3
+thread 0 home 0 view 0 at 0 ended 0
+regs 0 rip 400017 flags 44 0 400017 0 0 3008000 0 2 0 0 0 0 246 0 0 0 0
+thread 1 home 1 view 0 at 1 running
+regs 1 rip 70000040 flags 44 0 1 1 0 300fff8 0 5 1 5 0 2044000 202 1 5 1 0
+flight 1 4
+free 59
+keys 0
+end
+"),
+];
+
+#[test]
+fn threads_switch_to_their_report(rt: HostRuntime) -> Result<(), Fail> {
+    let alloc = rt.alloc();
+    for (name, bytes, report) in SWITCHES {
+        for word in ["replay", "plain"] {
+            let (status, held) = quiet_outcome(alloc, word, Vec::from_slice(alloc, bytes)?)?;
+            assert_eq!(rt; status, Status::Done, "{name}");
+            assert_eq!(rt; held.as_slice(), report.as_bytes(), "{name}");
+        }
+    }
+    Ok(())
+}
+
 #[test]
 fn each_process_has_its_own_memory(rt: HostRuntime) -> Result<(), Fail> {
     let alloc = rt.alloc();
@@ -221,6 +373,21 @@ fn refusals_write_one_line(rt: HostRuntime) -> Result<(), Fail> {
         let (status, held) = quiet_outcome(alloc, word, bytes)?;
         assert_eq!(rt; status, wanted, "{name}");
         assert_eq!(rt; held.as_slice(), line.as_bytes(), "{name}");
+    }
+    Ok(())
+}
+
+#[rattlefmt::skip]
+const REFUSALS: [(Refusal, &str); 3] = [
+    (Refusal::Bundle(BundleRefusal::Magic { at: 0 }), "no magic bytes at 0"),
+    (Refusal::Load(LoadRefusal::NoFrames { need: 25, have: 24 }), "frames 25 24"),
+    (Refusal::Memory, "out of memory"),
+];
+
+#[test]
+fn refusals_have_texts(rt: HostRuntime) -> Result<(), Fail> {
+    for (refusal, text) in REFUSALS {
+        assert_eq!(rt; format!(in rt.alloc(); "{refusal}")?.as_str(), text);
     }
     Ok(())
 }

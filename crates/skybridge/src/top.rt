@@ -1,14 +1,14 @@
 //! The top call.
 
-ghost use Rattle.std.specs.Prelude.{◌≡◌, ◌≤◌, ℕ, List, ◌↔◌, ◌⊎◌, IsErr, IsOkAnd, MatchResult, string_bytes};
-ghost use Rattle.sb_port.specs.Port.{Rose, Appended};
+ghost use Rattle.std.specs.Prelude.{◌≡◌, ◌≤◌, ◌<◌, ℕ, List, ◌↔◌, ◌⊎◌, IsErr, IsOkAnd, MatchResult, string_bytes};
+ghost use Rattle.sb_port.specs.Port.{Rose, TookFirst, Appended};
 ghost use Rattle.sb_bundle.specs.declared.bundle.Bundle.{Bundle};
-ghost use Rattle.skybridge.specs.Input.{IsTooLong, SomeNoBundle, SomeNotLoadable, SomeAccepted};
+ghost use Rattle.skybridge.specs.Input.{input_limit, IsTooLong, SomeNoBundle, SomeNotLoadable, SomeAccepted};
 ghost use Rattle.skybridge.specs.declared.words.BundleCommand.{BundleCommand};
 ghost use Rattle.skybridge.specs.Output.{IsOutput, IsTold, WhereTold, PartlyAppended, ReportedAs, PartlyReported, Wrote, PartlyWrote, RefusedBundle, RefusedLoad, WritesLine};
 ghost use Rattle.skybridge.specs.Lawful.{IsLawfulOutput, WroteLawfully};
 ghost use Rattle.skybridge.specs.Words.{IsCommand, ReadsBundle, word_texts};
-ghost use Rattle.skybridge.specs.Status.{IsOwn};
+ghost use Rattle.skybridge.specs.Status.{IsOwn, status_number};
 ghost use Rattle.skybridge.specs.Summary.{IsSummary};
 ghost use Rattle.skybridge.specs.Lines.{usage_line, read_fault_line, too_long_line};
 
@@ -39,6 +39,15 @@ pub enum Status {
     NoMemory = 7,
     /// The input is longer than 64 MiB.
     TooLong = 8,
+}
+
+impl Status {
+    /// The program's exit status.
+    pub fn number(self) -> u8
+        ensures { result ≡ status_number self }
+    {
+        self as u8
+    }
 }
 
 // The most bytes of an input.
@@ -114,6 +123,8 @@ fn run_on_bundle<S: Source, K: Sink>(
         → WritesLine (K.held sink.old) (K.held sink.new) (K.faults sink.old) (K.faults sink.new) read_fault_line }
 
     ensures too_long { result ≡ Status.TooLong → WhereTold (S.left source.old) IsTooLong }
+    ensures taken { TookFirst (S.left source.old) (S.left source.new) (λ count.
+        (result ≡ Status.TooLong) ↔ (input_limit < count)) }
     ensures long { IsTold (S.left source.old) IsTooLong
         → ¬ Rose (S.faults source.old) (S.faults source.new) → (result ≡ Status.TooLong) ⊎ (result ≡ Status.NoMemory) }
     ensures too_long_line { result ≡ Status.TooLong
@@ -195,8 +206,11 @@ pub fn bridge<S: Source, K: Sink>(
     ensures read_fault_line { result ≡ Status.ReadFault
         → WritesLine (K.held sink.old) (K.held sink.new) (K.faults sink.old) (K.faults sink.new) read_fault_line }
 
-    // An input that is longer than the limit is refused as such, and no other input is.
+    // An input that is longer than the limit is refused as such, and no other input is: exactly where a byte past the limit
+    // was taken.
     ensures too_long { result ≡ Status.TooLong → WhereTold (S.left source.old) IsTooLong }
+    ensures taken { ReadsBundle (word_texts words.now.items) → TookFirst (S.left source.old) (S.left source.new) (λ count.
+        (result ≡ Status.TooLong) ↔ (input_limit < count)) }
     ensures long { ReadsBundle (word_texts words.now.items) → IsTold (S.left source.old) IsTooLong
         → ¬ Rose (S.faults source.old) (S.faults source.new) → (result ≡ Status.TooLong) ⊎ (result ≡ Status.NoMemory) }
     ensures too_long_line { result ≡ Status.TooLong

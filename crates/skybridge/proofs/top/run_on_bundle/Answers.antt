@@ -1,4 +1,8 @@
+use Rattle.std.proofs.Common.{rules}
+use Rattle.sb_port.specs.Port.{HasMore}
+use Rattle.skybridge.specs.Input.{input_limit}
 use Rattle.skybridge.proofs.Apart.{reported_spelled, reported_loaded, unread_spelled, unread_accepted, unloaded_spelled, unloaded_accepted, unloaded_told}
+use Rattle.skybridge.proofs.Limit.{accepted_whole}
 use Rattle.skybridge.proofs.Parts.{line_of_refusal}
 use Rattle.skybridge.proofs.top.run_on_bundle.Goals as goal
 
@@ -37,3 +41,8 @@ pub returns-in-Err-Load-clause-complete : goal.returns-in-Err-Load-clause-comple
 returns-in-Err-Load-clause-complete g c told quiet silent =
     absurd (unloaded_accepted c.args.command _ _ _ _ _ _ c.in-Ok.ensures.read c.deref.ensures.value c.in-Err-Load.field-0-is
     c.in-Err-Load.ensures told)
+
+pub returns-in-Err-TooLong-clause-complete : goal.returns-in-Err-TooLong-clause-complete
+returns-in-Err-TooLong-clause-complete g c told quiet silent =
+    let more : HasMore (g.S.Source.left c.args.source.now) input_limit = search rules in
+    absurd (accepted_whole _ more told)
