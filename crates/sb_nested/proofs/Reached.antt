@@ -1,12 +1,12 @@
--- A store changes bytes in the frames to which its addresses lead, and in no others.
-use Rattle.std.proofs.Common.{◌≡◌, ℕ, zero, suc, ◌+◌, ◌/◌, ◌%◌, ◌^◌, ◌<◌, Bool, true, false, List, [], ◌∷◌, Result, Ok, Err, refl, sym, ap, ◌∙◌, subst, arith}
-use Rattle.std.specs.Prelude.{if◌then◌else◌}
+-- A store changes the bytes to which its addresses lead, and no others.
+use Rattle.std.proofs.Common.{◌≡◌, ◌≢◌, ℕ, zero, suc, ◌+◌, ◌/◌, ◌%◌, ◌^◌, ◌<◌, Bool, true, false, List, [], ◌∷◌, get_or, get_or-set_other, Result, Ok, Err, refl, sym, ap, ◌∙◌, subst, arith}
+use Rattle.std.specs.Prelude.{if◌then◌else◌, slice_set}
 use Rattle.std.specs.List.{Contains}
 use Rattle.std.proofs.lemmas.Grind.{common_steps}
 use Rattle.sb_memory.specs.Outcome.{and_then}
 use Rattle.sb_memory.specs.Changes.{SameOutside}
-use Rattle.sb_memory.specs.Physical.{Physical, frame_of}
-use Rattle.sb_memory.specs.Reading.{byte_written}
+use Rattle.sb_memory.specs.Physical.{Physical, frame_of, has_frame}
+use Rattle.sb_memory.specs.Reading.{byte_written, with_bytes}
 use Rattle.sb_memory.specs.declared.address.Access.TheVariants.{Write}
 use Rattle.sb_memory.specs.declared.address.PhysAddr.{PhysAddr}
 use Rattle.sb_memory.proofs.Changes.{same_outside_self, same_outside_then}
@@ -41,17 +41,42 @@ pub stored_bytes : (core : View) (address size value : ℕ) → address < 2 ^ 64
 unfolding memory_stored
 stored_bytes core address size value below = stored_by (is_whole address size) core address size value refl below
 
--- ---- the frames of its places
+-- ---- what holds of each of its places
 
-abbrev AllIn : List ℕ → List PhysAddr → Type 0
-AllIn frames [] = Unit {0}
-AllIn frames (place ∷ places) = Contains frames (frame_of place.0) × AllIn frames places
+abbrev EachIs : (PhysAddr → Type 0) → List PhysAddr → Type 0
+EachIs P [] = Unit {0}
+EachIs P (place ∷ places) = P place × EachIs P places
 
-abbrev AnswerIn : List ℕ → Result (List PhysAddr) BusStop → Type 0
-AnswerIn frames (Ok places) = AllIn frames places
-AnswerIn frames (Err stop) = Unit {0}
+abbrev AnswerIs : (PhysAddr → Type 0) → Result (List PhysAddr) BusStop → Type 0
+AnswerIs P (Ok places) = EachIs P places
+AnswerIs P (Err stop) = Unit {0}
 
-put_within : (frames : List ℕ) (memory : Physical) (places : List PhysAddr) (value : ℕ) → AllIn frames places
+more_is : (P : PhysAddr → Type 0) (first : Result PhysAddr BusStop) (rest : Result (List PhysAddr) BusStop)
+    → ((place : PhysAddr) → first ≡ Ok place → P place) → AnswerIs P rest
+    → AnswerIs P (and_then first (λ lowest. and_then rest (λ others. Ok (lowest ∷ others))))
+more_is P (Ok place) (Ok places) here later = (here place refl, later)
+more_is P (Ok place) (Err stop) here later = tt
+more_is P (Err stop) rest here later = tt
+
+places_are : (P : PhysAddr → Type 0) (place : ℕ → Result PhysAddr BusStop) (address size : ℕ) → address < 2 ^ 64
+    → ((k : ℕ) (at : PhysAddr) → k < size → place ((address + k) % 2 ^ 64) ≡ Ok at → P at)
+    → AnswerIs P (bytes_from place address size)
+unfolding bytes_from
+places_are P place address zero below holds = tt
+places_are P place address (suc size) below holds =
+    let start : address ≡ (address + 0) % 2 ^ 64 = omega arith in
+    more_is P (place address) (bytes_from place ((address + 1) % 2 ^ 64) size)
+    (λ at is. holds 0 at (omega arith) (ap place (sym start) ∙ is))
+    (places_are P place ((address + 1) % 2 ^ 64) size (omega arith) (λ k at few is.
+    let same : ((address + 1) % 2 ^ 64 + k) % 2 ^ 64 ≡ (address + suc k) % 2 ^ 64 = omega arith in
+    holds (suc k) at (omega arith) (ap place (sym same) ∙ is)))
+
+-- ---- only bytes of their frames change
+
+abbrev IsIn : List ℕ → PhysAddr → Type 0
+IsIn frames place = Contains frames (frame_of place.0)
+
+put_within : (frames : List ℕ) (memory : Physical) (places : List PhysAddr) (value : ℕ) → EachIs (IsIn frames) places
     → SameOutside frames memory (put_value memory places value)
 put_within frames memory [] value all = same_outside_self frames memory
 put_within frames memory (place ∷ places) value all =
@@ -60,29 +85,34 @@ put_within frames memory (place ∷ places) value all =
     (same_outside_byte frames memory place.0 (value % 256) all.0) (put_within frames next places (value / 256) all.1)
 
 answer_within : (frames : List ℕ) (memory : Physical) (answer : Result (List PhysAddr) BusStop) (value : ℕ)
-    → AnswerIn frames answer → SameOutside frames memory (put_answer memory answer value)
+    → AnswerIs (IsIn frames) answer → SameOutside frames memory (put_answer memory answer value)
 answer_within frames memory (Ok places) value all = put_within frames memory places value all
 answer_within frames memory (Err stop) value all = same_outside_self frames memory
 
-more_in : (frames : List ℕ) (first : Result PhysAddr BusStop) (rest : Result (List PhysAddr) BusStop)
-    → ((place : PhysAddr) → first ≡ Ok place → Contains frames (frame_of place.0)) → AnswerIn frames rest
-    → AnswerIn frames (and_then first (λ lowest. and_then rest (λ others. Ok (lowest ∷ others))))
-more_in frames (Ok place) (Ok places) here later = (here place refl, later)
-more_in frames (Ok place) (Err stop) here later = tt
-more_in frames (Err stop) rest here later = tt
+-- ---- only bytes at the places change
 
-places_in : (frames : List ℕ) (place : ℕ → Result PhysAddr BusStop) (address size : ℕ) → address < 2 ^ 64
-    → ((k : ℕ) (at : PhysAddr) → k < size → place ((address + k) % 2 ^ 64) ≡ Ok at → Contains frames (frame_of at.0))
-    → AnswerIn frames (bytes_from place address size)
-unfolding bytes_from
-places_in frames place address zero below within = tt
-places_in frames place address (suc size) below within =
-    let start : address ≡ (address + 0) % 2 ^ 64 = omega arith in
-    more_in frames (place address) (bytes_from place ((address + 1) % 2 ^ 64) size)
-    (λ at is. within 0 at (omega arith) (ap place (sym start) ∙ is))
-    (places_in frames place ((address + 1) % 2 ^ 64) size (omega arith) (λ k at few is.
-    let same : ((address + 1) % 2 ^ 64 + k) % 2 ^ 64 ≡ (address + suc k) % 2 ^ 64 = omega arith in
-    within (suc k) at (omega arith) (ap place (sym same) ∙ is)))
+abbrev IsApart : ℕ → PhysAddr → Type 0
+IsApart place at = place ≢ at.0
+
+byte_elsewhere : (present : Bool) (memory : Physical) (at byte place : ℕ) → place ≢ at
+    → get_or (if present then with_bytes memory (slice_set memory.bytes at byte) else memory).bytes place 0
+    ≡ get_or memory.bytes place 0
+byte_elsewhere true memory at byte place differ = get_or-set_other memory.bytes at place byte 0 differ
+byte_elsewhere false memory at byte place differ = refl
+
+put_elsewhere : (place : ℕ) (memory : Physical) (places : List PhysAddr) (value : ℕ) → EachIs (IsApart place) places
+    → get_or (put_value memory places value).bytes place 0 ≡ get_or memory.bytes place 0
+put_elsewhere place memory [] value all = refl
+put_elsewhere place memory (at ∷ places) value all =
+    put_elsewhere place (byte_written memory at.0 (value % 256)) places (value / 256) all.1
+    ∙ byte_elsewhere (has_frame memory (frame_of at.0)) memory at.0 (value % 256) place all.0
+
+answer_elsewhere : (place : ℕ) (memory : Physical) (answer : Result (List PhysAddr) BusStop) (value : ℕ)
+    → AnswerIs (IsApart place) answer → get_or (put_answer memory answer value).bytes place 0 ≡ get_or memory.bytes place 0
+answer_elsewhere place memory (Ok places) value all = put_elsewhere place memory places value all
+answer_elsewhere place memory (Err stop) value all = refl
+
+-- ---- the places of a store are those to which its addresses lead
 
 there_led : (byte : Result ℕ BusStop) (place : Result PhysAddr BusStop) (at : PhysAddr) → where_there byte place ≡ Ok at
     → place ≡ Ok at
@@ -100,5 +130,14 @@ pub stored_within : (core : View) (address size value : ℕ) (frames : List ℕ)
 stored_within core address size value frames below within =
     subst (SameOutside frames core.physical) (sym (stored_bytes core address size value below))
     (answer_within frames core.physical (bytes_from (store_place core) address size) value
-    (places_in frames (store_place core) address size below
+    (places_are (IsIn frames) (store_place core) address size below
     (λ k at few is. within k at few (store_led core ((address + k) % 2 ^ 64) at is))))
+
+pub stored_elsewhere : (core : View) (address size value place : ℕ) → address < 2 ^ 64
+    → ((k : ℕ) (at : PhysAddr) → k < size → place_of core Write ((address + k) % 2 ^ 64) ≡ Ok at → place ≢ at.0)
+    → get_or (memory_stored core address size value).bytes place 0 ≡ get_or core.physical.bytes place 0
+stored_elsewhere core address size value place below apart =
+    ap (λ (memory : Physical). get_or memory.bytes place 0) (stored_bytes core address size value below)
+    ∙ answer_elsewhere place core.physical (bytes_from (store_place core) address size) value
+    (places_are (IsApart place) (store_place core) address size below
+    (λ k at few is. apart k at few (store_led core ((address + k) % 2 ^ 64) at is)))

@@ -1,6 +1,6 @@
 //! What holds of each access: a bound on what is read, what a store writes, and that a whole memory misses nothing.
 
-ghost use Rattle.std.specs.Prelude.{ℕ, ◌≡◌, ◌≢◌, ◌+◌, ◌%◌, ◌^◌, ◌<◌, ◌≤◌, Err, List, Ok, length};
+ghost use Rattle.std.specs.Prelude.{ℕ, ◌≡◌, ◌≢◌, ◌+◌, ◌%◌, ◌^◌, ◌<◌, ◌≤◌, Err, List, Ok, get_or, length};
 ghost use Rattle.std.specs.List.{Contains};
 ghost use Rattle.sb_memory.specs.Changes.{SameOutside};
 ghost use Rattle.sb_memory.specs.Physical.{HasAllFrames, Physical, frame_count, frame_of};
@@ -24,11 +24,12 @@ pub fn at_most_24_words()
 {}
 
 /// A store of whatever size is done byte by byte, from the lowest address up, each where its address leads for a write; none is
-/// done where one of them leads nowhere. All bytes of frames to which no address leads stay, and no frame comes or goes.
+/// done where one of them leads nowhere. Every byte to which no address leads stays, and no frame comes or goes.
 ///
 /// A whole word is not read before, and is written by one call; it is stored as its bytes would be.
 pub fn stores_change_what_they_reach()
     ensures bytes { (core : View) (address size value : ℕ) → address < 2 ^ 64 → memory_stored core address size value ≡ put_answer core.physical (bytes_from (store_place core) address size) value }
+    ensures others { (core : View) (address size value place : ℕ) → address < 2 ^ 64 → ((k : ℕ) (at : PhysAddr) → k < size → place_of core Write ((address + k) % 2 ^ 64) ≡ Ok at → place ≢ at.0) → get_or (memory_stored core address size value).bytes place 0 ≡ get_or core.physical.bytes place 0 }
     ensures same { (core : View) (address size value : ℕ) (frames : List ℕ) → address < 2 ^ 64 → ((k : ℕ) (at : PhysAddr) → k < size → place_of core Write ((address + k) % 2 ^ 64) ≡ Ok at → Contains frames (frame_of at.0)) → SameOutside frames core.physical (memory_stored core address size value) }
 {}
 
