@@ -21,8 +21,8 @@ one_run_text : (text_of : List Line → EndState → List ℕ) (bundle : Bundle)
     → IsTextOfRun text_of bundle text → IsTextOfRun text_of bundle other → text ≡ other
 one_run_text text_of bundle text other (load, loads, is) (load', loads', is') =
     one_text text_of (first_state load') load'.bundle.schedule text other
-    (subst (λ (one : Load). RunText text_of (first_state one) one.bundle.schedule text) (same_load bundle load load' loads loads') is)
-    is'
+    (subst (λ (one : Load). RunText text_of (first_state one) one.bundle.schedule text)
+    (same_load bundle load load' loads loads') is) is'
 
 one_listing : (list : Load → List ℕ) (bundle : Bundle) (text other : List ℕ) → IsCommandText list bundle text
     → IsCommandText list bundle other → text ≡ other
