@@ -6,3 +6,4 @@ pub mod Threads
 pub mod Declined
 pub mod Bits
 pub mod Lawful
+pub mod FirstSound

@@ -3,6 +3,7 @@
 ghost use Rattle.std.specs.Prelude.{◌≡◌, IfOk, length, map};
 ghost use Rattle.std.specs.List.Sorted.{IsStrictlyIncreasing};
 ghost use Rattle.sb_state.specs.Start.{start_process};
+ghost use Rattle.sb_trace.specs.Sound.{IsSound};
 ghost use Rattle.sb_plain.specs.Start.{image_of, images_loaded, first_state};
 
 use crate::plain::Plain;
@@ -44,7 +45,8 @@ fn start_processes(alloc: Global, loaded: &Loaded) -> Result<Vec<Process>, Alloc
 
 /// The state at the start, with a page for each free frame.
 fn first_state(alloc: Global, loaded: &Loaded) -> Result<PlainState, AllocError>
-    ensures { IfOk result (λ state. state ≡ first_state loaded.now) }
+    ensures first { IfOk result (λ state. state ≡ first_state loaded.now) }
+    ensures sound { IfOk result (λ state. IsSound state) }
 {
     let bundle = loaded.bundle();
     let cores = bundle.cores.items();
@@ -63,8 +65,11 @@ fn first_state(alloc: Global, loaded: &Loaded) -> Result<PlainState, AllocError>
 
 impl Plain {
     /// The machine at the start of a loaded bundle's run. It has a page for each free frame, so no step takes memory.
+    ///
+    /// Its state is sound (docs/LAWS.md).
     pub fn new(alloc: Global, loaded: &Loaded) -> Result<Plain, AllocError>
-        ensures { IfOk result (λ plain. plain ≡ first_state loaded.now) }
+        ensures first { IfOk result (λ plain. plain ≡ first_state loaded.now) }
+        ensures sound { IfOk result (λ plain. IsSound plain) }
     {
         Ok(Plain {
             state: first_state(alloc, loaded)?,
