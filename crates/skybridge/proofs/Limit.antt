@@ -24,10 +24,18 @@ image_short image =
     let initial = number_bytes 4 (length image.initial) in
     let heap = number_bytes 4 image.heap_pages in
     let bytes = image.text ++ image.initial in
-    omega (arith, length-append image.text image.initial, length-append heap bytes, length-append initial (heap ++ bytes),
-      length-append text (initial ++ (heap ++ bytes)), length-number_bytes 4 (length image.text),
-      length-number_bytes 4 (length image.initial), length-number_bytes 4 image.heap_pages, paged (length image.text),
-      paged (length image.initial))
+    omega (
+      arith,
+      length-append image.text image.initial,
+      length-append heap bytes,
+      length-append initial (heap ++ bytes),
+      length-append text (initial ++ (heap ++ bytes)),
+      length-number_bytes 4 (length image.text),
+      length-number_bytes 4 (length image.initial),
+      length-number_bytes 4 image.heap_pages,
+      paged (length image.text),
+      paged (length image.initial),
+    )
 
 -- the frames of the processes, one after another
 abbrev needs : List Image → ℕ
@@ -49,8 +57,12 @@ keys_long (key ∷ keys) =
 
 core_long : (core : CoreStart) → length (core_bytes core) ≡ 12
 core_long core =
-    omega (arith, length-append (number_bytes 4 core.process) (number_bytes 8 core.entry), length-number_bytes 4 core.process,
-      length-number_bytes 8 core.entry)
+    omega (
+      arith,
+      length-append (number_bytes 4 core.process) (number_bytes 8 core.entry),
+      length-number_bytes 4 core.process,
+      length-number_bytes 8 core.entry,
+    )
 
 cores_long : (cores : List CoreStart) → length (flat_map core_bytes cores) ≡ 12 * length cores
 cores_long [] = refl
@@ -65,12 +77,21 @@ header_long bundle =
     let frames = number_bytes 4 bundle.frames ++ keys in
     let images = number_bytes 1 (length bundle.images) ++ frames in
     let cores = number_bytes 1 (length bundle.cores) ++ images in
-    omega (arith, length-append (number_bytes 4 (length bundle.keys)) steps, length-append (number_bytes 4 bundle.frames) keys,
-      length-append (number_bytes 1 (length bundle.images)) frames, length-append (number_bytes 1 (length bundle.cores)) images,
-      length-append (number_bytes 2 version) cores, length-append magic (number_bytes 2 version ++ cores),
-      length-number_bytes 4 (length bundle.schedule), length-number_bytes 4 (length bundle.keys),
-      length-number_bytes 4 bundle.frames, length-number_bytes 1 (length bundle.images),
-      length-number_bytes 1 (length bundle.cores), length-number_bytes 2 version)
+    omega (
+      arith,
+      length-append (number_bytes 4 (length bundle.keys)) steps,
+      length-append (number_bytes 4 bundle.frames) keys,
+      length-append (number_bytes 1 (length bundle.images)) frames,
+      length-append (number_bytes 1 (length bundle.cores)) images,
+      length-append (number_bytes 2 version) cores,
+      length-append magic (number_bytes 2 version ++ cores),
+      length-number_bytes 4 (length bundle.schedule),
+      length-number_bytes 4 (length bundle.keys),
+      length-number_bytes 4 bundle.frames,
+      length-number_bytes 1 (length bundle.images),
+      length-number_bytes 1 (length bundle.cores),
+      length-number_bytes 2 version,
+    )
 
 spelling_long : (bundle : Bundle)
     → length (spelling bundle) ≤ 20 + 8 * length bundle.keys + (12 * length bundle.images + 4096 * needs bundle.images)
@@ -80,18 +101,34 @@ spelling_long bundle =
     let cores = flat_map core_bytes bundle.cores ++ bundle.schedule in
     let images = flat_map image_bytes bundle.images ++ cores in
     let keys = flat_map key_bytes bundle.keys ++ images in
-    omega (arith, length-append (flat_map core_bytes bundle.cores) bundle.schedule,
-      length-append (flat_map image_bytes bundle.images) cores, length-append (flat_map key_bytes bundle.keys) images,
-      length-append (header_bytes bundle) keys, header_long bundle, keys_long bundle.keys, images_short bundle.images,
-      cores_long bundle.cores)
+    omega (
+      arith,
+      length-append (flat_map core_bytes bundle.cores) bundle.schedule,
+      length-append (flat_map image_bytes bundle.images) cores,
+      length-append (flat_map key_bytes bundle.keys) images,
+      length-append (header_bytes bundle) keys,
+      header_long bundle,
+      keys_long bundle.keys,
+      images_short bundle.images,
+      cores_long bundle.cores,
+    )
 
 -- 7,680 frames have room for 30 MiB of texts and data; all else is less than 2 MiB
 loadable_short : (load : Load) → IsLoadable load → length (spelling load.bundle) ≤ input_limit
 loadable_short load loadable =
     let good = loadable.grammar in
     let sum = needs_sum load.bundle.images in
-    omega (arith, spelling_long load.bundle, sum, loadable.enough, good.frames.1, good.key_count.1, good.process_count.1,
-      good.core_count.1, good.schedule_length.1)
+    omega (
+      arith,
+      spelling_long load.bundle,
+      sum,
+      loadable.enough,
+      good.frames.1,
+      good.key_count.1,
+      good.process_count.1,
+      good.core_count.1,
+      good.schedule_length.1,
+    )
 
 pub accepted_short : (bytes : List ℕ) → SomeAccepted bytes → length bytes ≤ input_limit
 accepted_short bytes (bundle, (good, spelled), (load, same, loadable)) =
