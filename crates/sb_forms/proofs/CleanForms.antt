@@ -147,7 +147,7 @@ wide_good instruction insn site value place fits =
 
 address_and_constant_good : (instruction : Instruction) (insn : Insn) (site : Site) (value : ℤ) → IsValid insn
     → instruction_of insn ≡ Some instruction → IsSite site → FitsSigned w32 value
-        → IsGood insn (address_and_constant_form instruction insn site value)
+    → IsGood insn (address_and_constant_form instruction insn site value)
 unfolding address_and_constant_form
 address_and_constant_good instruction insn site value valid listed place fits =
     let helper = first_helper instruction.form insn in

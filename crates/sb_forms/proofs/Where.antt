@@ -119,7 +119,7 @@ register_from : (modrm : Option ℕ) (rest : List ℕ) → has_memory modrm ≡ 
 register_from None rest alone = anywhere rest
 register_from (Some modrm) rest alone =
     one_more modrm rest 0 (λ is. both_ways (has_memory (Some modrm)) alone (ap (λ (m : ℕ). has_memory (Some m)) is))
-        (anywhere rest)
+    (anywhere rest)
 
 pub in_immediate : InImmediate
 in_immediate insn place valid other alone stands =
@@ -133,7 +133,7 @@ in_immediate insn place valid other alone stands =
     let last = length-append (disp_bytes insn.disp) (imm_bytes insn.imm) in
     let more = length-append (option_to_list insn.sib) (disp_bytes insn.disp ++ imm_bytes insn.imm) in
     let rest =
-          length-append (option_to_list insn.modrm) (option_to_list insn.sib ++ (disp_bytes insn.disp ++ imm_bytes insn.imm)) in
+    length-append (option_to_list insn.modrm) (option_to_list insn.sib ++ (disp_bytes insn.disp ++ imm_bytes insn.imm)) in
     let whole = length-append (front insn) (behind_opcode insn) in
     omega (arith, from, sib, disp, last, more, rest, whole)
 

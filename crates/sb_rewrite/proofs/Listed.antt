@@ -31,7 +31,7 @@ none_listed text starts none = record {
 pub spelled_push : (insns : List Insn) (insn : Insn) → spelled_bytes (insns ++ insn ∷ []) ≡ spelled_bytes insns ++ spelling insn
 spelled_push insns insn =
     flat_map-append spelling insns (insn ∷ [])
-        ∙ ap (λ (bytes : List ℕ). spelled_bytes insns ++ bytes) (append-nil (spelling insn))
+    ∙ ap (λ (bytes : List ℕ). spelled_bytes insns ++ bytes) (append-nil (spelling insn))
 
 pub starts_push : (at : ℕ) (insns : List Insn) (insn : Insn)
     → starts_from at (insns ++ insn ∷ []) ≡ starts_from at insns ++ (at + length (spelled_bytes insns)) ∷ []
@@ -41,7 +41,7 @@ starts_push at [] insn =
     ap (λ (place : ℕ). place ∷ []) here
 starts_push at (first ∷ insns) insn =
     let behind : at + length (spelling first) + length (spelled_bytes insns)
-          ≡ at + length (spelling first ++ spelled_bytes insns) =
+    ≡ at + length (spelling first ++ spelled_bytes insns) =
     omega (arith, length-append (spelling first) (spelled_bytes insns)) in
     ap (λ (later : List ℕ). at ∷ later) (starts_push (at + length (spelling first)) insns insn
     ∙ ap (λ (place : ℕ). starts_from (at + length (spelling first)) insns ++ place ∷ []) behind)

@@ -81,7 +81,7 @@ pub listed_apart : ListedApart
 unfolding NoneBegins
 listed_apart text starts at (insns, valid, whole, starts_are) (insns', rest, valid', whole', stuck, place) =
     let fronts : spelled_bytes insns ++ [] ≡ spelled_bytes insns' ++ rest =
-          append-nil (spelled_bytes insns) ∙ sym whole ∙ whole' in
+    append-nil (spelled_bytes insns) ∙ sym whole ∙ whole' in
     let same : insns ≡ insns' = same_insns insns insns' [] rest valid valid' nothing_begins stuck.1 fronts in
     let none : [] ≡ rest =
     append_cancel_left (spelled_bytes insns') [] rest (ap (λ (list : List Insn). spelled_bytes list ++ []) (sym same) ∙ fronts) in

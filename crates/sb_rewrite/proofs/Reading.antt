@@ -137,7 +137,7 @@ read_so_far text rest done of_text valid front are =
         whole = whole;
         rest_is =
             append_cancel_left (spelled_bytes done) rest (spelled_bytes found.0) (sym front ∙ whole
-                ∙ flat_map-append spelling done found.0);
+            ∙ flat_map-append spelling done found.0);
       },
       are.places_are ∙ ap (λ (list : List Insn). places text list) found.1,
     )

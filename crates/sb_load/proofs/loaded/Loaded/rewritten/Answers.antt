@@ -34,8 +34,8 @@ returns-clause-as_long c =
     let found = known load c.args.process c.index-items-process.result within c.self.invariant.0
     (rw c.items.ensures at c.index-items-process.is) in
     rw (← c.self.view_is)
-        (let same : length c.index-items-process.result.text ≡ length (text_of load.bundle.images c.args.process) =
-               omega (arith, found.most, found.least) in same)
+    (let same : length c.index-items-process.result.text ≡ length (text_of load.bundle.images c.args.process) =
+    omega (arith, found.most, found.least) in same)
 
 pub returns-clause-area : goal.returns-clause-area
 returns-clause-area c =
