@@ -22,7 +22,7 @@ mod operation;
 mod shift;
 mod size;
 
-pub use arithmetic::{sum_outcome, difference_outcome, sum};
+pub use arithmetic::{difference_outcome, sum, sum_outcome};
 pub use operated::operate;
 pub use operation::{Operation, Outcome};
 pub use size::Size;

@@ -1,12 +1,12 @@
 -- An instruction that begins bytes which all stand in memory is the one that is fetched there byte by byte.
-use Rattle.std.proofs.Common.{◌≡◌, refl, ℕ, ◌<◌, ◌++◌, List, [], Result, Ok, length, take, drop, get_or, ap, sym, ◌∙◌, arith, length-append}
-use Rattle.std.proofs.lemmas.List.{length-take-le, take-append-drop, append-nil, get_or_append_left, append_assoc}
+use Rattle.std.proofs.Common.{◌≡◌, refl, ℕ, ◌<◌, ◌++◌, List, Result, Ok, length, take, drop, get_or, ap, sym, ◌∙◌, arith, length-append}
+use Rattle.std.proofs.lemmas.List.{length-take-le, take-append-drop, get_or_append_left, append_assoc}
 use Rattle.sb_insn.specs.declared.insn.Insn.{Insn}
 use Rattle.sb_insn.specs.Spelling.{spelling}
 use Rattle.sb_insn.specs.Grammar.{IsValid, BeginsWith}
 use Rattle.sb_decode.proofs.Exact.{none_begins_another}
 use Rattle.sb_bus.specs.declared.stop.BusStop.{BusStop}
-use Rattle.sb_exec.specs.Fetching.{Stands, HasShortFronts, Fetches}
+use Rattle.sb_exec.specs.Fetching.{Stands, Fetches}
 use Rattle.sb_exec.proofs.OneFetch.{short_fronts}
 
 -- no instruction begins a proper front of a spelling

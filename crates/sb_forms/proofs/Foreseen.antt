@@ -1,6 +1,6 @@
 -- Which instructions hold the pattern, and how long they are.
-use Rattle.std.proofs.Common.{◌≡◌, ℕ, true, false, length, Some, refl, ap, ◌∙◌, arith, ℤ}
-use Rattle.std.proofs.lemmas.Bool.{both_ways, true_from_ne_false, false_from_ne_true}
+use Rattle.std.proofs.Common.{◌≡◌, ℕ, false, length, Some, refl, ap, ◌∙◌, arith, ℤ}
+use Rattle.std.proofs.lemmas.Bool.{true_from_ne_false, false_from_ne_true}
 use Rattle.sb_insn.specs.declared.insn.Insn.{Insn}
 use Rattle.sb_insn.specs.declared.insn.Op.TheVariants.{Vmfunc}
 use Rattle.sb_insn.specs.declared.insn.Imm.{Imm}

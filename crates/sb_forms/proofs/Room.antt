@@ -20,7 +20,7 @@ use Rattle.sb_forms.specs.declared.answer.Form.{Form}
 use Rattle.sb_forms.specs.Holding.{holds_pattern}
 use Rattle.sb_forms.specs.Pieces.{is_sib_0f, sib_exchanged}
 use Rattle.sb_forms.specs.Table.{Replacement, is_vmfunc, is_one_byte, is_modrm, is_add_esp_edx, jump_form, wide_constant_form, address_and_constant_form, address_form, constant_form, replacement, bytes_of, site_of, form_of}
-use Rattle.sb_forms.specs.Answers.{IsSmall, HasRoom}
+use Rattle.sb_forms.specs.Answers.{HasRoom}
 use Rattle.sb_scan.proofs.Places.{read_within}
 use Rattle.sb_forms.proofs.Held.{holds_at}
 use Rattle.sb_forms.proofs.Lengths.{spelling_length, exchanged_length}

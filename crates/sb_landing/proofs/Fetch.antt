@@ -1,14 +1,11 @@
 -- Each row of the server page is fetched where a view shows that page.
-use Rattle.std.proofs.Common.{◌≡◌, ◌∙◌, sym, ap, ℕ, zero, suc, ◌+◌, ◌/◌, ◌%◌, ◌^◌, ◌<◌, true, false, List, [], ◌++◌, ◌==◌, length, get_or, take, drop, refl, arith, Ok, append_assoc}
-use Rattle.std.specs.Prelude.{Some, Result}
-use Rattle.std.proofs.lemmas.List.{take-append-drop, append-nil, length-take-le, length-append, get_or-drop, get_or_append_left}
+use Rattle.std.proofs.Common.{◌≡◌, ◌∙◌, sym, ap, ℕ, zero, suc, ◌+◌, ◌/◌, ◌%◌, ◌^◌, ◌<◌, true, false, List, ◌++◌, ◌==◌, length, get_or, drop, refl, arith, Ok}
+use Rattle.std.specs.Prelude.{Some}
+use Rattle.std.proofs.lemmas.List.{get_or-drop, get_or_append_left}
 use Rattle.sb_memory.specs.declared.address.Access.TheVariants.{Fetch}
-use Rattle.sb_insn.specs.declared.insn.Insn.{Insn}
 use Rattle.sb_insn.specs.Spelling.{spelling}
-use Rattle.sb_insn.specs.Grammar.{IsValid}
-use Rattle.sb_bus.specs.declared.stop.BusStop.{BusStop}
 use Rattle.sb_exec.proofs.OneFetch.{spelled_fetches}
-use Rattle.sb_exec.specs.Fetching.{bytes_from_fetch, Stands, HasShortFronts, Fetches, FetchesOn, fetch_of, after_fetches}
+use Rattle.sb_exec.specs.Fetching.{bytes_from_fetch, FetchesOn, fetch_of, after_fetches}
 use Rattle.sb_tramp.specs.Page.{Row, StandsIn}
 use Rattle.sb_tramp.specs.Server.{server_page}
 use Rattle.sb_state.specs.declared.page.PageName.TheVariants.{ServerTrampoline}

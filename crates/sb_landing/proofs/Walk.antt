@@ -1,19 +1,15 @@
 -- A phase that decides nothing.
-use Rattle.std.proofs.Common.{◌≡◌, ◌∙◌, sym, ap, ℕ, zero, suc, ◌<◌, List, [], ◌∷◌, length, refl, slice_set, Ok, arith}
-use Rattle.std.specs.Prelude.{Option, Some, None, slice_get, unwrap_or}
-use Rattle.sb_memory.specs.declared.address.Access.TheVariants.{Read}
+use Rattle.std.proofs.Common.{◌≡◌, ◌∙◌, ap, ℕ, zero, suc, ◌<◌, List, [], ◌∷◌, length, refl, slice_set, Ok, arith}
+use Rattle.std.specs.Prelude.{Option, None, slice_get, unwrap_or}
 use Rattle.sb_insn.specs.declared.registers.Regs.{Regs}
 use Rattle.sb_exec.specs.declared.action.Effect.TheVariants.{Next}
 use Rattle.sb_exec.specs.declared.action.Load.{Load}
-use Rattle.sb_exec.specs.declared.action.Load.TheVariants as load
-use Rattle.sb_exec.specs.Size.{size_bytes}
-use Rattle.sb_exec.specs.Access.{loaded_from, byte_for}
 use Rattle.sb_exec.specs.Execution.{Execution, execution_of}
 use Rattle.sb_exec.specs.LoadThenStore.{row_load_answer}
 use Rattle.sb_exec.proofs.Accesses.{row_without_store_runs}
 use Rattle.sb_state.specs.declared.state.Flight.{Flight}
 use Rattle.sb_trace.specs.State.{State, flight_at, with_flight}
-use Rattle.sb_trace.specs.PlainMemory.{plain, plain_byte}
+use Rattle.sb_trace.specs.PlainMemory.{plain}
 use Rattle.sb_trace.specs.Step.{execution_in_view}
 use Rattle.sb_landing.specs.Moved.{landing_regs}
 use Rattle.sb_landing.specs.Rows.{row_at}

@@ -1,5 +1,5 @@
 -- The state that a loaded bundle starts.
-use Rattle.std.specs.Prelude.{ℕ, ◌-◌, List, [], ◌∷◌, map}
+use Rattle.std.specs.Prelude.{◌-◌, List, [], ◌∷◌, map}
 use Rattle.sb_state.specs.State.{State}
 use Rattle.sb_state.specs.Start.{ProcessImage, ThreadEntry, start_state}
 use Rattle.sb_bundle.specs.declared.bundle.Image.{Image}

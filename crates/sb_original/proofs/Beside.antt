@@ -17,7 +17,7 @@ use Rattle.sb_exec.specs.Access.{bytes_from, number_of, loaded_from, store_answe
 use Rattle.sb_exec.specs.Interface.{Interface}
 use Rattle.sb_exec.specs.Size.{size_bytes}
 use Rattle.sb_exec.specs.Row.{Row, MemoryAccess, Loads, LoadsToWrite, Stores, load_accesses, store_accesses, accesses}
-use Rattle.sb_exec.specs.Execution.{Run, run, run_on, execution_of, access_answer, meaning_after, execution_by, effect_after, registers_after}
+use Rattle.sb_exec.specs.Execution.{Run, run, run_on, execution_of, execution_by, effect_after, registers_after}
 use Rattle.sb_exec.specs.Simulation.{told, IsAt, IsRowAt, AgreeAt, StoresKeepAt}
 use Rattle.sb_exec.proofs.Simulation.{SameRun, run_agrees_at}
 use Rattle.sb_original.specs.Words.{Words}

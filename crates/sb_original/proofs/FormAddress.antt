@@ -33,7 +33,6 @@ use Rattle.sb_original.proofs.Pieces.{save_does, restore_does}
 use Rattle.sb_original.proofs.Chains.{regs_same, restored_1, before_rip, jump_does}
 use Rattle.sb_original.proofs.Addresses.{address_loads}
 use Rattle.sb_original.proofs.Addresses.{helper_16}
-use Rattle.sb_forms.proofs.QuietPieces.{number_7}
 
 -- ---- what every form with a slot needs
 

@@ -1,10 +1,10 @@
 -- The law of 01 D4 behind 0F, in place.
-use Rattle.std.proofs.Common.{◌≡◌, ℕ, Bool, true, false, Option, Some, None, refl, sym, ap, subst}
+use Rattle.std.proofs.Common.{◌≡◌, ℕ, Bool, true, false, Option, Some, None, refl, sym, subst}
 use Rattle.std.specs.Prelude.{◌&&◌}
-use Rattle.std.proofs.lemmas.Bool.{and_parts, eqb-true}
+use Rattle.std.proofs.lemmas.Bool.{and_parts}
 use Rattle.sb_insn.specs.declared.insn.Insn.{Insn}
 use Rattle.sb_insn.specs.declared.insn.Op.{Op}
-use Rattle.sb_insn.specs.declared.insn.Op.TheVariants.{One, Two, Endbr, Vmfunc}
+use Rattle.sb_insn.specs.declared.insn.Op.TheVariants.{One}
 use Rattle.sb_insn.specs.declared.insn.Disp.{Disp}
 use Rattle.sb_insn.specs.declared.insn.Disp.TheVariants as disp
 use Rattle.sb_insn.specs.declared.insn.Imm.{Imm}

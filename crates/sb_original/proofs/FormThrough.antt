@@ -69,7 +69,7 @@ call_same insn main regs own other same next =
           };
       registers =
           λ loaded. ap (λ (to : ℕ). at_rip to (regs_after_push regs))
-              (rm_same (hides []) Quadword insn regs main regs loaded same);
+          (rm_same (hides []) Quadword insn regs main regs loaded same);
     })))
 
 pub jump_exchanged : (insn : Insn) (instruction : Instruction) (regs : Regs) → IsJumpWork insn instruction

@@ -13,27 +13,23 @@ use Rattle.sb_insn.specs.declared.opcode_map.Instruction.{Instruction}
 use Rattle.sb_insn.specs.OpcodeMap.{one_byte}
 use Rattle.sb_insn.specs.Listing.{instruction_of, operand_for}
 use Rattle.sb_insn.specs.Spelling.{spelling}
-use Rattle.sb_alu.specs.declared.size.Size.{Size}
 use Rattle.sb_alu.specs.declared.size.Size.TheVariants.{Quadword}
 use Rattle.sb_insn.specs.Branch.{imm_value}
 use Rattle.sb_exec.specs.declared.action.Action.TheVariants.{Compute}
 use Rattle.sb_alu.specs.declared.operation.Operation.TheVariants as operation
-use Rattle.sb_exec.specs.declared.action.Place.{Place}
-use Rattle.sb_exec.specs.declared.action.Place.TheVariants as place
 use Rattle.sb_exec.specs.declared.action.Effect.TheVariants.{Next}
-use Rattle.sb_exec.specs.declared.action.MemoryUse.TheVariants as memory_use
 use Rattle.sb_exec.specs.declared.action.Load.TheVariants as load
 use Rattle.sb_exec.specs.declared.action.Store.TheVariants as store
 use Rattle.sb_exec.specs.declared.action.After.{After}
 use Rattle.sb_exec.specs.Interface.{Interface}
 use Rattle.sb_exec.specs.Size.{low}
-use Rattle.sb_exec.specs.Operand.{general, register_after_write, next_rip, opcode_number, operand_size}
+use Rattle.sb_exec.specs.Operand.{general, register_after_write, next_rip, opcode_number}
 use Rattle.sb_exec.specs.Address.{operand_address, rm_place}
 use Rattle.sb_exec.specs.Operated.{operation_outcome}
 use Rattle.sb_exec.specs.WriteBack.{regs_at_next, without_store, write_result, destination, first_operand, last_operand, result_or_nothing, compute_result}
 use Rattle.sb_exec.specs.Row.{Row}
 use Rattle.sb_exec.specs.Actions.{action_by, action_of}
-use Rattle.sb_exec.specs.Rows.{rm_use, load_by, store_by, load_of, store_of, after_action, effect_of, row_by, row_of}
+use Rattle.sb_exec.specs.Rows.{rm_use, load_of, store_of, after_action, effect_of, row_by, row_of}
 use Rattle.sb_forms.specs.declared.helper.Helper.{Helper}
 use Rattle.sb_forms.specs.declared.slots.Site.{Site}
 use Rattle.sb_forms.specs.Rex.{rex_b}

@@ -359,7 +359,7 @@ jump_is from to regs = refl
 
 jump_through_is : (regs : Regs)
     → row_of (jump_through scratch_word) regs
-        ≡ load_row 0x70004010 Quadword (λ loaded. without_store (at_rip (loaded % 2 ^ 64) regs))
+    ≡ load_row 0x70004010 Quadword (λ loaded. without_store (at_rip (loaded % 2 ^ 64) regs))
 unfolding row_of action_of action_by instruction_of operand_for one_byte group_operand jump_through load_of store_of after_action
     effect_of last_operand rm_use rm_place operand_address low
 jump_through_is regs = refl

@@ -1,9 +1,8 @@
 -- The laws, as statements.
-use Rattle.std.specs.Prelude.{◌≡◌, ℕ, ◌+◌, ◌%◌, ◌^◌, ◌<◌, ◌==◌, Bool, true, false, List, [], ◌∷◌, Some, FitsSigned, ℤ, ◌⊎◌, length}
+use Rattle.std.specs.Prelude.{◌≡◌, ℕ, ◌+◌, ◌%◌, ◌^◌, ◌<◌, Bool, true, List, [], ◌∷◌, Some, FitsSigned, ℤ, ◌⊎◌, length}
 use Rattle.std.specs.Int.{w32}
 use Rattle.sb_insn.specs.declared.insn.Insn.{Insn}
 use Rattle.sb_insn.specs.declared.registers.Regs.{Regs}
-use Rattle.sb_insn.specs.declared.opcode_map.OperandForm.{OperandForm}
 use Rattle.sb_insn.specs.declared.opcode_map.OperandForm.TheVariants as form
 use Rattle.sb_insn.specs.declared.opcode_map.Instruction.{Instruction}
 use Rattle.sb_insn.specs.Fields.{mod_field}
@@ -16,10 +15,9 @@ use Rattle.sb_exec.specs.Rows.{row_of}
 use Rattle.sb_exec.specs.Execution.{execution_of}
 use Rattle.sb_forms.specs.declared.helper.Helper.{Helper}
 use Rattle.sb_forms.specs.declared.slots.Site.{Site}
-use Rattle.sb_forms.specs.Registers.{number_of, is_named, first_helper, second_helper}
 use Rattle.sb_forms.specs.Pieces.{is_sib_0f, sib_exchanged, save, restore, load_number, add_number, save_half, scratch_word, upper_half, jump_insn, jump_through}
 use Rattle.sb_forms.specs.Mains.{with_displacement}
-use Rattle.sb_forms.specs.Table.{nop, InPlace, move_outcome, bytes_of, form_of, is_modrm, is_add_esp_edx, add_from_rm, replacement, jump_form, wide_constant_form, has_memory, address_form, constant_form, address_and_constant_form}
+use Rattle.sb_forms.specs.Table.{nop, InPlace, move_outcome, bytes_of, is_modrm, is_add_esp_edx, add_from_rm, replacement, jump_form, wide_constant_form, has_memory, address_form, constant_form, address_and_constant_form}
 use Rattle.sb_forms.specs.Answers.{IsSmall}
 use Rattle.sb_forms.specs.Places.{HasForm}
 use Rattle.sb_original.specs.Words.{ScratchWord, Words, HasWords}

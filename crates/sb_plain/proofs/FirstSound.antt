@@ -1,5 +1,5 @@
 -- The state that a loaded bundle starts is sound.
-use Rattle.std.proofs.Common.{ℕ, ◌-◌, List, [], ◌∷◌, map}
+use Rattle.std.proofs.Common.{◌-◌, List, [], ◌∷◌, map}
 use Rattle.std.proofs.Math.Logic.{∥∥₁_elim}
 use Rattle.std.specs.List.{AllByRecursion, AllByRecursion-prop}
 use Rattle.sb_bundle.specs.declared.bundle.Image.{Image}

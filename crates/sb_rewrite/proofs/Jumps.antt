@@ -1,5 +1,5 @@
 -- A direct jump or call that leads where it may does not hold the bytes of VMFUNC.
-use Rattle.std.proofs.Common.{◌≡◌, ℕ, ◌+◌, ◌%◌, ◌^◌, ◌<◌, ◌≤◌, if◌then◌else◌, List, [], ◌∷◌, length, Option, Some, None, refl, ap, subst, arith, inl, inr, ⊎_elim, zero, suc, length-append}
+use Rattle.std.proofs.Common.{◌≡◌, ℕ, ◌+◌, ◌<◌, ◌≤◌, List, [], ◌∷◌, length, Option, Some, None, refl, subst, arith, inl, inr, ⊎_elim, zero, suc, length-append}
 use Rattle.std.specs.List.{Contains}
 use Rattle.sb_insn.specs.declared.insn.Insn.{Insn}
 use Rattle.sb_insn.specs.Spelling.{spelling}

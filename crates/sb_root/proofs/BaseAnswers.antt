@@ -63,7 +63,7 @@ base_answers root memory stands =
           by_rights memory whole base at access from below (rights_in memory (at / 4096) == 0) refl;
       others = λ at access differ no_root no_shared. refuses memory base_tables base_entries at access whole base.tables
           (λ few. none_by memory (at / 4096) differ no_root (λ above. absurd (no_shared above few))
-              (nat_lt (at / 4096) 512) refl);
+          (nat_lt (at / 4096) 512) refl);
     }
 
 -- changes elsewhere leave the rights of each page

@@ -1,14 +1,12 @@
 -- Names whose places are known.
-use Rattle.std.proofs.Common.{◌≡◌, ◌∙◌, sym, ap, subst, ℕ, ◌-◌, Bool, true, false, List, [], ◌∷◌, ◌++◌, length, take, replicate, set, refl}
+use Rattle.std.proofs.Common.{◌≡◌, ◌∙◌, sym, subst, ℕ, List, [], ◌∷◌, ◌++◌, replicate, set}
 use Rattle.std.specs.List.{Contains}
-use Rattle.std.specs.Prelude.{Option, Some, None, IfSome, slice_index_or, if◌then◌else◌}
-use Rattle.std.specs.List.{All}
+use Rattle.std.specs.Prelude.{Option, Some, None, slice_index_or}
 use Rattle.std.proofs.lemmas.List.Elements.{All-contains, All-replicate, All-set}
 use Rattle.sb_state.specs.declared.page.PageName.{PageName}
 use Rattle.sb_state.specs.declared.page.Page.{Page}
-use Rattle.sb_state.specs.PageName.{same_name}
 use Rattle.sb_state.specs.declared.pages.Known.{Known}
-use Rattle.sb_state.specs.Places.{place_of, either, IsIndex, known_at, IsKnown, AreKnown, KeepsKnown, Remembers}
+use Rattle.sb_state.specs.Places.{place_of, either, known_at, IsKnown, AreKnown, KeepsKnown, Remembers}
 use Rattle.sb_state.proofs.Places.{place_pushed}
 
 -- the same pages

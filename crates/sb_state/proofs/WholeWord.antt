@@ -1,14 +1,13 @@
 -- A word that is stored in one page.
-use Rattle.std.proofs.Common.{◌≡◌, ℕ, zero, suc, ◌+◌, ◌*◌, ◌/◌, ◌%◌, ◌^◌, ◌<◌, ◌≤◌, Bool, true, false, List, [], ◌∷◌, Result, Ok, Err, refl, ap, sym, ◌∙◌, arith}
-use Rattle.std.specs.Prelude.{Option, Some, None, if◌then◌else◌, slice_set}
-use Rattle.std.specs.Option.{option_map}
+use Rattle.std.proofs.Common.{◌≡◌, ℕ, zero, suc, ◌+◌, ◌/◌, ◌%◌, ◌^◌, ◌<◌, ◌≤◌, Bool, true, false, List, [], ◌∷◌, Ok, Err, refl, ap, sym, ◌∙◌, arith}
+use Rattle.std.specs.Prelude.{Some, if◌then◌else◌, slice_set}
 use Rattle.std.specs.Int.{byte_at, bytes_low_first}
 use Rattle.std.proofs.lemmas.List.Edits.{sets}
 use Rattle.std.proofs.Math.Nat.{pow-suc, div-div-eq-div-mul}
 use Rattle.sb_memory.specs.declared.address.Access.TheVariants.{Write}
 use Rattle.sb_memory.specs.Words.{put_word}
 use Rattle.sb_bus.specs.declared.stop.BusStop.{BusStop}
-use Rattle.sb_bus.specs.Access.{bytes_from, byte_for, store_answer}
+use Rattle.sb_bus.specs.Access.{byte_for, store_answer}
 use Rattle.sb_bus.proofs.Loads.{stored_where_loaded, stops_where_loaded}
 use Rattle.sb_state.specs.declared.page.PageName.{PageName}
 use Rattle.sb_state.specs.declared.page.Page.{Page}

@@ -1,5 +1,5 @@
 -- The state at the start of images and entries (docs/FORMATS.md, "The start").
-use Rattle.std.specs.Prelude.{ℕ, zero, suc, ◌+◌, ◌-◌, ◌*◌, ◌/◌, List, [], ◌∷◌, ◌++◌, length, take, drop, map, replicate, slice_set, None}
+use Rattle.std.specs.Prelude.{ℕ, zero, suc, ◌+◌, ◌-◌, ◌*◌, List, [], ◌∷◌, ◌++◌, length, take, drop, map, replicate, slice_set, None}
 pub use Rattle.sb_memory.specs.Pages.{page_count}
 use Rattle.sb_insn.specs.declared.registers.Regs.{Regs}
 use Rattle.sb_state.specs.declared.end_kind.EndKind.TheVariants.{Running}

@@ -1,8 +1,7 @@
 -- Where walks lead for the pool page of a process, and what register leaves of a state.
-use Rattle.std.proofs.Common.{◌≡◌, ◌≢◌, ◌∙◌, sym, ap, subst, ℕ, ◌+◌, ◌-◌, ◌*◌, ◌/◌, ◌^◌, ◌<◌, ◌≤◌, Bool, true, false, List, [], ◌∷◌, length, Result, Ok, Err, refl, lit≤, arith}
-use Rattle.std.specs.Prelude.{Option, Some, None, IfOk, if◌then◌else◌}
+use Rattle.std.proofs.Common.{◌≡◌, ◌∙◌, sym, ap, subst, ℕ, ◌+◌, ◌-◌, ◌*◌, ◌/◌, ◌^◌, ◌<◌, ◌≤◌, Bool, true, false, List, [], ◌∷◌, length, Result, Ok, Err, refl, lit≤, arith}
+use Rattle.std.specs.Prelude.{Some, None, IfOk, if◌then◌else◌}
 use Rattle.std.specs.Option.{option_map}
-use Rattle.std.proofs.lemmas.List.{length-set}
 use Rattle.sb_memory.specs.Outcome.{and_then}
 use Rattle.sb_memory.specs.Physical.{Physical, frame_count}
 use Rattle.sb_memory.specs.Reading.{with_bytes}
@@ -23,13 +22,10 @@ use Rattle.sb_root.proofs.Frames.{only_one}
 use Rattle.sb_state.specs.declared.page.PageName.{PageName}
 use Rattle.sb_state.specs.declared.page.PageName.TheVariants.{Pool, ServerStack}
 use Rattle.sb_state.specs.declared.page.Page.{Page}
-use Rattle.sb_state.specs.declared.state.Registration.{Registration}
-use Rattle.sb_state.specs.declared.state.Thread.{Thread}
 use Rattle.sb_trace.specs.PageName.{mode_of, same_name}
 use Rattle.sb_trace.specs.PageWords.{with_word}
-use Rattle.sb_trace.specs.State.{State, Process, find_page, with_page_bytes, contents, with_contents, thread_at, process_at}
-use Rattle.sb_trace.specs.Windows.{name_at}
-use Rattle.sb_trace.specs.SyscallRegister.{with_registration, with_server}
+use Rattle.sb_trace.specs.State.{State, find_page, with_page_bytes, contents, with_contents, thread_at, process_at}
+use Rattle.sb_trace.specs.SyscallRegister.{with_server}
 use Rattle.sb_state.proofs.Names.{name_other, name_same}
 use Rattle.sb_state.proofs.PageLists.{found_other, found_same, with_bytes as page_with}
 use Rattle.sb_shows.specs.Placement.{Placement, Holds, IsThere, is_own, guest_page, leaf_for, leaf_if, entry_of, entries_of}

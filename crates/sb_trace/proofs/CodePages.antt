@@ -1,6 +1,6 @@
 -- Changes of pages by which VMFUNC's bytes come to stand nowhere new.
 use Rattle.std.proofs.Common.{◌≡◌, ◌∙◌, sym, ap, subst, ℕ, ◌+◌, ◌/◌, ◌%◌, Bool, true, false, List, [], ◌∷◌, ◌++◌, length, refl}
-use Rattle.std.specs.Prelude.{Option, Some, None, if◌then◌else◌}
+use Rattle.std.specs.Prelude.{Option, Some, None}
 use Rattle.std.specs.Option.{option_map, option_and_then}
 use Rattle.sb_memory.specs.declared.address.Access.TheVariants.{Fetch, Write}
 use Rattle.sb_memory.specs.Words.{put_word}

@@ -1,6 +1,6 @@
 -- What the kernel does in a step: faults, calls through VMFUNC, and system calls, each by its cases.
-use Rattle.std.proofs.Common.{◌≡◌, ◌≢◌, ◌∙◌, sym, subst, ℕ, ◌-◌, ◌*◌, ◌^◌, Bool, true, false, List, [], ◌∷◌, ◌++◌, ◌==◌, refl, arith, inl, inr}
-use Rattle.std.specs.Prelude.{Option, Some, None, if◌then◌else◌, nat_le, nat_lt, not, ◌||◌, length}
+use Rattle.std.proofs.Common.{◌≡◌, ◌≢◌, ◌∙◌, sym, subst, ℕ, ◌-◌, ◌^◌, Bool, true, false, List, [], ◌∷◌, ◌++◌, ◌==◌, refl, inl, inr}
+use Rattle.std.specs.Prelude.{Option, Some, None, if◌then◌else◌}
 use Rattle.sb_insn.specs.declared.registers.Regs.{Regs}
 use Rattle.sb_bus.specs.declared.stop.FaultKind.{FaultKind}
 use Rattle.sb_bus.specs.declared.stop.FaultKind.TheVariants as kind
@@ -11,7 +11,7 @@ use Rattle.sb_state.specs.declared.end_kind.EndKind.TheVariants.{Ended, Faulted}
 use Rattle.sb_state.specs.declared.page.PageName.TheVariants.{Pool}
 use Rattle.sb_state.specs.declared.state.Binding.{Binding}
 use Rattle.sb_state.specs.declared.state.Thread.{Thread}
-use Rattle.sb_state.specs.State.{State, thread_at, with_thread, with_regs, with_end, with_view, process_at, registration_at, with_contents}
+use Rattle.sb_state.specs.State.{State, thread_at, with_thread, with_regs, with_end, with_view, registration_at, with_contents}
 use Rattle.sb_state.specs.PageWords.{with_word}
 use Rattle.sb_state.specs.Registers.{rax, rsi, rdi, eax, ecx}
 use Rattle.sb_trace.specs.Home.{Outcome, fault_outcome, server_fault_regs, home_address}

@@ -1,5 +1,5 @@
 -- The text of a run: there is one, and the laws hold of the run.
-use Rattle.std.proofs.Common.{◌≡◌, ◌∙◌, sym, ap, List, take}
+use Rattle.std.proofs.Common.{◌∙◌, sym, ap, List, take}
 use Rattle.sb_trace.specs.declared.event.Line.{Line}
 use Rattle.sb_state.specs.State.{State}
 use Rattle.sb_trace.specs.End.{end_of}

@@ -1,8 +1,7 @@
 -- VMFUNC is fetched where its bytes stand, and where it is fetched its bytes stand.
-use Rattle.std.proofs.Common.{◌≡◌, ◌∙◌, sym, ap, subst, ℕ, ◌+◌, ◌<◌, Bool, true, false, List, [], ◌++◌, length, take, drop, refl, arith, Result, Ok, append_assoc, length-append, rules}
+use Rattle.std.proofs.Common.{◌≡◌, ◌∙◌, ap, subst, ℕ, ◌+◌, ◌<◌, Bool, true, false, List, ◌++◌, length, refl, arith, Result, Ok, length-append, rules}
 use Rattle.std.specs.Prelude.{Option, Some, None, IsTrue}
 use Rattle.std.specs.Option.{option_to_list}
-use Rattle.std.proofs.lemmas.List.{take-append-drop, length-take-le, append-nil}
 use Rattle.sb_insn.specs.declared.insn.Insn.{Insn}
 use Rattle.sb_insn.specs.declared.insn.Op.{Op}
 use Rattle.sb_insn.specs.declared.insn.Op.TheVariants.{Vmfunc}
@@ -14,9 +13,8 @@ use Rattle.sb_insn.specs.OpcodeMap.{cell_of}
 use Rattle.sb_insn.specs.Fields.{is_modrm_field, is_sib_field, disp_kind_of, kind_of_disp, rule_of, imm_kind_of, kind_of_imm}
 use Rattle.sb_insn.specs.Spelling.{spelling, front_bytes, disp_bytes, imm_bytes}
 use Rattle.sb_insn.specs.Grammar.{IsValid}
-use Rattle.sb_decode.proofs.Exact.{none_begins_another}
 use Rattle.sb_bus.specs.declared.stop.BusStop.{BusStop}
-use Rattle.sb_exec.specs.Fetching.{Stands, HasShortFronts, Fetches}
+use Rattle.sb_exec.specs.Fetching.{Stands, Fetches}
 use Rattle.sb_scan.specs.Pattern.{pattern}
 use Rattle.sb_tramp.specs.Forms.{opcode_alone}
 use Rattle.sb_exec.proofs.OneFetch.{short_fronts}

@@ -4,8 +4,6 @@ use Rattle.sb_insn.specs.declared.registers.Regs.{Regs}
 use Rattle.sb_abi.specs.declared.call.CallRefusal.{CallRefusal}
 use Rattle.sb_abi.specs.declared.call.CallRefusal.TheVariants.{Pattern}
 use Rattle.sb_calls.specs.Refusals.{protect_refusal}
-use Rattle.sb_state.specs.declared.page.Page.{Page}
-use Rattle.sb_state.specs.declared.page.PageName.{PageName}
 use Rattle.sb_state.specs.declared.page.PageName.TheVariants.{Heap}
 use Rattle.sb_state.specs.State.{State, Process, with_mode, process_at}
 use Rattle.sb_trace.specs.Home.{Outcome}

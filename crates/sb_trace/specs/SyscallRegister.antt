@@ -1,5 +1,5 @@
 -- System call 2, register: the process becomes a server.
-use Rattle.std.specs.Prelude.{ℕ, ◌+◌, ◌-◌, ◌*◌, ◌%◌, ◌^◌, ◌==◌, Bool, true, false, List, [], ◌∷◌, ◌++◌, Option, Some, None, if◌then◌else◌, slice_set}
+use Rattle.std.specs.Prelude.{ℕ, ◌-◌, ◌*◌, ◌%◌, ◌^◌, ◌==◌, Bool, true, false, List, ◌++◌, Option, Some, None, if◌then◌else◌, slice_set}
 use Rattle.sb_insn.specs.declared.registers.Regs.{Regs}
 use Rattle.sb_abi.specs.declared.call.CallRefusal.{CallRefusal}
 use Rattle.sb_abi.specs.declared.space.TheConstants.{STACK_PAGES, TOP_WORD}

@@ -1,5 +1,5 @@
 -- There are as many rewritten texts as processes, and their areas are small.
-use Rattle.std.proofs.Common.{◌≡◌, ◌≤◌, ◌∙◌, ap, length, arith}
+use Rattle.std.proofs.Common.{◌≡◌, ◌∙◌, ap, length, arith}
 use Rattle.sb_load.proofs.Parts.{as_many}
 use Rattle.sb_load.proofs.Sizes.{small_areas}
 use Rattle.sb_load.proofs.loading.load.Goals as goal

@@ -1,8 +1,7 @@
-use Rattle.std.proofs.Common.{rules, ◌≡◌, ◌%◌, Ok, sym, length, drop}
-use Rattle.std.specs.Prelude.{IfSome, Some}
+use Rattle.std.proofs.Common.{rules, ◌≡◌, ◌%◌, Ok, sym, drop}
+use Rattle.std.specs.Prelude.{IfSome}
 use Rattle.sb_insn.specs.Grammar.{BeginsWith}
 use Rattle.sb_memory.specs.declared.address.Access.TheVariants.{Fetch}
-use Rattle.sb_state.specs.State.{find_page}
 use Rattle.sb_state.specs.Reach.{reached}
 use Rattle.sb_plain.proofs.InPage.{found_in_page}
 use Rattle.sb_plain.proofs.instruction.fetch_in_page.Goals as goal

@@ -1,8 +1,7 @@
 -- Each process of the bundle has a rewritten text.
-use Rattle.std.proofs.Common.{◌≡◌, ◌<◌, ◌∙◌, ap, length, get_or, subst, arith}
-use Rattle.sb_rewrite.specs.Output.{Output}
+use Rattle.std.proofs.Common.{◌≡◌, ◌<◌, ◌∙◌, ap, length, arith}
 use Rattle.sb_load.specs.Loading.{Load, text_of, rewritten_of}
-use Rattle.sb_load.proofs.Known.{IsKnown, text_count, is_of, known}
+use Rattle.sb_load.proofs.Known.{text_count, is_of, known}
 use Rattle.sb_load.proofs.loaded.Loaded.rewritten.Goals as goal
 
 pub bounds-items-process : goal.bounds-items-process

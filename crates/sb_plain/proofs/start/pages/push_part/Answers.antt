@@ -1,4 +1,4 @@
-use Rattle.std.proofs.Common.{◌<◌, ◌++◌, ◌∷◌, [], List, ℕ, length, ap, ◌∙◌, rules}
+use Rattle.std.proofs.Common.{◌<◌, ◌++◌, ◌∷◌, [], ℕ, length, ap, ◌∙◌, rules}
 use Rattle.sb_state.specs.State.{page_with}
 use Rattle.sb_state.specs.Start.{padded_page, page_of, page_count}
 use Rattle.sb_plain.specs.Start.{part_name, part_filler}

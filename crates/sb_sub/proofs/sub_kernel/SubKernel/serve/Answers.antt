@@ -1,4 +1,4 @@
-use Rattle.std.proofs.Common.{◌≡◌, ◌≢◌, ◌∙◌, sym, ap, subst, rules, ℕ}
+use Rattle.std.proofs.Common.{◌≢◌, ◌∙◌, sym, ap, subst, rules, ℕ}
 use Rattle.sb_trace.specs.Registers.{rax, rdi}
 use Rattle.sb_trace.specs.declared.event.Event.TheVariants as event
 use Rattle.sb_sub.specs.Serving.{Serves, entered}
