@@ -1,30 +1,50 @@
--- What holds of the run behind a report (docs/LAWS.md).
+-- What holds of the run behind a text (docs/LAWS.md).
 use Rattle.std.specs.Prelude.{ℕ, List, Option, Ok}
 use Rattle.sb_bundle.specs.declared.bundle.Bundle.{Bundle}
 use Rattle.sb_load.specs.Loading.{Load, Loads}
 use Rattle.sb_load.specs.FirstState.{first_state}
+use Rattle.sb_port.specs.Port.{Appended}
+use Rattle.sb_trace.specs.declared.end.EndState.{EndState}
+use Rattle.sb_trace.specs.declared.event.Line.{Line}
 use Rattle.sb_trace.specs.Report.{report_text}
 use Rattle.sb_trace.specs.Laws.{IsTextOfLawfulRun}
-use Rattle.skybridge.specs.declared.words.Command.TheVariants.{OfBundle}
+use Rattle.skybridge.specs.declared.words.Command.{Command}
+use Rattle.skybridge.specs.declared.words.Command.TheVariants.{OfBundle, Generate}
 use Rattle.skybridge.specs.declared.words.BundleCommand.{BundleCommand}
 use Rattle.skybridge.specs.declared.words.BundleCommand.TheVariants.{Replay, Plain}
 use Rattle.skybridge.specs.Words.{AreWordsOf}
-use Rattle.skybridge.specs.Output.{IsOutput, ReportedAs}
+use Rattle.skybridge.specs.Generator.{generated}
+use Rattle.skybridge.specs.Summary.{summary_text}
+use Rattle.skybridge.specs.Output.{IsOutput, IsMade, ReportedAs}
 
--- the report of a run of which the laws hold: without its landing lines it is a run of the machine that calls in one step,
--- and in each of its states VMFUNC's bytes may be fetched at one address alone
-abbrev pub IsLawfulReport : Bundle → List ℕ → Type 0
-IsLawfulReport bundle text =
+-- The text of a run of the bundle of which the laws hold: without its landing lines it is a run of the machine that calls in
+-- one step, and in each of its states VMFUNC's bytes may be fetched at one address alone.
+abbrev pub IsLawfulText : (List Line → EndState → List ℕ) → Bundle → List ℕ → Type 0
+IsLawfulText text_of bundle text =
     (load : Load) × Loads bundle (Ok load)
-    × IsTextOfLawfulRun report_text (first_state load) load.bundle.schedule text
+    × IsTextOfLawfulRun text_of (first_state load) load.bundle.schedule text
 
 -- what a command writes, where the laws hold of the run that a report is of
 unfoldable pub IsLawfulOutput : BundleCommand → Bundle → List ℕ → Type 0
-IsLawfulOutput Replay bundle text = IsLawfulReport bundle text
-IsLawfulOutput Plain bundle text = IsLawfulReport bundle text
+IsLawfulOutput Replay bundle text = IsLawfulText report_text bundle text
+IsLawfulOutput Plain bundle text = IsLawfulText report_text bundle text
 IsLawfulOutput command bundle text = IsOutput command bundle text
 
--- the words are a command that reads a bundle, an accepted one was read, and the command's text was appended
+-- the summary of such a run of the generated bundle
+abbrev pub IsLawfulSummary : ℕ → List ℕ → Type 0
+IsLawfulSummary number text = IsLawfulText (summary_text number) (generated number) text
+
+-- what the other commands write, where the laws hold of the run that a summary is of
+abbrev pub IsLawfullyMade : Command → List ℕ → Type 0
+IsLawfullyMade (Generate number) text = IsLawfulSummary number text
+IsLawfullyMade command text = IsMade command text
+
+-- an accepted bundle was read, if the command reads one, and the command's text was appended
+abbrev pub WroteLawfullyOf : Command → Option (List ℕ) → Option (List ℕ) → Option (List ℕ) → Option (List ℕ) → Type 0
+WroteLawfullyOf (OfBundle command) left left' held held' = ReportedAs (IsLawfulOutput command) left left' held held'
+WroteLawfullyOf command left left' held held' = (text : List ℕ) × IsLawfullyMade command text × Appended held held' text
+
+-- the words are a command, whose text was written
 abbrev pub WroteLawfully : List (List ℕ) → Option (List ℕ) → Option (List ℕ) → Option (List ℕ) → Option (List ℕ) → Type 0
 WroteLawfully words left left' held held' =
-    (command : BundleCommand) × AreWordsOf (OfBundle command) words × ReportedAs (IsLawfulOutput command) left left' held held'
+    (command : Command) × AreWordsOf command words × WroteLawfullyOf command left left' held held'

@@ -5,6 +5,7 @@ ghost use Rattle.sb_bundle.specs.Spelling.{spelling};
 ghost use Rattle.sb_load.specs.Loading.{Loads};
 ghost use Rattle.skybridge.specs.Generator.{generated};
 ghost use Rattle.skybridge.specs.Summary.{IsSummary};
+ghost use Rattle.skybridge.specs.Lawful.{IsLawfulSummary};
 
 use crate::bundle_commands::whole_run;
 use crate::generator::gen_bundle;
@@ -30,8 +31,10 @@ fn load_generated(alloc: Global, number: u64) -> Result<Loaded, AllocError>
 }
 
 /// The summary of the run of that bundle.
+#[tactic(auto, using(crate::proofs::Lawful::lawful_summary))]
 pub fn summary(alloc: Global, number: u64) -> Result<String, AllocError>
-    ensures { IfOk result (λ text. IsSummary number (string_bytes text)) }
+    ensures summary { IfOk result (λ text. IsSummary number (string_bytes text)) }
+    ensures lawful { IfOk result (λ text. IsLawfulSummary number (string_bytes text)) }
 {
     let loaded = load_generated(alloc, number)?;
     let (lines, end) = whole_run(alloc, &loaded)?;

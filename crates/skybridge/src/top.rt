@@ -189,9 +189,9 @@ pub fn bridge<S: Source, K: Sink>(
     // the summary of the generated bundle's run; that bundle itself; or the help text.
     ensures done { result ≡ Status.Done
         → Wrote (word_texts words.now.items) (S.left source.old) (S.left source.new) (K.held sink.old) (K.held sink.new) }
-    // The landing lines of a report can be left out: the others are the lines of a machine that calls in one step. And
-    // VMFUNC's bytes may be fetched at one address alone.
-    ensures lawful { result ≡ Status.Done → ReadsBundle (word_texts words.now.items)
+    // The landing lines of the run behind a report or a summary can be left out: the others are the lines of a machine that
+    // calls in one step. And VMFUNC's bytes may be fetched at one address alone.
+    ensures lawful { result ≡ Status.Done
         → WroteLawfully (word_texts words.now.items) (S.left source.old) (S.left source.new) (K.held sink.old) (K.held sink.new) }
 
     ensures bad_words { (result ≡ Status.BadWords) ↔ (¬ IsCommand (word_texts words.now.items)) }
