@@ -1,11 +1,12 @@
 -- The text of a run: there is one, and the laws hold of the run.
-use Rattle.std.proofs.Common.{◌∙◌, sym, ap, List, take}
+use Rattle.std.proofs.Common.{◌∙◌, sym, ap, subst, ℕ, List, take}
 use Rattle.sb_trace.specs.declared.event.Line.{Line}
 use Rattle.sb_state.specs.State.{State}
 use Rattle.sb_trace.specs.End.{end_of}
-use Rattle.sb_trace.specs.Laws.{RunsKeepOneSwitch, HasOneText, TextsAreOfLawfulRuns}
+use Rattle.sb_trace.specs.Laws.{RunsKeepOneSwitch, HasOneText, TextsAreOfLawfulRuns, ReportsAreOfLawfulRuns, ReportsAtOnce}
 use Rattle.sb_trace.proofs.OneOutcome.{steps_run_once}
 use Rattle.sb_trace.proofs.SoundRuns.{runs_keep_sound}
+use Rattle.sb_trace.proofs.LandingTexts.{reports_drop}
 use Rattle.sb_trace.proofs.Landings.{landings_drop}
 use Rattle.sb_trace.proofs.Fetchable.{one_pattern}
 
@@ -29,5 +30,16 @@ texts_are_of_lawful_runs text_of first schedule text sound (lines, end, runs, is
   runs,
   is,
   landings_drop first schedule lines end sound runs,
+  runs_keep_one_switch first schedule lines sound,
+)
+
+pub reports_are_of_lawful_runs : ReportsAreOfLawfulRuns
+reports_are_of_lawful_runs first schedule text sound (lines, end, runs, is) = (
+  lines,
+  end,
+  runs,
+  is,
+  landings_drop first schedule lines end sound runs,
+  subst (λ (text : List ℕ). ReportsAtOnce text lines end) (sym is) (reports_drop lines end),
   runs_keep_one_switch first schedule lines sound,
 )

@@ -19,8 +19,10 @@ use Rattle.sb_trace.specs.Start.{ProcessImage, ThreadEntry, start_state}
 use Rattle.sb_trace.specs.Run.{RunBy}
 use Rattle.sb_trace.specs.Step.{Steps}
 use Rattle.sb_trace.specs.End.{end_of}
-use Rattle.sb_trace.specs.OneStep.{StepsAlike}
+use Rattle.sb_trace.specs.OneStep.{StepsAlike, without_flights, without_landings}
 use Rattle.sb_trace.specs.Runs.{Runs, RunsAtOnce, IsTextOfRun}
+use Rattle.sb_trace.specs.Report.{report_text}
+use Rattle.sb_trace.specs.LandingText.{without_landing_lines}
 use Rattle.sb_trace.specs.Sound.{IsSound, vmfunc_address}
 use Rattle.sb_trace.specs.Changes.{StepChanges}
 
@@ -130,3 +132,24 @@ abbrev pub TextsAreOfLawfulRuns : Type 0
 TextsAreOfLawfulRuns =
     (text_of : List Line → EndState → List ℕ) (first : State) (schedule text : List ℕ) → IsSound first
     → IsTextOfRun text_of first schedule text → IsTextOfLawfulRun text_of first schedule text
+
+-- ---- the report
+
+-- this text, without its lines of landings, is the report of these lines and this state without flights
+abbrev pub ReportsAtOnce : List ℕ → List Line → State → Type 0
+ReportsAtOnce text lines end = without_landing_lines text ≡ report_text (without_landings lines) (end_of (without_flights end))
+
+abbrev pub ReportsDrop : Type 0
+ReportsDrop = (lines : List Line) (end : State) → ReportsAtOnce (report_text lines (end_of end)) lines end
+
+-- The text is the report of a run of which the laws hold. Without its lines of landings it is the report of the run of the
+-- machine that calls in one step.
+abbrev pub IsReportOfLawfulRun : State → List ℕ → List ℕ → Type 0
+IsReportOfLawfulRun first schedule text =
+    (lines : List Line) × (end : State) × Runs first schedule lines end × (text ≡ report_text lines (end_of end))
+    × RunsAtOnce first lines end × ReportsAtOnce text lines end × KeepsOneSwitch first schedule lines
+
+abbrev pub ReportsAreOfLawfulRuns : Type 0
+ReportsAreOfLawfulRuns =
+    (first : State) (schedule text : List ℕ) → IsSound first → IsTextOfRun report_text first schedule text
+    → IsReportOfLawfulRun first schedule text

@@ -6,6 +6,7 @@ pub use Rattle.sb_state.specs.EndText
 pub mod EventText
 pub mod Report
 pub mod Landing
+pub mod LandingText
 pub mod Run
 pub use Rattle.sb_state.specs.PageName
 pub use Rattle.sb_state.specs.State

@@ -1,6 +1,6 @@
 //! The laws of runs of the plain machine: functions without a body, each of which states one (docs/LAWS.md).
 
-ghost use Rattle.sb_trace.specs.Laws.{StartIsSound, StepsKeepSound, RunsKeepSound, LandingsDrop, StepsDrop, HasOneRun, FlightLines, StepsChange, OnePattern, RunsKeepOneSwitch, SwitchStands, HasOneText, TextsAreOfLawfulRuns};
+ghost use Rattle.sb_trace.specs.Laws.{StartIsSound, StepsKeepSound, RunsKeepSound, LandingsDrop, StepsDrop, HasOneRun, FlightLines, StepsChange, OnePattern, RunsKeepOneSwitch, SwitchStands, HasOneText, TextsAreOfLawfulRuns, ReportsDrop, ReportsAreOfLawfulRuns};
 ghost use Rattle.sb_trace.specs.OneStep.{StepsOnce};
 ghost use Rattle.sb_trace.specs.Step.{Steps};
 
@@ -54,7 +54,12 @@ pub fn one_pattern()
 ///
 /// `lawful` says that from a sound state it is the text of a run whose landing lines can be dropped, and in each state of
 /// which VMFUNC's bytes may be fetched at one address alone.
+///
+/// `dropped` says that the report without its lines `landing` and `flight` is the report of the machine that calls in one
+/// step, and `report` joins the two.
 pub fn runs_have_one_text()
     ensures one { HasOneText }
     ensures lawful { TextsAreOfLawfulRuns }
+    ensures dropped { ReportsDrop }
+    ensures report { ReportsAreOfLawfulRuns }
 {}

@@ -4,10 +4,7 @@ use Rattle.sb_bundle.specs.declared.bundle.Bundle.{Bundle}
 use Rattle.sb_load.specs.Loading.{Load, Loads}
 use Rattle.sb_load.specs.FirstState.{first_state}
 use Rattle.sb_port.specs.Port.{Appended}
-use Rattle.sb_trace.specs.declared.end.EndState.{EndState}
-use Rattle.sb_trace.specs.declared.event.Line.{Line}
-use Rattle.sb_trace.specs.Report.{report_text}
-use Rattle.sb_trace.specs.Laws.{IsTextOfLawfulRun}
+use Rattle.sb_trace.specs.Laws.{IsTextOfLawfulRun, IsReportOfLawfulRun}
 use Rattle.skybridge.specs.declared.words.Command.{Command}
 use Rattle.skybridge.specs.declared.words.Command.TheVariants.{OfBundle, Generate}
 use Rattle.skybridge.specs.declared.words.BundleCommand.{BundleCommand}
@@ -17,22 +14,25 @@ use Rattle.skybridge.specs.Generator.{generated}
 use Rattle.skybridge.specs.Summary.{summary_text}
 use Rattle.skybridge.specs.Output.{IsOutput, IsMade, ReportedAs}
 
--- The text of a run of the bundle of which the laws hold: without its landing lines it is a run of the machine that calls in
--- one step, and in each of its states VMFUNC's bytes may be fetched at one address alone.
-abbrev pub IsLawfulText : (List Line → EndState → List ℕ) → Bundle → List ℕ → Type 0
-IsLawfulText text_of bundle text =
+-- The report of a run of the bundle of which the laws hold. Without its landing lines the run is one of the machine that calls
+-- in one step, and the report, without its lines `landing` and `flight`, is the report of that run. And in each state of the
+-- run VMFUNC's bytes may be fetched at one address alone.
+abbrev pub IsLawfulReport : Bundle → List ℕ → Type 0
+IsLawfulReport bundle text =
     (load : Load) × Loads bundle (Ok load)
-    × IsTextOfLawfulRun text_of (first_state load) load.bundle.schedule text
+    × IsReportOfLawfulRun (first_state load) load.bundle.schedule text
 
 -- what a command writes, where the laws hold of the run that a report is of
 unfoldable pub IsLawfulOutput : BundleCommand → Bundle → List ℕ → Type 0
-IsLawfulOutput Replay bundle text = IsLawfulText report_text bundle text
-IsLawfulOutput Plain bundle text = IsLawfulText report_text bundle text
+IsLawfulOutput Replay bundle text = IsLawfulReport bundle text
+IsLawfulOutput Plain bundle text = IsLawfulReport bundle text
 IsLawfulOutput command bundle text = IsOutput command bundle text
 
--- the summary of such a run of the generated bundle
+-- the summary of a run of the generated bundle of which the laws hold
 abbrev pub IsLawfulSummary : ℕ → List ℕ → Type 0
-IsLawfulSummary number text = IsLawfulText (summary_text number) (generated number) text
+IsLawfulSummary number text =
+    (load : Load) × Loads (generated number) (Ok load)
+    × IsTextOfLawfulRun (summary_text number) (first_state load) load.bundle.schedule text
 
 -- what the other commands write, where the laws hold of the run that a summary is of
 abbrev pub IsLawfullyMade : Command → List ℕ → Type 0

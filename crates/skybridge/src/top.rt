@@ -190,7 +190,8 @@ pub fn bridge<S: Source, K: Sink>(
     ensures done { result ≡ Status.Done
         → Wrote (word_texts words.now.items) (S.left source.old) (S.left source.new) (K.held sink.old) (K.held sink.new) }
     // The landing lines of the run behind a report or a summary can be left out: the others are the lines of a machine that
-    // calls in one step. And VMFUNC's bytes may be fetched at one address alone.
+    // calls in one step, and the report without its lines `landing` and `flight` is that machine's report. And VMFUNC's bytes
+    // may be fetched at one address alone.
     ensures lawful { result ≡ Status.Done
         → WroteLawfully (word_texts words.now.items) (S.left source.old) (S.left source.new) (K.held sink.old) (K.held sink.new) }
 
