@@ -43,6 +43,7 @@ abbrev is_line : List ℕ → Bool
 is_line [] = false
 is_line (code ∷ text) = if code == 10 then is_nil text else is_line text
 
+-- two clean pieces
 clean_join : (one other : List ℕ) → is_clean one ≡ true → is_clean other ≡ true → is_clean (one ++ other) ≡ true
 clean_join [] other clean rest = rest
 clean_join (code ∷ one) other clean rest = by (code == 10) (λ clean. clean_join one other clean rest) clean
@@ -87,6 +88,7 @@ digits_clean : (base n : ℕ) → is_clean (digits base false n) ≡ true
 unfolding digits
 digits_clean base n = onto_clean 64 base n [] refl
 
+-- so no number has a line feed
 decimal_clean : (n : ℕ) → is_clean (decimal n) ≡ true
 decimal_clean n = digits_clean 10 n
 
@@ -95,6 +97,7 @@ hex_clean n = digits_clean 16 n
 
 -- ---- lines
 
+-- a line in front of a text is the first of its lines
 line_first : (line text : List ℕ) → is_line line ≡ true → lines_in (line ++ text) ≡ line ∷ lines_in text
 line_first [] text is = search (rules, is)
 line_first (code ∷ line) text is = by (code == 10) (λ is. line_first line text is) is
@@ -110,15 +113,17 @@ line_first (code ∷ line) text is = by (code == 10) (λ is. line_first line tex
     by true more is = nothing line is
     by false more is = ap (λ (lines : List (List ℕ)). onto_first code lines) (more is)
 
+-- a line that tells of no landing stays
 line_stays : (line text : List ℕ) → is_line line ≡ true → tells_of_landing line ≡ false
     → without_landing_lines (line ++ text) ≡ line ++ without_landing_lines text
 line_stays line text is tells = rw (line_first line text is, tells) refl
 
+-- and one that does is dropped
 line_goes : (line text : List ℕ) → is_line line ≡ true → tells_of_landing line ≡ true
     → without_landing_lines (line ++ text) ≡ without_landing_lines text
 line_goes line text is tells = rw (line_first line text is, tells) refl
 
--- ---- the lines of the steps
+-- ---- the pieces of a report have no line feed
 
 state_clean : (state : EndKind) → is_clean (state_text state) ≡ true
 state_clean Running = refl
@@ -177,6 +182,7 @@ whole_is_line core event =
 digit_first : (digit : ℕ) → digit < 10 → (nat_le 48 (48 + digit) && nat_le (48 + digit) 57) ≡ true
 digit_first digit small = rw (le-leb 48 (48 + digit) (omega arith), le-leb (48 + digit) 57 (omega (arith, small))) refl
 
+-- digits are passed over
 glyph_behind : (digit : ℕ) (text : List ℕ) → digit < 10
     → behind_digits (digit_glyph false digit ∷ text) ≡ behind_digits text
 glyph_behind digit text small = rw (lt-ltb digit 10 small, digit_first digit small) refl
@@ -186,7 +192,8 @@ onto_behind : (count n : ℕ) (later text : List ℕ)
 onto_behind zero n later text = refl
 onto_behind (suc count) n later text =
     let next : List ℕ = digit_glyph false (n % 10) ∷ later in
-    by (n / 10 == 0) next _ (onto_behind count (n / 10) next text) ∙ glyph_behind (n % 10) (later ++ text) (mod-lt n (omega arith))
+    by (n / 10 == 0) next _ (onto_behind count (n / 10) next text)
+    ∙ glyph_behind (n % 10) (later ++ text) (mod-lt n (omega arith))
   where
     by : (last : Bool) (one more : List ℕ) → behind_digits (more ++ text) ≡ behind_digits (one ++ text)
         → behind_digits ((if last then one else more) ++ text) ≡ behind_digits (one ++ text)
@@ -201,6 +208,7 @@ decimal_behind n text = onto_behind 64 n [] text
 abbrev is_flight : List ℕ → Bool
 is_flight line = starts_with (λ a b. a == b) line (codes "flight ")
 
+-- digits do not begin so
 glyph_no_flight : (digit : ℕ) (text : List ℕ) → digit < 10 → is_flight (digit_glyph false digit ∷ text) ≡ false
 glyph_no_flight digit text small =
     rw (lt-ltb digit 10 small, ne_eqb 102 (48 + digit) (λ same. omega (arith, same, small))) refl
@@ -233,6 +241,7 @@ event_tells core event =
 
 -- ---- the lines of the steps
 
+-- the line of a step that is none of a landing stays
 line_alike : (core : ℕ) (event : Event) (lines : List Line) (text rest : List ℕ)
     → starts_with (λ a b. a == b) (codes " " ++ (event_text event ++ line_feed)) (codes " landing ") ≡ false
     → without_landing_lines text ≡ lines_text lines ++ rest
@@ -242,12 +251,14 @@ line_alike core event lines text rest tells same =
     ∙ (ap (λ (more : List ℕ). whole_line (line_of core event) ++ more) same
     ∙ sym (append_assoc (whole_line (line_of core event)) (lines_text lines) rest))
 
+-- the line of a step stays in the text where it stays among the lines
 event_alike : (core : ℕ) (event : Event) (lines : List Line) (text rest : List ℕ)
     → without_landing_lines text ≡ lines_text lines ++ rest
     → without_landing_lines (whole_line (line_of core event) ++ text)
     ≡ lines_text (with_line (line_of core event) event lines) ++ rest
 event_alike core (Landing phase) lines text rest same =
-    line_goes (whole_line (line_of core (Landing phase))) text (whole_is_line core (Landing phase)) (event_tells core (Landing phase)) ∙ same
+    line_goes (whole_line (line_of core (Landing phase))) text (whole_is_line core (Landing phase))
+    (event_tells core (Landing phase)) ∙ same
 event_alike core (Step rip) lines text rest same = line_alike core (Step rip) lines text rest refl same
 event_alike core (Extra rip) lines text rest same = line_alike core (Extra rip) lines text rest refl same
 event_alike core (Stray rip) lines text rest same = line_alike core (Stray rip) lines text rest refl same
@@ -266,6 +277,7 @@ event_alike core Return lines text rest same = line_alike core Return lines text
 event_alike core Turn lines text rest same = line_alike core Turn lines text rest refl same
 event_alike core Idle lines text rest same = line_alike core Idle lines text rest refl same
 
+-- so do the lines of a run
 lines_drop : (lines : List Line) (text : List ℕ)
     → without_landing_lines (lines_text lines ++ text) ≡ lines_text (without_landings lines) ++ without_landing_lines text
 lines_drop [] text = refl
@@ -291,7 +303,8 @@ registers_clean (value ∷ general) =
 
 regs_is_line : (number : ℕ) (regs : Regs) → is_line (regs_line number regs) ≡ true
 regs_is_line number regs =
-    behind_piece (codes "regs " ++ (decimal number ++ (codes " rip " ++ (hex regs.rip ++ (codes " flags " ++ hex (flags_image regs.flags))))))
+    behind_piece (codes "regs "
+    ++ (decimal number ++ (codes " rip " ++ (hex regs.rip ++ (codes " flags " ++ hex (flags_image regs.flags))))))
     (registers_text regs.general ++ line_feed)
     (clean_join (decimal number) _ (decimal_clean number)
     (clean_join (hex regs.rip) _ (hex_clean regs.rip) (hex_clean (flags_image regs.flags))))
@@ -301,16 +314,19 @@ flight_is_line : (number phase : ℕ) → is_line (flight_line number (Some phas
 flight_is_line number phase =
     behind_piece (decimal number) _ (decimal_clean number) (behind_piece (decimal phase) line_feed (decimal_clean phase) refl)
 
+-- brackets of three pieces before a text
 three_pieces : (one two rest text : List ℕ) → (one ++ (two ++ rest)) ++ text ≡ one ++ (two ++ (rest ++ text))
 three_pieces one two rest text =
     append_assoc one (two ++ rest) text ∙ ap (λ (more : List ℕ). one ++ more) (append_assoc two rest text)
 
+-- the line of a flight is dropped, if there is one
 flight_drops : (number : ℕ) (flight : Option ℕ) (text : List ℕ)
     → without_landing_lines (flight_line number flight ++ text) ≡ without_landing_lines text
 flight_drops number None text = refl
 flight_drops number (Some phase) text =
     line_goes (flight_line number (Some phase)) text (flight_is_line number phase) refl
 
+-- a thread stays, but for its flight
 thread_drops : (number : ℕ) (thread : Thread) (flight : Option Flight) (text : List ℕ)
     → without_landing_lines (thread_text number (thread_end thread flight) ++ text)
     ≡ thread_text number (thread_end thread None) ++ without_landing_lines text
@@ -329,6 +345,7 @@ no_flight : (state : State) (number : ℕ) → flight_at (without_flights state)
 unfolding flight_at
 no_flight state number = refl
 
+-- so do all threads
 threads_drop : (state : State) (number : ℕ) (threads : List Thread) (text : List ℕ)
     → without_landing_lines (threads_text number (thread_ends state number threads) ++ text)
     ≡ threads_text number (thread_ends (without_flights state) number threads) ++ without_landing_lines text
@@ -359,10 +376,12 @@ counts_lines end =
     ∙ ap (λ (more : List ℕ). codes "free " ++ (decimal end.free ++ (line_feed ++ more)))
     (three_pieces (codes "keys ") (decimal end.keys) line_feed (codes "end\n")))
 
+-- the counts stay
 counts_stay : (end : EndState) → without_landing_lines (counts_text end) ≡ counts_text end
 counts_stay end =
     ap without_landing_lines (counts_lines end)
-    ∙ (line_stays (free_line end) (keys_line end ++ codes "end\n") (behind_piece (decimal end.free) line_feed (decimal_clean end.free) refl) refl
+    ∙ (line_stays (free_line end) (keys_line end ++ codes "end\n")
+    (behind_piece (decimal end.free) line_feed (decimal_clean end.free) refl) refl
     ∙ (ap (λ (more : List ℕ). free_line end ++ more)
     (line_stays (keys_line end) (codes "end\n") (behind_piece (decimal end.keys) line_feed (decimal_clean end.keys) refl) refl)
     ∙ sym (counts_lines end)))
