@@ -1,6 +1,7 @@
 //! The bindings of a thread.
 
 ghost use Rattle.std.specs.Prelude.{◌≡◌, ◌<◌, ◌++◌, ◌∷◌, [], length};
+ghost use Rattle.sb_state.specs.Bindings.{binding_with};
 
 use crate::state::Binding;
 use arrayvec::ArrayVec;
@@ -13,6 +14,18 @@ pub const MAX_BINDINGS: usize = 15;
 #[derive(Debug, Drop)]
 pub struct Bindings {
     bindings: ArrayVec<Binding, 15>,
+}
+
+/// The first of the bindings with this index.
+fn binding_with(bindings: &[Binding], index: u32) -> Option<Binding>
+    ensures { result ≡ binding_with bindings.now index }
+{
+    let (first, others) = bindings.split_first()?;
+    if u32::from(first.index) == index {
+        Some(*first)
+    } else {
+        binding_with(others, index)
+    }
 }
 
 impl Model for Bindings {
@@ -39,6 +52,13 @@ impl Bindings {
         ensures { result.now ≡ self.now }
     {
         &self.bindings
+    }
+
+    /// The binding with this index, if there is one.
+    pub fn find(&self, index: u32) -> Option<Binding>
+        ensures { result ≡ binding_with self.now index }
+    {
+        binding_with(&self.bindings, index)
     }
 
     /// Adds a binding behind the others.
