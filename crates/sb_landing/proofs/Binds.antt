@@ -14,28 +14,18 @@ use Rattle.sb_state.specs.declared.state.Registration.{Registration}
 use Rattle.sb_state.specs.declared.state.Thread.{Thread}
 use Rattle.sb_trace.specs.PageName.{same_name}
 use Rattle.sb_trace.specs.State.{State, Process, find_page, thread_at, with_thread, flight_at, process_at, registration_of, registration_at, page_with}
+use Rattle.sb_state.specs.Bindings.{IsFreeIndex}
 use Rattle.sb_trace.specs.KernelCall.{binding_with, handler_in}
 use Rattle.sb_trace.specs.Start.{record_bytes}
-use Rattle.sb_trace.specs.SyscallBind.{has_index, first_key, server_words, binding_pages, with_binding, new_binding}
+use Rattle.sb_trace.specs.SyscallBind.{first_key, server_words, binding_pages, with_binding, new_binding}
 use Rattle.sb_state.proofs.PageLists.{either, found_added}
 use Rattle.sb_trace.proofs.Threads.{thread_other, only_thread}
 use Rattle.sb_landing.specs.Bound.{HasPoolBytes, RecordsAreBound, IsBindingSound, IsDecidedView, IsBound}
-use Rattle.sb_landing.specs.Laws.{IsFreeIndex, CanBind, BindingsKeepBound}
+use Rattle.sb_landing.specs.Laws.{CanBind, BindingsKeepBound}
 use Rattle.sb_state.proofs.Threads.{thread_set_there as thread_set}
-use Rattle.sb_landing.proofs.Indices.{indices_are_free}
+use Rattle.sb_state.proofs.Indices.{indices_are_free}
 
 -- ---- bindings by index
-
-none_by : (test : Bool) (found : Option Binding) (has : Bool) (binding : Binding) → (test || has) ≡ false
-    → (has ≡ false → found ≡ None) → (if test then Some binding else found) ≡ None
-none_by true found has binding is more = absurd cc
-none_by false found has binding is more = more is
-
-not_bound : (bindings : List Binding) (index : ℕ) → has_index bindings index ≡ false → binding_with bindings index ≡ None
-not_bound [] index has = refl
-not_bound (binding ∷ bindings) index has =
-    none_by (binding.index == index) (binding_with bindings index) (has_index bindings index) binding has
-    (λ more. not_bound bindings index more)
 
 -- a binding of a list stays, with another behind it
 left_by : (test : Bool) (first binding : Binding) (found more : Option Binding)
@@ -279,8 +269,7 @@ new_sound state core server sound can =
     let free : IsFreeIndex (thread_at state core).bindings binding.index =
     indices_are_free (thread_at state core).bindings can.few in
     let least = free.least in
-    let unbound : binding_with (thread_at state core).bindings binding.index ≡ None =
-    not_bound (thread_at state core).bindings binding.index free.free in
+    let unbound : binding_with (thread_at state core).bindings binding.index ≡ None = free.free in
     let none : find_page state.pages (Record core binding.index) ≡ None =
     none_found (find_page state.pages (Record core binding.index)) (λ page there.
     let own = sound.records core binding.index page (λ is. omega (arith, least, is)) there in
@@ -359,7 +348,7 @@ distinct_by state core server number place one sound can there =
                 let own : binding_with (thread_at new core).bindings binding.index ≡ Some binding =
                 ap (λ thread. binding_with thread.bindings binding.index) (here_bound state core binding can.thread)
                 ∙ bound_last (thread_at state core).bindings binding
-                (not_bound (thread_at state core).bindings binding.index free.free) in
+                free.free in
                 subst (λ n. binding_with (thread_at new n).bindings one.index ≡ Some one) (sym same)
                 (subst (λ (b : Binding). binding_with (thread_at new core).bindings b.index ≡ Some b) (sym last) own)
           ]
@@ -409,7 +398,7 @@ records_by state core server sound can number index page away there =
           let own : binding_with (thread_at after core).bindings binding.index ≡ Some binding =
           ap (λ thread. binding_with thread.bindings binding.index) (here_bound state core binding can.thread)
           ∙ bound_last (thread_at state core).bindings binding
-          (not_bound (thread_at state core).bindings binding.index free.free) in (
+          free.free in (
             binding,
             subst (λ n. binding_with (thread_at after n).bindings index ≡ Some binding) names.0
                 (subst (λ n. binding_with (thread_at after core).bindings n ≡ Some binding) names.1 own),

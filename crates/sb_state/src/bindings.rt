@@ -1,7 +1,7 @@
 //! The bindings of a thread.
 
-ghost use Rattle.std.specs.Prelude.{◌≡◌, ◌<◌, ◌++◌, ◌∷◌, [], length};
-ghost use Rattle.sb_state.specs.Bindings.{binding_with};
+ghost use Rattle.std.specs.Prelude.{◌≡◌, ◌<◌, ◌≤◌, ◌++◌, ◌∷◌, [], length};
+ghost use Rattle.sb_state.specs.Bindings.{binding_with, has_index, free_index, IsFreeIndex};
 
 use crate::state::Binding;
 use arrayvec::ArrayVec;
@@ -9,6 +9,9 @@ use std::marker::Model;
 
 /// How many bindings a thread has at most: with its home view it has 16 views.
 pub const MAX_BINDINGS: usize = 15;
+
+/// The greatest index of a binding.
+const LAST_INDEX: u16 = 15;
 
 /// Bindings in the order in which they were made: to contracts, their list. They take no memory but their own.
 #[derive(Debug, Drop)]
@@ -59,6 +62,27 @@ impl Bindings {
         ensures { result ≡ binding_with self.now index }
     {
         binding_with(&self.bindings, index)
+    }
+
+    /// Whether a binding has this index.
+    fn has_index(&self, index: u16) -> bool
+        ensures { result ≡ has_index self.now index }
+    {
+        self.find(u32::from(index)).is_some()
+    }
+
+    /// The index of the next binding: with fewer than 15 bindings the lowest from 1 to 15 that no binding has.
+    #[tactic(auto, using(crate::proofs::Indices::indices_are_free))]
+    pub fn free_index(&self) -> u16
+        ensures index { result ≡ free_index self.now }
+        ensures range { result ≤ 15 }
+        ensures free { length self.now < 15 → IsFreeIndex self.now result }
+    {
+        let mut index = 1;
+        while index < LAST_INDEX && self.has_index(index) {
+            index += 1;
+        }
+        index
     }
 
     /// Adds a binding behind the others.
