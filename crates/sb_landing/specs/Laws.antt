@@ -1,9 +1,8 @@
 -- The laws of landings that are executed instruction by instruction.
-use Rattle.std.specs.Prelude.{◌≡◌, ◌≢◌, ℕ, ◌==◌, ◌<◌, ◌≤◌, ◌^◌, List, length, Bool, true, false, Option, Some, None, Ok, slice_get, if◌then◌else◌}
+use Rattle.std.specs.Prelude.{◌≡◌, ◌≢◌, ℕ, ◌==◌, ◌<◌, ◌^◌, List, length, Bool, true, false, Option, Some, None, Ok, slice_get, if◌then◌else◌}
 use Rattle.sb_insn.specs.declared.registers.Regs.{Regs}
 use Rattle.sb_exec.specs.Fetching.{FetchesOn}
 use Rattle.sb_trace.specs.declared.event.Event.{Event}
-use Rattle.sb_state.specs.declared.state.Binding.{Binding}
 use Rattle.sb_state.specs.declared.state.Flight.{Flight}
 use Rattle.sb_trace.specs.SyscallRegister.{with_server}
 use Rattle.sb_trace.specs.SyscallBind.{with_binding, new_binding}
