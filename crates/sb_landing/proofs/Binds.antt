@@ -71,7 +71,8 @@ bound_either : (bindings : List Binding) (last binding : Binding) (index : ℕ)
     → (binding_with bindings index ≡ Some binding) ⊎ (binding ≡ last)
 bound_either [] last binding index is = inr (one_by (last.index == index) last binding is)
 bound_either (first ∷ bindings) last binding index is =
-    either_by (first.index == index) first last binding (binding_with bindings index) (binding_with (bindings ++ last ∷ []) index) is
+    either_by (first.index == index) first last binding (binding_with bindings index)
+    (binding_with (bindings ++ last ∷ []) index) is
     (λ more. bound_either bindings last binding index more)
 
 place_either : (bindings : List Binding) (last binding : Binding) (place : ℕ)
@@ -326,7 +327,8 @@ each_by state core server number index one sound can bound =
 distinct_by : (state : State) (core server number place : ℕ) (one : Binding) → IsBound state → CanBind state core server
     → slice_get (thread_at (bound_state state core (new_binding state (thread_at state core) server)) number).bindings place
     ≡ Some one
-    → binding_with (thread_at (bound_state state core (new_binding state (thread_at state core) server)) number).bindings one.index
+    → binding_with (thread_at (bound_state state core (new_binding state (thread_at state core) server)) number).bindings
+    one.index
     ≡ Some one
 unfolding longer
 distinct_by state core server number place one sound can there =

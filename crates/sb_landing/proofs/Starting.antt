@@ -184,7 +184,8 @@ no_handler (image ∷ images) (suc number) registration is = no_handler images n
 
 not_bound : (list : List Binding) (index : ℕ) (binding : Binding) → list ≡ [] → binding_with list index ≡ Some binding → ⊥
 not_bound list index binding none bound =
-    let found : binding_with [] index ≡ Some binding = subst (λ (l : List Binding). binding_with l index ≡ Some binding) none bound in
+    let found : binding_with [] index ≡ Some binding =
+    subst (λ (l : List Binding). binding_with l index ≡ Some binding) none bound in
     cc
 
 not_there : (list : List Binding) (place : ℕ) (binding : Binding) → list ≡ [] → slice_get list place ≡ Some binding → ⊥

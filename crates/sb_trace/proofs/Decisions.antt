@@ -121,7 +121,8 @@ decided_sees state thread index phase mask undecided decision.Entered at =
       is_number (rsi thread.regs) undecided.stands.binding.key (undecided.key (λ zero. omega arith)),
       λ zero.
           undecided.mask (omega arith)
-          (sym at.1 ∙ (pool_is state (binding_with thread.bindings index) undecided.stands.binding undecided.stands.bound ∙ zero)),
+          (sym at.1
+          ∙ (pool_is state (binding_with thread.bindings index) undecided.stands.binding undecided.stands.bound ∙ zero)),
     )
 
 -- ---- a step in flight

@@ -168,7 +168,8 @@ did_taken state core binding word bound =
     claim_if (Did state core) (word == 0) _ _ (λ none. did_refused state core (PoolEmpty binding.index) 2 tt)
     (λ some. did_entered state core binding word bound)
 
-did_through : (state : State) (core index : ℕ) (found : Option Binding) → binding_with (thread_at state core).bindings index ≡ found
+did_through : (state : State) (core index : ℕ) (found : Option Binding)
+    → binding_with (thread_at state core).bindings index ≡ found
     → Did state core (call_outcome state core (thread_at state core) index found)
 did_through state core index None is = did_not_switched state core (Unbound index) 3 tt
 did_through state core index (Some binding) is =
@@ -272,7 +273,8 @@ server_in = option_map (λ (binding : Binding). binding.server)
 -- a view stays one where a binding is added
 server_behind : (test : Bool) (first : Binding) (found found' : Option Binding) (process : ℕ)
     → (server_in found ≡ Some process → server_in found' ≡ Some process)
-    → server_in (if test then Some first else found) ≡ Some process → server_in (if test then Some first else found') ≡ Some process
+    → server_in (if test then Some first else found) ≡ Some process
+    → server_in (if test then Some first else found') ≡ Some process
 server_behind true first found found' process more is = is
 server_behind false first found found' process more is = more is
 

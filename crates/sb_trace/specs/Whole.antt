@@ -35,7 +35,8 @@ Belongs images processes threads (Area process page) = page < (images process).a
 Belongs images processes threads (Data process page) = page < (images process).initial
 Belongs images processes threads (Heap process page) = page < heap_count (slice_get processes process)
 Belongs images processes threads (Pool process) = process < length processes
-Belongs images processes threads (ServerStack process page) = page < 4 * stack_count (registration_of (slice_get processes process))
+Belongs images processes threads (ServerStack process page) =
+    page < 4 * stack_count (registration_of (slice_get processes process))
 Belongs images processes threads (Save thread) = thread < length threads
 Belongs images processes threads (Stack thread page) = (thread < length threads) × (page < 4)
 Belongs images processes threads (Buffer thread index page) = (index ≢ 0) × ((page < 4) × IsViewThere threads thread index)
