@@ -1,5 +1,5 @@
 -- A bind keeps what further holds of bindings and flights.
-use Rattle.std.proofs.Common.{◌≡◌, ◌≢◌, ◌∙◌, sym, ap, subst, ℕ, zero, suc, ◌^◌, ◌<◌, ◌⊎◌, inl, inr, Bool, true, false, ◌&&◌, ◌||◌, List, [], ◌∷◌, ◌++◌, ◌==◌, drop, length, refl, arith}
+use Rattle.std.proofs.Common.{◌≡◌, ◌≢◌, ◌∙◌, sym, ap, subst, ℕ, zero, suc, ◌^◌, ◌<◌, ◌⊎◌, inl, inr, Bool, true, false, ◌&&◌, List, [], ◌∷◌, ◌++◌, ◌==◌, drop, length, refl, arith}
 use Rattle.std.specs.Prelude.{Option, Some, None, slice_get, if◌then◌else◌}
 use Rattle.std.specs.List.{AllByRecursion}
 use Rattle.std.proofs.lemmas.Bool.{cases_eq, and_parts}
@@ -14,28 +14,18 @@ use Rattle.sb_state.specs.declared.state.Registration.{Registration}
 use Rattle.sb_state.specs.declared.state.Thread.{Thread}
 use Rattle.sb_trace.specs.PageName.{same_name}
 use Rattle.sb_trace.specs.State.{State, Process, find_page, thread_at, with_thread, flight_at, process_at, registration_of, registration_at, page_with}
-use Rattle.sb_trace.specs.KernelCall.{binding_in, handler_in}
+use Rattle.sb_state.specs.Bindings.{IsFreeIndex}
+use Rattle.sb_trace.specs.KernelCall.{binding_with, handler_in}
 use Rattle.sb_trace.specs.Start.{record_bytes}
-use Rattle.sb_trace.specs.SyscallBind.{has_index, first_key, server_words, binding_pages, with_binding, new_binding}
+use Rattle.sb_trace.specs.SyscallBind.{first_key, server_words, binding_pages, with_binding, new_binding}
 use Rattle.sb_state.proofs.PageLists.{either, found_added}
 use Rattle.sb_trace.proofs.Threads.{thread_other, only_thread}
 use Rattle.sb_landing.specs.Bound.{HasPoolBytes, RecordsAreBound, IsBindingSound, IsDecidedView, IsBound}
-use Rattle.sb_landing.specs.Laws.{IsFreeIndex, CanBind, BindingsKeepBound}
+use Rattle.sb_landing.specs.Laws.{CanBind, BindingsKeepBound}
 use Rattle.sb_state.proofs.Threads.{thread_set_there as thread_set}
-use Rattle.sb_landing.proofs.Indices.{indices_are_free}
+use Rattle.sb_state.proofs.Indices.{indices_are_free}
 
 -- ---- bindings by index
-
-none_by : (test : Bool) (found : Option Binding) (has : Bool) (binding : Binding) → (test || has) ≡ false
-    → (has ≡ false → found ≡ None) → (if test then Some binding else found) ≡ None
-none_by true found has binding is more = absurd cc
-none_by false found has binding is more = more is
-
-not_bound : (bindings : List Binding) (index : ℕ) → has_index bindings index ≡ false → binding_in bindings index ≡ None
-not_bound [] index has = refl
-not_bound (binding ∷ bindings) index has =
-    none_by (binding.index == index) (binding_in bindings index) (has_index bindings index) binding has
-    (λ more. not_bound bindings index more)
 
 -- a binding of a list stays, with another behind it
 left_by : (test : Bool) (first binding : Binding) (found more : Option Binding)
@@ -44,11 +34,11 @@ left_by : (test : Bool) (first binding : Binding) (found more : Option Binding)
 left_by true first binding found more is next = is
 left_by false first binding found more is next = next is
 
-bound_left : (bindings : List Binding) (last binding : Binding) (index : ℕ) → binding_in bindings index ≡ Some binding
-    → binding_in (bindings ++ last ∷ []) index ≡ Some binding
+bound_left : (bindings : List Binding) (last binding : Binding) (index : ℕ) → binding_with bindings index ≡ Some binding
+    → binding_with (bindings ++ last ∷ []) index ≡ Some binding
 bound_left [] last binding index is = absurd cc
 bound_left (first ∷ bindings) last binding index is =
-    left_by (first.index == index) first binding (binding_in bindings index) (binding_in (bindings ++ last ∷ []) index) is
+    left_by (first.index == index) first binding (binding_with bindings index) (binding_with (bindings ++ last ∷ []) index) is
     (λ more. bound_left bindings last binding index more)
 
 last_by : (test : Bool) (first last : Binding) (found more : Option Binding) → (if test then Some first else found) ≡ None
@@ -57,12 +47,12 @@ last_by : (test : Bool) (first last : Binding) (found more : Option Binding) →
 last_by true first last found more is next = absurd cc
 last_by false first last found more is next = next is
 
-bound_last : (bindings : List Binding) (last : Binding) → binding_in bindings last.index ≡ None
-    → binding_in (bindings ++ last ∷ []) last.index ≡ Some last
+bound_last : (bindings : List Binding) (last : Binding) → binding_with bindings last.index ≡ None
+    → binding_with (bindings ++ last ∷ []) last.index ≡ Some last
 bound_last [] last is = let same : (last.index == last.index) ≡ true = (Decides-eqb last.index last.index).1 refl in rw same refl
 bound_last (first ∷ bindings) last is =
-    last_by (first.index == last.index) first last (binding_in bindings last.index)
-    (binding_in (bindings ++ last ∷ []) last.index) is (λ more. bound_last bindings last more)
+    last_by (first.index == last.index) first last (binding_with bindings last.index)
+    (binding_with (bindings ++ last ∷ []) last.index) is (λ more. bound_last bindings last more)
 
 -- a binding of the longer list is one of the list, or the last
 either_by : (test : Bool) (first last binding : Binding) (found more : Option Binding)
@@ -77,11 +67,12 @@ one_by true last binding is = cc
 one_by false last binding is = absurd cc
 
 bound_either : (bindings : List Binding) (last binding : Binding) (index : ℕ)
-    → binding_in (bindings ++ last ∷ []) index ≡ Some binding
-    → (binding_in bindings index ≡ Some binding) ⊎ (binding ≡ last)
+    → binding_with (bindings ++ last ∷ []) index ≡ Some binding
+    → (binding_with bindings index ≡ Some binding) ⊎ (binding ≡ last)
 bound_either [] last binding index is = inr (one_by (last.index == index) last binding is)
 bound_either (first ∷ bindings) last binding index is =
-    either_by (first.index == index) first last binding (binding_in bindings index) (binding_in (bindings ++ last ∷ []) index) is
+    either_by (first.index == index) first last binding (binding_with bindings index)
+    (binding_with (bindings ++ last ∷ []) index) is
     (λ more. bound_either bindings last binding index more)
 
 place_either : (bindings : List Binding) (last binding : Binding) (place : ℕ)
@@ -167,8 +158,8 @@ there_bound state core binding number apart =
 record StaysBound (old new : State) (number : ℕ) : Type 0 where
   home : (thread_at new number).home ≡ (thread_at old number).home
   view : (thread_at new number).view ≡ (thread_at old number).view
-  each : (index : ℕ) (binding : Binding) → binding_in (thread_at old number).bindings index ≡ Some binding
-      → binding_in (thread_at new number).bindings index ≡ Some binding
+  each : (index : ℕ) (binding : Binding) → binding_with (thread_at old number).bindings index ≡ Some binding
+      → binding_with (thread_at new number).bindings index ≡ Some binding
 
 stays_bound : (state : State) (core : ℕ) (binding : Binding) (number : ℕ)
     → slice_get state.threads core ≡ Some (thread_at state core) → StaysBound state (bound_state state core binding) number
@@ -179,7 +170,7 @@ stays_bound state core binding number there = elim (cases_eq number core) [
       subst (λ n. StaysBound state (bound_state state core binding) n) (sym same) (record {
         home = ap (λ thread. thread.home) here;
         view = ap (λ thread. thread.view) here;
-        each = λ index one is. ap (λ thread. binding_in thread.bindings index) here
+        each = λ index one is. ap (λ thread. binding_with thread.bindings index) here
             ∙ bound_left (thread_at state core).bindings binding one index is;
       })
   | inr apart ↦
@@ -187,7 +178,7 @@ stays_bound state core binding number there = elim (cases_eq number core) [
       record {
         home = ap (λ thread. thread.home) here;
         view = ap (λ thread. thread.view) here;
-        each = λ index one is. ap (λ thread. binding_in thread.bindings index) here ∙ is;
+        each = λ index one is. ap (λ thread. binding_with thread.bindings index) here ∙ is;
       }
 ]
 
@@ -279,12 +270,11 @@ new_sound state core server sound can =
     let free : IsFreeIndex (thread_at state core).bindings binding.index =
     indices_are_free (thread_at state core).bindings can.few in
     let least = free.least in
-    let unbound : binding_in (thread_at state core).bindings binding.index ≡ None =
-    not_bound (thread_at state core).bindings binding.index free.free in
+    let unbound : binding_with (thread_at state core).bindings binding.index ≡ None = free.free in
     let none : find_page state.pages (Record core binding.index) ≡ None =
     none_found (find_page state.pages (Record core binding.index)) (λ page there.
     let own = sound.records core binding.index page (λ is. omega (arith, least, is)) there in
-    bound_clash (binding_in (thread_at state core).bindings binding.index) own.0 unbound own.1) in
+    bound_clash (binding_with (thread_at state core).bindings binding.index) own.0 unbound own.1) in
     let stays = stays_bound state core binding core can.thread in
     let page : Page = page_with (Record core binding.index) (record_bytes (bound_words state core binding)) in
     let there : find_page (bound_state state core binding).pages (Record core binding.index) ≡ Some page =
@@ -308,7 +298,7 @@ new_sound state core server sound can =
 -- ---- each binding
 
 each_by : (state : State) (core server number index : ℕ) (one : Binding) → IsBound state → CanBind state core server
-    → binding_in (thread_at (bound_state state core (new_binding state (thread_at state core) server)) number).bindings index
+    → binding_with (thread_at (bound_state state core (new_binding state (thread_at state core) server)) number).bindings index
     ≡ Some one
     → IsBindingSound (bound_state state core (new_binding state (thread_at state core) server)) number one
 unfolding longer
@@ -317,13 +307,13 @@ each_by state core server number index one sound can bound =
     let stays = stays_bound state core binding number can.thread in
     elim (cases_eq number core) [
       | inl same ↦
-          let here : binding_in ((thread_at state core).bindings ++ binding ∷ []) index ≡ Some one =
-          ap (λ thread. binding_in thread.bindings index) (sym (here_bound state core binding can.thread))
-          ∙ subst (λ n. binding_in (thread_at (bound_state state core binding) n).bindings index ≡ Some one) same bound in
+          let here : binding_with ((thread_at state core).bindings ++ binding ∷ []) index ≡ Some one =
+          ap (λ thread. binding_with thread.bindings index) (sym (here_bound state core binding can.thread))
+          ∙ subst (λ n. binding_with (thread_at (bound_state state core binding) n).bindings index ≡ Some one) same bound in
           elim (bound_either (thread_at state core).bindings binding one index here) [
             | inl old ↦ old_sound state core binding number one stays
                 (sound.bindings.each number index one
-                (subst (λ n. binding_in (thread_at state n).bindings index ≡ Some one) (sym same) old))
+                (subst (λ n. binding_with (thread_at state n).bindings index ≡ Some one) (sym same) old))
             | inr new ↦
                 subst (λ n. IsBindingSound (bound_state state core binding) n one) (sym same)
                 (subst (λ (b : Binding). IsBindingSound (bound_state state core binding) core b) (sym new)
@@ -331,13 +321,14 @@ each_by state core server number index one sound can bound =
           ]
       | inr apart ↦ old_sound state core binding number one stays
           (sound.bindings.each number index one
-          (ap (λ thread. binding_in thread.bindings index) (sym (there_bound state core binding number apart)) ∙ bound))
+          (ap (λ thread. binding_with thread.bindings index) (sym (there_bound state core binding number apart)) ∙ bound))
     ]
 
 distinct_by : (state : State) (core server number place : ℕ) (one : Binding) → IsBound state → CanBind state core server
     → slice_get (thread_at (bound_state state core (new_binding state (thread_at state core) server)) number).bindings place
     ≡ Some one
-    → binding_in (thread_at (bound_state state core (new_binding state (thread_at state core) server)) number).bindings one.index
+    → binding_with (thread_at (bound_state state core (new_binding state (thread_at state core) server)) number).bindings
+    one.index
     ≡ Some one
 unfolding longer
 distinct_by state core server number place one sound can there =
@@ -356,12 +347,12 @@ distinct_by state core server number place one sound can there =
                 (sound.bindings.distinct number place one
                 (subst (λ n. slice_get (thread_at state n).bindings place ≡ Some one) (sym same) old))
             | inr last ↦
-                let own : binding_in (thread_at new core).bindings binding.index ≡ Some binding =
-                ap (λ thread. binding_in thread.bindings binding.index) (here_bound state core binding can.thread)
+                let own : binding_with (thread_at new core).bindings binding.index ≡ Some binding =
+                ap (λ thread. binding_with thread.bindings binding.index) (here_bound state core binding can.thread)
                 ∙ bound_last (thread_at state core).bindings binding
-                (not_bound (thread_at state core).bindings binding.index free.free) in
-                subst (λ n. binding_in (thread_at new n).bindings one.index ≡ Some one) (sym same)
-                (subst (λ (b : Binding). binding_in (thread_at new core).bindings b.index ≡ Some b) (sym last) own)
+                free.free in
+                subst (λ n. binding_with (thread_at new n).bindings one.index ≡ Some one) (sym same)
+                (subst (λ (b : Binding). binding_with (thread_at new core).bindings b.index ≡ Some b) (sym last) own)
           ]
       | inr apart ↦ stays.each one.index one
           (sound.bindings.distinct number place one
@@ -406,13 +397,13 @@ records_by state core server sound can number index page away there =
           (own.0, (stays_bound state core binding number can.thread).each index own.0 own.1)
       | inr fresh ↦
           let names = only_record core binding.index (bound_words state core binding) number index page fresh.1 in
-          let own : binding_in (thread_at after core).bindings binding.index ≡ Some binding =
-          ap (λ thread. binding_in thread.bindings binding.index) (here_bound state core binding can.thread)
+          let own : binding_with (thread_at after core).bindings binding.index ≡ Some binding =
+          ap (λ thread. binding_with thread.bindings binding.index) (here_bound state core binding can.thread)
           ∙ bound_last (thread_at state core).bindings binding
-          (not_bound (thread_at state core).bindings binding.index free.free) in (
+          free.free in (
             binding,
-            subst (λ n. binding_in (thread_at after n).bindings index ≡ Some binding) names.0
-                (subst (λ n. binding_in (thread_at after core).bindings n ≡ Some binding) names.1 own),
+            subst (λ n. binding_with (thread_at after n).bindings index ≡ Some binding) names.0
+                (subst (λ n. binding_with (thread_at after core).bindings n ≡ Some binding) names.1 own),
           )
     ]
 

@@ -23,7 +23,7 @@ use Rattle.sb_trace.specs.State.{State, find_page, with_page_bytes, bytes_of, co
 use Rattle.sb_trace.specs.PageWords.{with_word}
 use Rattle.sb_trace.specs.Home.{Outcome}
 use Rattle.sb_trace.specs.Registers.{rsi}
-use Rattle.sb_trace.specs.KernelCall.{binding_in, pool_word, lowest_bit}
+use Rattle.sb_trace.specs.KernelCall.{binding_with, pool_word, lowest_bit}
 use Rattle.sb_trace.specs.Flight.{landing_step}
 use Rattle.sb_trace.specs.Sound.{StandsAtSwitch, IsUndecided, IsDecidedSound, IsFlightSound}
 use Rattle.sb_trace.proofs.Flights.{flight_of}
@@ -64,7 +64,7 @@ pub flight_moves : (old new : State) (number : ℕ) (flight : Flight)
     → IsFlightBound new number flight
 flight_moves old new number flight list view own = record {
   binding = own.binding;
-  bound = ap (λ bindings. binding_in bindings flight.index) list ∙ own.bound;
+  bound = ap (λ bindings. binding_with bindings flight.index) list ∙ own.bound;
   phase = own.phase;
   mask = own.mask;
   chosen = own.chosen;
@@ -199,7 +199,7 @@ decided_leaves state core view regs flight = record {
 -- the flight behind a decision
 pub record IsNext (state : State) (core view : ℕ) (next : Flight) : Type 0 where
   pub binding : Binding
-  pub bound : binding_in (thread_at state core).bindings next.index ≡ Some binding
+  pub bound : binding_with (thread_at state core).bindings next.index ≡ Some binding
   pub phase : Contains (phases_of next.decided) next.phase
   pub mask : next.mask < 2 ^ 64
   pub chosen : IsMask next.decided next.phase next.mask
@@ -220,7 +220,7 @@ decided_flights state core view regs old next sound at there own number flight i
       subst (λ n. IsFlightBound new n flight) (sym same)
       (subst (λ (f : Flight). IsFlightBound new core f) one (record {
         binding = own.binding;
-        bound = ap (λ bindings. binding_in bindings next.index)
+        bound = ap (λ bindings. binding_with bindings next.index)
             (view_leaves (λ thread. thread.bindings) (λ thread view regs. refl) state core view regs next core) ∙ own.bound;
         phase = own.phase;
         mask = own.mask;
@@ -636,8 +636,8 @@ exchange_by true state core index mask sound undecided is at own =
     let number : binding.index ≡ index = (bound_there (thread_at state core).bindings index binding undecided.stands.bound).0 in
     let list : (thread_at base core).bindings ≡ (thread_at state core).bindings =
     ap (λ thread. thread.bindings) (thread_put state binding.server word core) in
-    let bound : binding_in (thread_at base core).bindings index ≡ Some own.binding =
-    ap (λ bindings. binding_in bindings index) list ∙ own.bound in
+    let bound : binding_with (thread_at base core).bindings index ≡ Some own.binding =
+    ap (λ bindings. binding_with bindings index) list ∙ own.bound in
     subst (λ (outcome : Outcome). IsBound outcome.1)
     (sym (flown_entered state core index mask undecided.stands (away_test state core index undecided.stands)
     (fits_test state core index mask 8 undecided (λ eight. omega (arith, eight)))

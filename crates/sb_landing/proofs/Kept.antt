@@ -19,7 +19,7 @@ use Rattle.sb_state.specs.declared.state.Registration.{Registration}
 use Rattle.sb_state.specs.declared.state.Thread.{Thread}
 use Rattle.sb_trace.specs.PageName.{same_name}
 use Rattle.sb_trace.specs.State.{State, find_page, bytes_of, contents, with_contents, thread_at, no_thread, with_thread, with_regs, flight_at, process_at, registration_at}
-use Rattle.sb_trace.specs.KernelCall.{binding_in, handler_in}
+use Rattle.sb_trace.specs.KernelCall.{binding_with, handler_in}
 use Rattle.sb_trace.specs.Start.{record_bytes}
 use Rattle.sb_trace.specs.SyscallBind.{server_words}
 use Rattle.sb_trace.specs.Step.{execution_in_view}
@@ -89,16 +89,16 @@ pub bindings_stay : (old new : State) → LeavesBindings old new → AreBindings
 bindings_stay old new leaves sound = record {
   each = λ number index binding bound.
       binding_stays old new number binding leaves
-      (sound.each number index binding (ap (λ list. binding_in list index) (sym (leaves.bindings number)) ∙ bound));
+      (sound.each number index binding (ap (λ list. binding_with list index) (sym (leaves.bindings number)) ∙ bound));
   distinct = λ number place binding there.
-      ap (λ list. binding_in list binding.index) (leaves.bindings number)
+      ap (λ list. binding_with list binding.index) (leaves.bindings number)
       ∙ sound.distinct number place binding (ap (λ list. slice_get list place) (sym (leaves.bindings number)) ∙ there);
 }
 
 pub records_stay : (old new : State) → LeavesBindings old new → RecordsAreBound old → RecordsAreBound new
 records_stay old new leaves bound number index page away there =
     let own = bound number index page away (sym (leaves.records number index) ∙ there) in
-    (own.0, ap (λ list. binding_in list index) (leaves.bindings number) ∙ own.1)
+    (own.0, ap (λ list. binding_with list index) (leaves.bindings number) ∙ own.1)
 
 pub pools_stay : (old new : State) → LeavesBindings old new → ((number : ℕ) → process_at new number ≡ process_at old number)
     → HavePools old → HavePools new
@@ -289,7 +289,7 @@ instructions_keep_bound old core view insn regs after sound =
           ∙ same_threads (λ thread. thread.view) old mid number keeps.threads in
           record {
             binding = own.binding;
-            bound = ap (λ list. binding_in list flight.index) (lists number) ∙ own.bound;
+            bound = ap (λ list. binding_with list flight.index) (lists number) ∙ own.bound;
             phase = own.phase;
             mask = own.mask;
             chosen = own.chosen;

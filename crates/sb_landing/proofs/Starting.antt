@@ -14,7 +14,7 @@ use Rattle.sb_state.specs.declared.state.Registration.{Registration}
 use Rattle.sb_state.proofs.PageLists.{either, found_added}
 use Rattle.sb_trace.specs.State.{Process, find_page, thread_at, no_thread, flight_at, process_at, registration_of, registration_at, page_with}
 use Rattle.sb_trace.specs.PageWords.{zeros}
-use Rattle.sb_trace.specs.KernelCall.{binding_in}
+use Rattle.sb_trace.specs.KernelCall.{binding_with}
 use Rattle.sb_trace.specs.Start.{ProcessImage, ThreadEntry, padded_page, page_count, padded_pages, heap_page, heap_pages, process_pages, thread_pages, trampoline_pages, images_pages, threads_pages, start_threads, start_process}
 use Rattle.sb_state.proofs.Names.{name_same}
 use Rattle.sb_state.proofs.Start.{EachPage, found_each, each_both, each_from}
@@ -182,9 +182,10 @@ no_handler [] number registration is = cc
 no_handler (image ∷ images) zero registration is = cc
 no_handler (image ∷ images) (suc number) registration is = no_handler images number registration is
 
-not_bound : (list : List Binding) (index : ℕ) (binding : Binding) → list ≡ [] → binding_in list index ≡ Some binding → ⊥
+not_bound : (list : List Binding) (index : ℕ) (binding : Binding) → list ≡ [] → binding_with list index ≡ Some binding → ⊥
 not_bound list index binding none bound =
-    let found : binding_in [] index ≡ Some binding = subst (λ (l : List Binding). binding_in l index ≡ Some binding) none bound in
+    let found : binding_with [] index ≡ Some binding =
+    subst (λ (l : List Binding). binding_with l index ≡ Some binding) none bound in
     cc
 
 not_there : (list : List Binding) (place : ℕ) (binding : Binding) → list ≡ [] → slice_get list place ≡ Some binding → ⊥

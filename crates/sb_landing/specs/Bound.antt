@@ -9,7 +9,7 @@ use Rattle.sb_state.specs.declared.state.Decision.TheVariants as decision
 use Rattle.sb_state.specs.declared.state.Flight.{Flight}
 use Rattle.sb_state.specs.declared.state.Registration.{Registration}
 use Rattle.sb_trace.specs.State.{State, Process, find_page, thread_at, flight_at, process_at, registration_at}
-use Rattle.sb_trace.specs.KernelCall.{binding_in, handler_in}
+use Rattle.sb_trace.specs.KernelCall.{binding_with, handler_in}
 use Rattle.sb_trace.specs.Start.{record_bytes}
 use Rattle.sb_trace.specs.SyscallBind.{server_words}
 use Rattle.sb_trace.specs.Sound.{HasPage}
@@ -25,7 +25,7 @@ HasPoolBytes pages =
 abbrev pub RecordsAreBound : State → Type 0
 RecordsAreBound state =
     (number index : ℕ) (page : Page) → index ≢ 0 → find_page state.pages (Record number index) ≡ Some page
-    → (binding : Binding) × (binding_in (thread_at state number).bindings index ≡ Some binding)
+    → (binding : Binding) × (binding_with (thread_at state number).bindings index ≡ Some binding)
 
 -- each process has its pool page
 abbrev pub HavePools : State → Type 0
@@ -60,10 +60,10 @@ pub record IsBindingSound (state : State) (number : ℕ) (binding : Binding) : T
 
 -- each binding of each thread is sound, and found by its index: indices are distinct
 pub record AreBindingsSound (state : State) : Type 0 where
-  pub each : (number index : ℕ) (binding : Binding) → binding_in (thread_at state number).bindings index ≡ Some binding
+  pub each : (number index : ℕ) (binding : Binding) → binding_with (thread_at state number).bindings index ≡ Some binding
       → IsBindingSound state number binding
   pub distinct : (number place : ℕ) (binding : Binding) → slice_get (thread_at state number).bindings place ≡ Some binding
-      → binding_in (thread_at state number).bindings binding.index ≡ Some binding
+      → binding_with (thread_at state number).bindings binding.index ≡ Some binding
 
 -- ---- flights
 
@@ -90,7 +90,7 @@ IsDecidedView (Some refusal) index view = view ≡ 0
 -- A flight's index is that of a binding, also behind the decision; its phase is one of its decision; its mask is a word.
 pub record IsFlightBound (state : State) (number : ℕ) (flight : Flight) : Type 0 where
   pub binding : Binding
-  pub bound : binding_in (thread_at state number).bindings flight.index ≡ Some binding
+  pub bound : binding_with (thread_at state number).bindings flight.index ≡ Some binding
   pub phase : Contains (phases_of flight.decided) flight.phase
   pub mask : flight.mask < 2 ^ 64
   pub chosen : IsMask flight.decided flight.phase flight.mask

@@ -1,12 +1,11 @@
 -- The laws of landings that are executed instruction by instruction.
-use Rattle.std.specs.Prelude.{◌≡◌, ◌≢◌, ℕ, ◌==◌, ◌<◌, ◌≤◌, ◌^◌, List, length, Bool, true, false, Option, Some, None, Ok, slice_get, if◌then◌else◌}
+use Rattle.std.specs.Prelude.{◌≡◌, ◌≢◌, ℕ, ◌==◌, ◌<◌, ◌^◌, List, length, Bool, true, false, Option, Some, None, Ok, slice_get, if◌then◌else◌}
 use Rattle.sb_insn.specs.declared.registers.Regs.{Regs}
 use Rattle.sb_exec.specs.Fetching.{FetchesOn}
 use Rattle.sb_trace.specs.declared.event.Event.{Event}
-use Rattle.sb_state.specs.declared.state.Binding.{Binding}
 use Rattle.sb_state.specs.declared.state.Flight.{Flight}
 use Rattle.sb_trace.specs.SyscallRegister.{with_server}
-use Rattle.sb_trace.specs.SyscallBind.{has_index, free_index, with_binding, new_binding}
+use Rattle.sb_trace.specs.SyscallBind.{with_binding, new_binding}
 use Rattle.sb_state.specs.declared.state.Registration.{Registration}
 use Rattle.sb_trace.specs.State.{registration_at, is_listed}
 use Rattle.sb_trace.specs.State.{Process, process_at}
@@ -113,18 +112,7 @@ FlightsKeepBound =
     (state : State) (core : ℕ) (flight : Flight) → IsSound state → IsBound state → flight_at state core ≡ Some flight
     → IsBound (landing_step state core flight).1
 
--- ---- the index of a new binding
-
--- a list with fewer than fifteen bindings
-pub record IsFreeIndex (bindings : List Binding) (index : ℕ) : Type 0 where
-  pub least : 1 ≤ index
-  pub most : index ≤ 15
-  pub free : has_index bindings index ≡ false
-  pub lowest : (other : ℕ) → 1 ≤ other → other < index → has_index bindings other ≡ true
-
--- the index that bind gives is free, and the lowest such
-abbrev pub IndicesAreFree : Type 0
-IndicesAreFree = (bindings : List Binding) → length bindings < 15 → IsFreeIndex bindings (free_index bindings)
+-- ---- a bind
 
 -- what bind asks for: a registered server that is not the thread's home, and fewer than fifteen bindings
 pub record CanBind (state : State) (core server : ℕ) : Type 0 where

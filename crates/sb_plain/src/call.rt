@@ -6,7 +6,7 @@ ghost use Rattle.std.specs.Prelude.{◌≡◌, ◌<◌, ◌≤◌, ◌^◌, leng
 ghost use Rattle.sb_trace.specs.declared.event.Event.TheVariants.{Entered};
 ghost use Rattle.sb_abi.specs.Numbers.{status_number};
 ghost use Rattle.sb_state.specs.State.{thread_at};
-ghost use Rattle.sb_trace.specs.KernelCall.{binding_in, pool_word, refusal_regs, refusal_outcome, refusal_or_fault, return_outcome, entry_regs, lowest_bit, state_at_handler, entry_outcome, call_outcome, kernel_call};
+ghost use Rattle.sb_trace.specs.KernelCall.{binding_with, pool_word, refusal_regs, refusal_outcome, refusal_or_fault, return_outcome, entry_regs, lowest_bit, state_at_handler, entry_outcome, call_outcome, kernel_call};
 
 use crate::home::fault;
 use crate::pool::{handler_of, pool_word, set_pool_word};
@@ -16,18 +16,6 @@ use sb_insn::Regs;
 use sb_insn::registers::{R9, R10, RAX, RCX, RSI, RSP};
 use sb_state::{Binding, PlainState, eax, ecx, zero_result};
 use sb_trace::Event;
-
-/// The binding with this index.
-pub fn binding_in(bindings: &[Binding], index: u32) -> Option<Binding>
-    ensures { result ≡ binding_in bindings.now index }
-{
-    let (first, others) = bindings.split_first()?;
-    if u32::from(first.index) == index {
-        Some(*first)
-    } else {
-        binding_in(others, index)
-    }
-}
 
 // ---- refusals and ways home
 
@@ -165,12 +153,12 @@ fn take_stack(state: &mut PlainState, core: u8, binding: Binding) -> Event
 // A call through the binding of an index, if there is one.
 fn call_through(state: &mut PlainState, core: u8, index: u32) -> Event
     requires { core < length state.old.threads }
-    ensures called { (result, state.new) ≡ call_outcome state.old core (thread_at state.old core) index (binding_in (thread_at state.old core).bindings index) }
+    ensures called { (result, state.new) ≡ call_outcome state.old core (thread_at state.old core) index (binding_with (thread_at state.old core).bindings index) }
     ensures count { length state.new.threads ≡ length state.old.threads }
 {
     let thread = state.thread(core);
     let key = thread.regs.general[RSI];
-    match binding_in(thread.bindings.items(), index) {
+    match thread.bindings.find(index) {
         None => stay(state, core, Event::Unbound { index }, CallStatus::Unbound),
         Some(binding) if key == binding.key => take_stack(state, core, binding),
         Some(binding) => {

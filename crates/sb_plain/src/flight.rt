@@ -7,7 +7,7 @@ ghost use Rattle.std.specs.Prelude.{◌≡◌, ◌<◌, length};
 ghost use Rattle.sb_state.specs.State.{thread_at};
 ghost use Rattle.sb_trace.specs.Flight.{is_key, bound_pool, with_mask, decided_at, phase_after, next_flight, phase_outcome, landing_step, called_binding, vmfunc_outcome};
 
-use crate::call::{binding_in, kernel_call};
+use crate::call::kernel_call;
 use crate::pool::pool_word;
 use sb_insn::registers::RSI;
 use sb_state::{Binding, Decision, Flight, PlainState, Thread, eax, ecx};
@@ -110,7 +110,7 @@ pub fn landing_step(state: &mut PlainState, core: u8, flight: Flight) -> Event
 {
     let thread = state.thread(core);
     let key = thread.regs.general[RSI];
-    let binding = binding_in(thread.bindings.items(), u32::from(flight.index));
+    let binding = thread.bindings.find(u32::from(flight.index));
     let pool = bound_pool(state, binding);
     let decided = decided_at(flight.phase, is_key(binding, key), pool, flight.mask);
     phase_step(state, core, with_mask(pool, flight), decided)
@@ -124,7 +124,7 @@ fn called_binding(thread: &Thread) -> Option<Binding>
 {
     let index = ecx(&thread.regs);
     if eax(&thread.regs) == 0 && index != 0 {
-        binding_in(thread.bindings.items(), index)
+        thread.bindings.find(index)
     } else {
         None
     }

@@ -1,3 +1,4 @@
+pub mod Indices
 pub mod Cases
 pub mod Names
 pub mod PageLists

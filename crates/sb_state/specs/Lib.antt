@@ -2,6 +2,7 @@ pub mod EndText
 pub mod PageName
 pub mod State
 pub mod PageWords
+pub mod Bindings
 pub mod Windows
 pub mod PlainMemory
 pub mod Registers

@@ -1,5 +1,5 @@
 -- Which page a thread sees at each linear address (docs/FORMATS.md, "The memory of a thread").
-use Rattle.std.specs.Prelude.{ℕ, ◌+◌, ◌-◌, ◌/◌, ◌%◌, ◌==◌, ◌&&◌, ◌||◌, Bool, false, nat_lt, nat_le, List, [], ◌∷◌, Option, Some, None, slice_get, unwrap_or, if◌then◌else◌}
+use Rattle.std.specs.Prelude.{ℕ, ◌+◌, ◌-◌, ◌/◌, ◌%◌, ◌==◌, ◌&&◌, ◌||◌, Bool, false, nat_lt, nat_le, List, Option, Some, None, slice_get, unwrap_or, if◌then◌else◌}
 use Rattle.std.specs.Option.{option_map, option_and_then}
 use Rattle.sb_state.specs.declared.page.PageName.{PageName}
 use Rattle.sb_state.specs.declared.page.PageName.TheVariants.{Text, Area, Data, Heap, Pool, ServerStack, Save, Stack, Buffer, Record, Scratch, HomeTrampoline, ServerTrampoline}
@@ -9,13 +9,13 @@ use Rattle.sb_state.specs.declared.page.Seen.{Seen}
 use Rattle.sb_state.specs.declared.state.Thread.{Thread}
 use Rattle.sb_state.specs.declared.state.Binding.{Binding}
 use Rattle.sb_state.specs.State.{State, find_page}
+use Rattle.sb_state.specs.Bindings.{binding_with}
 
 -- ---- the process that a view shows
 
 -- the server of the binding with this index
 abbrev pub server_of : List Binding → ℕ → Option ℕ
-server_of [] index = None
-server_of (binding ∷ bindings) index = if binding.index == index then Some binding.server else server_of bindings index
+server_of bindings index = option_map (λ (binding : Binding). binding.server) (binding_with bindings index)
 
 -- view 0 shows a thread's home, each other view the server of that binding
 abbrev pub process_of_view : ℕ → Thread → Option ℕ

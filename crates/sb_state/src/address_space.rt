@@ -3,23 +3,11 @@
 ghost use Rattle.std.specs.Prelude.{◌≡◌, ◌<◌, ◌^◌};
 ghost use Rattle.std.specs.Option.{option_and_then};
 ghost use Rattle.sb_state.specs.PageName.{permits, mode_of};
-ghost use Rattle.sb_state.specs.Windows.{server_of, process_of_view, process_now, process_shown, is_process, stack_name, buffer_name, special_name, name_at};
+ghost use Rattle.sb_state.specs.Windows.{process_of_view, process_now, process_shown, is_process, stack_name, buffer_name, special_name, name_at};
 
 use crate::page::{Mode, PageName};
-use crate::state::{Binding, Thread};
+use crate::state::Thread;
 use sb_memory::Access;
-
-/// The server of the binding with this index.
-fn server_of(bindings: &[Binding], index: u32) -> Option<u32>
-    ensures { result ≡ server_of bindings.now index }
-{
-    let (first, others) = bindings.split_first()?;
-    if u32::from(first.index) == index {
-        Some(first.server)
-    } else {
-        server_of(others, index)
-    }
-}
 
 /// The process that a thread's view shows.
 pub fn process_of_view(view: u32, thread: &Thread) -> Option<u32>
@@ -28,7 +16,7 @@ pub fn process_of_view(view: u32, thread: &Thread) -> Option<u32>
     if view == 0 {
         Some(thread.home)
     } else {
-        server_of(thread.bindings.items(), view)
+        thread.bindings.find(view).map(|binding| binding.server)
     }
 }
 

@@ -14,7 +14,7 @@ use Rattle.sb_trace.specs.State.{State, Process, find_page, with_contents, proce
 use Rattle.sb_trace.specs.SyscallRegister.{with_registration, with_server}
 use Rattle.sb_shows.specs.Placement.{IsThere}
 use Rattle.sb_sub.specs.Kernel.{Entry, Kernel, process_of, seat_of}
-use Rattle.sb_sub.specs.Whole.{Belongs, stacks_in}
+use Rattle.sb_sub.specs.Whole.{Belongs, stack_count}
 use Rattle.sb_sub.specs.StandsFor.{StandsFor}
 use Rattle.sb_sub.specs.Carries.{Carries}
 use Rattle.sb_sub.specs.Registering.{RegistersPages, Registered, with_entry}
@@ -57,7 +57,7 @@ module _ (kernel : Kernel) (root : RootKernel) (book : Book) (memory : Physical)
   unfolding Belongs
   no_stack page = none_by (find_page state.pages (ServerStack process page)) (λ one found.
       let has = (stands.whole.pages (ServerStack process page)).0 (one, found) in
-      let none = ap (λ (p : Option Process). stacks_in (registration_of p)) is_found ∙ ap stacks_in unregistered in
+      let none = ap (λ (p : Option Process). stack_count (registration_of p)) is_found ∙ ap stack_count unregistered in
       omega (arith, has, none))
 
   carries : Carries stands.placement root book memory state

@@ -20,7 +20,7 @@ use Rattle.sb_state.proofs.Names.{name_same}
 use Rattle.sb_state.proofs.PageLists.{either, found_added, found_other, found_same, with_bytes as page_with}
 use Rattle.sb_shows.specs.Placement.{IsThere}
 use Rattle.sb_shows.proofs.Names.{name_self}
-use Rattle.sb_sub.specs.Whole.{ImagePages, Belongs, IsWhole, stacks_in}
+use Rattle.sb_sub.specs.Whole.{ImagePages, Belongs, IsWhole, stack_count}
 use Rattle.sb_sub.proofs.Pooled.{there_put}
 use Rattle.sb_state.proofs.Threads.{set_other}
 
@@ -130,22 +130,22 @@ module _ (images : ℕ
   pub heap_same : (other : ℕ) → heap_count (slice_get after other) ≡ heap_count (slice_get processes other)
   heap_same other = heap_by (other == process) other refl
 
-  stacks_here : stacks_in (registration_of (slice_get after process)) ≡ stacks
-  stacks_here = ap (λ (p : Option Process). stacks_in (registration_of p)) here
+  stacks_here : stack_count (registration_of (slice_get after process)) ≡ stacks
+  stacks_here = ap (λ (p : Option Process). stack_count (registration_of p)) here
 
-  stacks_before : stacks_in (registration_of (slice_get processes process)) ≡ 0
-  stacks_before = ap (λ (p : Option Process). stacks_in (registration_of p)) found ∙ ap stacks_in unregistered
+  stacks_before : stack_count (registration_of (slice_get processes process)) ≡ 0
+  stacks_before = ap (λ (p : Option Process). stack_count (registration_of p)) found ∙ ap stack_count unregistered
 
   stacks_there : (other : ℕ) → other ≢ process
-      → stacks_in (registration_of (slice_get after other)) ≡ stacks_in (registration_of (slice_get processes other))
+      → stack_count (registration_of (slice_get after other)) ≡ stack_count (registration_of (slice_get processes other))
   stacks_there other apart =
-      ap (λ (p : Option Process). stacks_in (registration_of p)) (set_other processes process other _ apart)
+      ap (λ (p : Option Process). stack_count (registration_of p)) (set_other processes process other _ apart)
 
   forth_by : (same : Bool) (other page : ℕ) → (other == process) ≡ same
-      → page < 4 * stacks_in (registration_of (slice_get processes other))
-      → page < 4 * stacks_in (registration_of (slice_get after other))
+      → page < 4 * stack_count (registration_of (slice_get processes other))
+      → page < 4 * stack_count (registration_of (slice_get after other))
   forth_by true other page is has =
-      let none = ap (λ (n : ℕ). stacks_in (registration_of (slice_get processes n))) (eqb-true other process is)
+      let none = ap (λ (n : ℕ). stack_count (registration_of (slice_get processes n))) (eqb-true other process is)
       ∙ stacks_before in
       absurd (omega (arith, has, none))
   forth_by false other page is has = subst (λ (n : ℕ). page < 4 * n) (sym (stacks_there other (eqb-false other process is))) has
@@ -173,12 +173,12 @@ module _ (images : ℕ
       subst (Belongs images after threads) (sym stack.is) (subst (λ (n : ℕ). stack.page < 4 * n) (sym stacks_here) (omega arith))
 
   back_by : (same : Bool) (other page : ℕ) → (other == process) ≡ same
-      → page < 4 * stacks_in (registration_of (slice_get after other))
-      → (page < 4 * stacks_in (registration_of (slice_get processes other)))
+      → page < 4 * stack_count (registration_of (slice_get after other))
+      → (page < 4 * stack_count (registration_of (slice_get processes other)))
       ⊎ IsStack process 0 (4 * stacks) (ServerStack other page)
   back_by true other page is has =
       let at = eqb-true other process is in
-      let count = ap (λ (n : ℕ). stacks_in (registration_of (slice_get after n))) at ∙ stacks_here in
+      let count = ap (λ (n : ℕ). stack_count (registration_of (slice_get after n))) at ∙ stacks_here in
       inr (record {
         page = page;
         from = omega arith;

@@ -3,7 +3,6 @@
 ghost use Rattle.std.specs.Prelude.{◌≡◌, ◌≢◌, ◌<◌, IfSome, Some, length, nat_lt, slice_get};
 ghost use Rattle.sb_trace.specs.State.{State};
 ghost use Rattle.sb_trace.specs.Registers.{rax, rdi};
-ghost use Rattle.sb_trace.specs.Windows.{server_of};
 ghost use Rattle.sb_trace.specs.Syscall.{syscall_outcome};
 ghost use Rattle.sb_frames.specs.Book.{Book};
 ghost use Rattle.sb_sub.specs.Kernel.{shown_in};
@@ -23,7 +22,7 @@ use sb_insn::Regs;
 use sb_insn::registers::{RAX, RDI, RSI};
 use sb_memory::Memory;
 use sb_root::RootKernel;
-use sb_trace::{Binding, Bindings};
+use sb_trace::Bindings;
 use sb_tramp::KeyWords;
 use std::marker::Model;
 
@@ -56,18 +55,6 @@ impl Model for SubKernel {
     ghost Value = { Kernel };
 
     ghost view = { λ kernel. record { processes = kernel.processes.items; seats = kernel.seats.items; keys = kernel.keys } };
-}
-
-/// The server of the binding with this index.
-fn server_of(bindings: &[Binding], index: u16) -> Option<u32>
-    ensures { result ≡ server_of bindings.now index }
-{
-    let (first, others) = bindings.split_first()?;
-    if first.index == index {
-        Some(first.server)
-    } else {
-        server_of(others, index)
-    }
 }
 
 /// Call 0: at home the thread ends with a status; in a server's view it is sent home.
@@ -104,7 +91,8 @@ impl SubKernel {
         if view == 0 {
             return seat.home;
         }
-        server_of(seat.bindings.items(), view).unwrap_or(seat.home)
+        let binding = seat.bindings.find(u32::from(view));
+        binding.map_or(seat.home, |binding| binding.server)
     }
 
     /// Whether there is a process of this number.

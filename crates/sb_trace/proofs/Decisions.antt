@@ -13,7 +13,7 @@ use Rattle.sb_state.specs.declared.state.Thread.{Thread}
 use Rattle.sb_state.specs.State.{State, thread_at, flight_at}
 use Rattle.sb_state.specs.Registers.{eax, ecx, rsi}
 use Rattle.sb_trace.specs.Home.{Outcome}
-use Rattle.sb_trace.specs.KernelCall.{binding_in, pool_word, call_outcome, outcome_by_index, kernel_call, lowest_bit}
+use Rattle.sb_trace.specs.KernelCall.{binding_with, pool_word, call_outcome, outcome_by_index, kernel_call, lowest_bit}
 use Rattle.sb_trace.specs.Flight.{flight_binding, is_key, bound_pool, decided_at, phase_outcome, landing_step}
 use Rattle.sb_trace.specs.Step.{GoesOn, StepsBy}
 use Rattle.sb_trace.specs.Sound.{StandsAtSwitch, IsUndecided, IsDecidedSound, IsFlightSound}
@@ -69,13 +69,13 @@ through_line state core index found binding decided is same sees =
     (bound_line state core index binding decided same sees)
 
 called_line : (state : State) (core leaf index : ℕ) (binding : Binding) (decided : Decision) → leaf ≡ 0 → index ≢ 0
-    → binding_in (thread_at state core).bindings index ≡ Some binding
+    → binding_with (thread_at state core).bindings index ≡ Some binding
     → Sees decided (rsi (thread_at state core).regs == binding.key) (pool_word state binding.server)
     → HasLine decided index (outcome_by_index state core (thread_at state core) leaf index)
 called_line state core leaf index binding decided none away bound sees =
     claim_if (HasLine decided index) (leaf == 0) _ _
     (λ switches. claim_if (HasLine decided index) (index == 0) _ _ (λ home. absurd (away ((Decides-eqb index 0).0 home)))
-    (λ server. through_line state core index (binding_in (thread_at state core).bindings index) binding decided bound
+    (λ server. through_line state core index (binding_with (thread_at state core).bindings index) binding decided bound
     (bound_there (thread_at state core).bindings index binding bound).0 sees))
     (λ bad. absurd (other_number leaf 0 bad none))
 
@@ -89,7 +89,7 @@ call_line state core index stands decided sees =
     stands.names
     (called_line state core (eax (thread_at state core).regs) (ecx (thread_at state core).regs) stands.binding decided stands.leaf
     (λ zero. stands.away (sym stands.names ∙ zero))
-    (subst (λ n. binding_in (thread_at state core).bindings n ≡ Some stands.binding) (sym stands.names) stands.bound) sees)
+    (subst (λ n. binding_with (thread_at state core).bindings n ≡ Some stands.binding) (sym stands.names) stands.bound) sees)
 
 -- ---- a phase that decides
 
@@ -106,29 +106,30 @@ pool_is state (Some one) binding is = let same : one ≡ binding = cc in ap (λ 
 
 decided_sees : (state : State) (thread : Thread) (index phase mask : ℕ)
     (undecided : IsUndecided thread (flight_of index phase mask None)) (decided : Decision)
-    → Decides phase (is_key (binding_in thread.bindings index) (rsi thread.regs))
-    (bound_pool state (binding_in thread.bindings index)) mask decided
+    → Decides phase (is_key (binding_with thread.bindings index) (rsi thread.regs))
+    (bound_pool state (binding_with thread.bindings index)) mask decided
     → Sees decided (rsi thread.regs == undecided.stands.binding.key) (pool_word state undecided.stands.binding.server)
 decided_sees state thread index phase mask undecided decision.WrongKey at =
-    sym (fits_is (binding_in thread.bindings index) (rsi thread.regs) undecided.stands.binding undecided.stands.bound) ∙ at.1
+    sym (fits_is (binding_with thread.bindings index) (rsi thread.regs) undecided.stands.binding undecided.stands.bound) ∙ at.1
 decided_sees state thread index phase mask undecided decision.PoolEmpty at =
     let two : phase ≡ 2 = at.0 in (
       is_number (rsi thread.regs) undecided.stands.binding.key (undecided.key (λ zero. omega arith)),
-      sym (pool_is state (binding_in thread.bindings index) undecided.stands.binding undecided.stands.bound) ∙ at.1,
+      sym (pool_is state (binding_with thread.bindings index) undecided.stands.binding undecided.stands.bound) ∙ at.1,
     )
 decided_sees state thread index phase mask undecided decision.Entered at =
     let eight : phase ≡ 8 = at.0 in (
       is_number (rsi thread.regs) undecided.stands.binding.key (undecided.key (λ zero. omega arith)),
       λ zero.
           undecided.mask (omega arith)
-          (sym at.1 ∙ (pool_is state (binding_in thread.bindings index) undecided.stands.binding undecided.stands.bound ∙ zero)),
+          (sym at.1
+          ∙ (pool_is state (binding_with thread.bindings index) undecided.stands.binding undecided.stands.bound ∙ zero)),
     )
 
 -- ---- a step in flight
 
 landed_line : (state : State) (core index phase mask pool : ℕ) (before : Option Decision) (decided : Option Decision)
-    → decided_at phase (is_key (binding_in (thread_at state core).bindings index) (rsi (thread_at state core).regs))
-    (bound_pool state (binding_in (thread_at state core).bindings index)) mask
+    → decided_at phase (is_key (binding_with (thread_at state core).bindings index) (rsi (thread_at state core).regs))
+    (bound_pool state (binding_with (thread_at state core).bindings index)) mask
     ≡ decided
     → IsDecidedSound (thread_at state core) (flight_of index phase mask before) before
     → IsFlightLine phase decided index

@@ -20,7 +20,7 @@ use Rattle.sb_state.specs.State.{with_contents}
 use Rattle.sb_state.specs.PlainMemory.{plain}
 use Rattle.sb_state.specs.Registers.{eax, ecx, rsi}
 use Rattle.sb_trace.specs.Home.{Outcome}
-use Rattle.sb_trace.specs.KernelCall.{binding_in, pool_word, state_at_handler, call_outcome, outcome_by_index, kernel_call, lowest_bit}
+use Rattle.sb_trace.specs.KernelCall.{binding_with, pool_word, state_at_handler, call_outcome, outcome_by_index, kernel_call, lowest_bit}
 use Rattle.sb_trace.specs.Flight.{flight_binding, is_key, bound_pool, decided_at, phase_after, at_phase, next_flight, phase_outcome, landing_step, first_flight, called_binding, vmfunc_outcome_by, vmfunc_outcome}
 use Rattle.sb_trace.specs.Step.{GoesOn, StepsBy, Steps}
 use Rattle.sb_trace.specs.Sound.{ArePagesSound, StandsAtSwitch, IsUndecided, FollowsDecision, IsDecidedSound, IsFlightSound, IsSound}
@@ -65,7 +65,7 @@ did_no_flight state core outcome none did = no_flight state core outcome none di
 record IsCalled (thread : Thread) (binding : Binding) : Type 0 where
   leaf : eax thread.regs ≡ 0
   away : ecx thread.regs ≢ 0
-  bound : binding_in thread.bindings (ecx thread.regs) ≡ Some binding
+  bound : binding_with thread.bindings (ecx thread.regs) ≡ Some binding
 
 not_test : (test : Bool) → not test ≡ true → test ≡ false
 not_test true is = absurd cc
@@ -74,7 +74,7 @@ not_test false is = refl
 is_called : (thread : Thread) (binding : Binding) → called_binding thread ≡ Some binding → IsCalled thread binding
 is_called thread binding =
     some_if (IsCalled thread binding) ((eax thread.regs == 0) && not (ecx thread.regs == 0))
-    (binding_in thread.bindings (ecx thread.regs)) None binding
+    (binding_with thread.bindings (ecx thread.regs)) None binding
     (λ test is.
     let parts = and_parts (eax thread.regs == 0) (not (ecx thread.regs == 0)) test in
     record {
@@ -96,7 +96,7 @@ stands_there state core binding sound stands calls =
       names = sym there.0;
       away = λ none. calls.away (sym there.0 ∙ none);
       binding = binding;
-      bound = subst (λ n. binding_in (thread_at state core).bindings n ≡ Some binding) (sym there.0) calls.bound;
+      bound = subst (λ n. binding_with (thread_at state core).bindings n ≡ Some binding) (sym there.0) calls.bound;
     }
 
 first_undecided : (thread : Thread) (index : ℕ) → StandsAtSwitch thread index → IsUndecided thread (first_flight index)
@@ -156,13 +156,13 @@ runs_through state core index (Some one) binding is running =
     (λ wrong. runs_in state core 0 (WrongKey one.index) _ running)
 
 runs_called : (state : State) (core leaf index : ℕ) (binding : Binding) → leaf ≡ 0
-    → binding_in (thread_at state core).bindings index ≡ Some binding
+    → binding_with (thread_at state core).bindings index ≡ Some binding
     → (thread_at state core).state ≡ Running → IsRunning core (outcome_by_index state core (thread_at state core) leaf index)
 runs_called state core leaf index binding none bound running =
     claim_if (IsRunning core) (leaf == 0) _ _
     (λ switches. claim_if (IsRunning core) (index == 0) _ _
     (λ home. runs_in state core 0 (if (thread_at state core).view == 0 then Turn else Return) _ running)
-    (λ away. runs_through state core index (binding_in (thread_at state core).bindings index) binding bound running))
+    (λ away. runs_through state core index (binding_with (thread_at state core).bindings index) binding bound running))
     (λ bad. absurd (other_number leaf 0 bad none))
 
 runs_after : (state : State) (core index : ℕ) → StandsAtSwitch (thread_at state core) index
@@ -170,7 +170,7 @@ runs_after : (state : State) (core index : ℕ) → StandsAtSwitch (thread_at st
 unfolding kernel_call
 runs_after state core index stands running =
     runs_called state core (eax (thread_at state core).regs) (ecx (thread_at state core).regs) stands.binding stands.leaf
-    (subst (λ n. binding_in (thread_at state core).bindings n ≡ Some stands.binding) (sym stands.names) stands.bound) running
+    (subst (λ n. binding_with (thread_at state core).bindings n ≡ Some stands.binding) (sym stands.names) stands.bound) running
 
 -- ---- a flight goes on
 
@@ -191,7 +191,7 @@ keeps_by false phase pool mask is other = refl
 
 -- a key that fits is that of the binding
 abbrev pub KeyMeans : Thread → ℕ → Bool → Type 0
-KeyMeans thread index fits = (binding : Binding) → binding_in thread.bindings index ≡ Some binding → fits ≡ true
+KeyMeans thread index fits = (binding : Binding) → binding_with thread.bindings index ≡ Some binding → fits ≡ true
     → rsi thread.regs ≡ binding.key
 
 -- the phase behind one that did not decide
@@ -277,8 +277,8 @@ fits_by (Some one) word binding is fits = let same : one ≡ binding = cc in
     number word one.key fits ∙ ap (λ (b : Binding). b.key) same
 
 pub key_means : (thread : Thread) (index : ℕ)
-    → KeyMeans thread index (is_key (binding_in thread.bindings index) (rsi thread.regs))
-key_means thread index binding bound fits = fits_by (binding_in thread.bindings index) (rsi thread.regs) binding bound fits
+    → KeyMeans thread index (is_key (binding_with thread.bindings index) (rsi thread.regs))
+key_means thread index binding bound fits = fits_by (binding_with thread.bindings index) (rsi thread.regs) binding bound fits
 
 flown_sound : (state : State) (core : ℕ) (flight : Flight) → flight_at state core ≡ Some flight
     → IsFlightSound (thread_at state core) (Some flight)

@@ -1,6 +1,7 @@
 -- What the kernel does in a step: faults, calls through VMFUNC, and system calls, each by its cases.
 use Rattle.std.proofs.Common.{◌≡◌, ◌≢◌, ◌∙◌, sym, subst, ℕ, ◌-◌, ◌^◌, Bool, true, false, List, [], ◌∷◌, ◌++◌, ◌==◌, refl, inl, inr}
 use Rattle.std.specs.Prelude.{Option, Some, None, if◌then◌else◌}
+use Rattle.std.specs.Option.{option_map}
 use Rattle.sb_insn.specs.declared.registers.Regs.{Regs}
 use Rattle.sb_bus.specs.declared.stop.FaultKind.{FaultKind}
 use Rattle.sb_bus.specs.declared.stop.FaultKind.TheVariants as kind
@@ -15,7 +16,7 @@ use Rattle.sb_state.specs.State.{State, thread_at, with_thread, with_regs, with_
 use Rattle.sb_state.specs.PageWords.{with_word}
 use Rattle.sb_state.specs.Registers.{rax, rsi, rdi, eax, ecx}
 use Rattle.sb_trace.specs.Home.{Outcome, fault_outcome, server_fault_regs, home_address}
-use Rattle.sb_trace.specs.KernelCall.{binding_in, pool_word, refusal_outcome, refusal_or_fault, lowest_bit, state_at_handler, entry_regs, entry_outcome, call_outcome, outcome_by_index, kernel_call, handler_in}
+use Rattle.sb_trace.specs.KernelCall.{binding_with, pool_word, refusal_outcome, refusal_or_fault, lowest_bit, state_at_handler, entry_regs, entry_outcome, call_outcome, outcome_by_index, kernel_call, handler_in}
 use Rattle.sb_state.specs.Windows.{process_now, server_of}
 use Rattle.sb_state.specs.Pattern.{heap_pattern}
 use Rattle.sb_abi.specs.declared.call.CallRefusal.{CallRefusal}
@@ -167,7 +168,8 @@ did_taken state core binding word bound =
     claim_if (Did state core) (word == 0) _ _ (λ none. did_refused state core (PoolEmpty binding.index) 2 tt)
     (λ some. did_entered state core binding word bound)
 
-did_through : (state : State) (core index : ℕ) (found : Option Binding) → binding_in (thread_at state core).bindings index ≡ found
+did_through : (state : State) (core index : ℕ) (found : Option Binding)
+    → binding_with (thread_at state core).bindings index ≡ found
     → Did state core (call_outcome state core (thread_at state core) index found)
 did_through state core index None is = did_not_switched state core (Unbound index) 3 tt
 did_through state core index (Some binding) is =
@@ -184,7 +186,7 @@ did_switched_by state core leaf index =
     (λ switches. claim_if (Did state core) (index == 0) _ _
     (λ home. did_returned state core ((thread_at state core).view == 0)
     (record (thread_at state core).regs { rip = home_address }))
-    (λ away. did_through state core index (binding_in (thread_at state core).bindings index) refl))
+    (λ away. did_through state core index (binding_with (thread_at state core).bindings index) refl))
     (λ bad. did_not_switched state core (BadLeaf index) 5 tt)
 
 pub did_call : (state : State) (core : ℕ) → Did state core (kernel_call state core)
@@ -264,18 +266,23 @@ did_registered state core next None call = did_server state core next call
 
 -- ---- bind
 
+-- the server of a binding
+abbrev server_in : Option Binding → Option ℕ
+server_in = option_map (λ (binding : Binding). binding.server)
+
 -- a view stays one where a binding is added
-server_behind : (test : Bool) (server : ℕ) (found found' : Option ℕ) (process : ℕ)
-    → (found ≡ Some process → found' ≡ Some process)
-    → (if test then Some server else found) ≡ Some process → (if test then Some server else found') ≡ Some process
-server_behind true server found found' process more is = is
-server_behind false server found found' process more is = more is
+server_behind : (test : Bool) (first : Binding) (found found' : Option Binding) (process : ℕ)
+    → (server_in found ≡ Some process → server_in found' ≡ Some process)
+    → server_in (if test then Some first else found) ≡ Some process
+    → server_in (if test then Some first else found') ≡ Some process
+server_behind true first found found' process more is = is
+server_behind false first found found' process more is = more is
 
 server_added : (bindings others : List Binding) (index process : ℕ) → server_of bindings index ≡ Some process
     → server_of (bindings ++ others) index ≡ Some process
 server_added [] others index process is = absurd cc
 server_added (first ∷ bindings) others index process is =
-    server_behind (first.index == index) first.server (server_of bindings index) (server_of (bindings ++ others) index) process
+    server_behind (first.index == index) first (binding_with bindings index) (binding_with (bindings ++ others) index) process
     (server_added bindings others index process) is
 
 shown_added : (test : Bool) (home : ℕ) (bindings others : List Binding) (index process : ℕ)

@@ -42,7 +42,7 @@ use Rattle.sb_trace.specs.SyscallRegister.{refusal_of_register, with_server, reg
 use Rattle.sb_trace.specs.SyscallBind.{refusal_of_bind, with_binding, bind_outcome}
 use Rattle.sb_trace.specs.SyscallProtect.{heap_count, with_heap_mode, execute_mode_outcome, protect_outcome_by}
 use Rattle.sb_trace.specs.Syscall.{exit_outcome, outcome_by_number, syscall_outcome}
-use Rattle.sb_trace.specs.KernelCall.{binding_in, pool_word, refusal_outcome, refusal_or_fault, return_outcome, entry_outcome, call_outcome, outcome_by_index, kernel_call}
+use Rattle.sb_trace.specs.KernelCall.{binding_with, pool_word, refusal_outcome, refusal_or_fault, return_outcome, entry_outcome, call_outcome, outcome_by_index, kernel_call}
 use Rattle.sb_trace.specs.Flight.{flight_binding, is_key, bound_pool, decided_at, phase_outcome, landing_step, called_binding, vmfunc_outcome_by, vmfunc_outcome}
 use Rattle.sb_state.specs.Pattern.{heap_pattern}
 use Rattle.sb_trace.specs.Run.{RunBy}
@@ -109,7 +109,7 @@ switched_mapped : (state : State) (core : ℕ) (thread : Thread) (leaf index : �
 switched_mapped state core thread leaf index =
     mapped_if (leaf == 0) _ _ _ _
     (mapped_if (index == 0) _ _ _ _ (home_mapped state core thread)
-    (through_mapped state core thread index (binding_in thread.bindings index)))
+    (through_mapped state core thread index (binding_with thread.bindings index)))
     (not_switched_mapped state core _ 5 thread)
 
 call_mapped : (state : State) (core : ℕ) → mapped (kernel_call state core) ≡ kernel_call (without_flights state) core

@@ -1,14 +1,15 @@
 -- Threads and flights by number, where one is set.
-use Rattle.std.proofs.Common.{◌≡◌, ◌≢◌, ◌∙◌, ap, subst, ℕ, Bool, true, false, List, [], ◌∷◌, ◌==◌, refl}
+use Rattle.std.proofs.Common.{◌≡◌, ◌≢◌, ◌∙◌, ap, ℕ, Bool, true, false, List, ◌==◌, refl}
 use Rattle.std.specs.Prelude.{Option, Some, None, slice_get, unwrap_or, if◌then◌else◌}
+use Rattle.std.specs.Option.{option_map}
 use Rattle.sb_state.specs.declared.state.Binding.{Binding}
 use Rattle.sb_state.specs.declared.state.Flight.{Flight}
 use Rattle.sb_state.specs.declared.state.Thread.{Thread}
 use Rattle.sb_state.specs.State.{State, thread_at, with_thread, no_thread, flight_at, with_flight}
 use Rattle.sb_state.specs.Windows.{server_of}
-use Rattle.sb_state.proofs.Names.{number}
+use Rattle.sb_state.proofs.Indices.{index_found}
 use Rattle.sb_state.proofs.Threads.{set_other, thread_set}
-use Rattle.sb_trace.specs.KernelCall.{binding_in}
+use Rattle.sb_trace.specs.KernelCall.{binding_with}
 use Rattle.sb_trace.specs.Sound.{HasView}
 use Rattle.sb_trace.specs.Changes.{OnlyThread}
 
@@ -63,25 +64,11 @@ flight_other old number new other only apart = ap (λ found. unwrap_or found Non
 
 -- ---- bindings
 
-bound_by : (test : Bool) (first binding : Binding) (found : Option Binding) (server : Option ℕ) (index : ℕ)
-    → (first.index == index) ≡ test
-    → (found ≡ Some binding → (binding.index ≡ index) × (server ≡ Some binding.server))
-    → (if test then Some first else found) ≡ Some binding
-    → (binding.index ≡ index) × ((if test then Some first.server else server) ≡ Some binding.server)
-bound_by true first binding found server index is more here =
-    let same : first ≡ binding = cc in (
-      subst (λ (one : Binding). one.index ≡ index) same (number first.index index is),
-      ap (λ (one : Binding). Some one.server) same,
-    )
-bound_by false first binding found server index is more here = more here
-
 -- a binding that is found has its index, and its view shows its server
-pub bound_there : (bindings : List Binding) (index : ℕ) (binding : Binding) → binding_in bindings index ≡ Some binding
+pub bound_there : (bindings : List Binding) (index : ℕ) (binding : Binding) → binding_with bindings index ≡ Some binding
     → (binding.index ≡ index) × (server_of bindings index ≡ Some binding.server)
-bound_there [] index binding here = absurd cc
-bound_there (first ∷ bindings) index binding here =
-    bound_by (first.index == index) first binding (binding_in bindings index) (server_of bindings index) index refl
-    (bound_there bindings index binding) here
+bound_there bindings index binding here =
+    (index_found bindings index binding here, ap (option_map (λ (one : Binding). one.server)) here)
 
 view_by : (test : Bool) (home : ℕ) (server : Option ℕ) (process : ℕ) → server ≡ Some process
     → (one : ℕ) × ((if test then Some home else server) ≡ Some one)

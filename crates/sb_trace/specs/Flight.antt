@@ -11,13 +11,13 @@ use Rattle.sb_state.specs.declared.state.Thread.{Thread}
 use Rattle.sb_state.specs.State.{State, thread_at, with_flight}
 use Rattle.sb_state.specs.Registers.{eax, ecx, rsi}
 use Rattle.sb_trace.specs.Home.{Outcome}
-use Rattle.sb_trace.specs.KernelCall.{binding_in, pool_word, kernel_call}
+use Rattle.sb_trace.specs.KernelCall.{binding_with, pool_word, kernel_call}
 
 -- ---- what a phase looks at
 
 -- the binding of the flight
 abbrev pub flight_binding : Thread → Flight → Option Binding
-flight_binding thread flight = binding_in thread.bindings flight.index
+flight_binding thread flight = binding_with thread.bindings flight.index
 
 abbrev pub is_key : Option Binding → ℕ → Bool
 is_key None word = false
@@ -99,7 +99,7 @@ first_flight index = record { index = index; phase = 0; mask = 0; decided = None
 -- the binding into which VMFUNC leads: leaf 0, and its index
 abbrev pub called_binding : Thread → Option Binding
 called_binding thread =
-    if (eax thread.regs == 0) && not (ecx thread.regs == 0) then binding_in thread.bindings (ecx thread.regs) else None
+    if (eax thread.regs == 0) && not (ecx thread.regs == 0) then binding_with thread.bindings (ecx thread.regs) else None
 
 abbrev pub vmfunc_outcome_by : State → ℕ → Option Binding → Outcome
 vmfunc_outcome_by state number None = kernel_call state number

@@ -1,5 +1,5 @@
 -- A call or a return through VMFUNC as one step of a kernel (docs/FORMATS.md, "A call in one step").
-use Rattle.std.specs.Prelude.{ℕ, ◌+◌, ◌-◌, ◌*◌, ◌^◌, ◌==◌, List, [], ◌∷◌, Option, Some, None, if◌then◌else◌, slice_set}
+use Rattle.std.specs.Prelude.{ℕ, ◌+◌, ◌-◌, ◌*◌, ◌^◌, ◌==◌, Option, Some, None, if◌then◌else◌, slice_set}
 use Rattle.std.specs.Int.{w64, trailing_zeros}
 use Rattle.sb_insn.specs.declared.registers.Regs.{Regs}
 use Rattle.sb_abi.specs.declared.call.CallStatus.TheVariants as status
@@ -14,15 +14,11 @@ use Rattle.sb_state.specs.declared.state.Registration.{Registration}
 use Rattle.sb_state.specs.declared.state.Thread.{Thread}
 use Rattle.sb_state.specs.State.{State, thread_at, with_view, registration_at}
 use Rattle.sb_state.specs.PageWords.{word_in, with_word}
+pub use Rattle.sb_state.specs.Bindings.{binding_with}
 use Rattle.sb_state.specs.Registers.{eax, ecx, rsi, zero_flags}
 use Rattle.sb_trace.specs.Home.{Outcome, home_address, fault_outcome}
 
 -- ---- what a call looks at
-
--- the binding with this index
-abbrev pub binding_in : List Binding → ℕ → Option Binding
-binding_in [] index = None
-binding_in (binding ∷ bindings) index = if binding.index == index then Some binding else binding_in bindings index
 
 -- the pool word of a process: a bit is set for each server stack that is free
 abbrev pub pool_word : State → ℕ → ℕ
@@ -96,7 +92,7 @@ abbrev pub outcome_by_index : State → ℕ → Thread → ℕ → ℕ → Outco
 outcome_by_index state number thread leaf index =
     if leaf == 0
     then if index == 0 then return_outcome state number thread
-    else call_outcome state number thread index (binding_in thread.bindings index)
+    else call_outcome state number thread index (binding_with thread.bindings index)
     else refusal_or_fault state number thread (BadLeaf index) (status_number status.BadLeaf)
 
 -- VMFUNC of the thread of this number, with the leaf in EAX, the index in ECX and the key in RSI

@@ -14,7 +14,7 @@ use Rattle.sb_state.specs.declared.state.Thread.{Thread}
 use Rattle.sb_state.specs.State.{State, find_page, thread_at, flight_at}
 use Rattle.sb_state.specs.Windows.{process_of_view}
 use Rattle.sb_state.specs.Registers.{eax, ecx, rsi}
-use Rattle.sb_trace.specs.KernelCall.{binding_in}
+use Rattle.sb_trace.specs.KernelCall.{binding_with}
 use Rattle.sb_trace.specs.Code.{code_byte, HasNoCodePattern}
 
 -- ---- pages
@@ -51,7 +51,7 @@ pub record StandsAtSwitch (thread : Thread) (index : ℕ) : Type 0 where
   pub names : ecx thread.regs ≡ index
   pub away : index ≢ 0
   pub binding : Binding
-  pub bound : binding_in thread.bindings index ≡ Some binding
+  pub bound : binding_with thread.bindings index ≡ Some binding
 
 -- Before the decision: phase 0 found the key right, and phase 2 loaded a mask that is not 0.
 pub record IsUndecided (thread : Thread) (flight : Flight) : Type 0 where

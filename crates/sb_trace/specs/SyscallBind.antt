@@ -1,5 +1,5 @@
 -- System call 3, bind: a thread gets a view of a server.
-use Rattle.std.specs.Prelude.{ℕ, suc, zero, ◌+◌, ◌-◌, ◌==◌, ◌||◌, Bool, false, List, [], ◌∷◌, ◌++◌, length, drop, Option, Some, None, if◌then◌else◌, slice_index}
+use Rattle.std.specs.Prelude.{ℕ, ◌-◌, List, [], ◌∷◌, ◌++◌, length, drop, Option, Some, None, slice_index}
 use Rattle.sb_insn.specs.declared.registers.Regs.{Regs}
 use Rattle.sb_abi.specs.declared.call.CallRefusal.{CallRefusal}
 use Rattle.sb_abi.specs.declared.frames.TheConstants.{BIND_FRAMES}
@@ -15,6 +15,7 @@ use Rattle.sb_state.specs.declared.state.Binding.{Binding}
 use Rattle.sb_state.specs.declared.state.Thread.{Thread}
 use Rattle.sb_state.specs.State.{State, with_thread, with_regs, registration_at, page_with}
 use Rattle.sb_state.specs.PageWords.{zeros}
+use Rattle.sb_state.specs.Bindings.{free_index}
 use Rattle.sb_state.specs.Registers.{rax, rdi}
 use Rattle.sb_trace.specs.Home.{Outcome}
 use Rattle.sb_trace.specs.KernelCall.{handler_in}
@@ -30,26 +31,11 @@ refusal_of_bind state thread server =
 
 -- ---- the binding
 
--- whether a binding has this index
-abbrev pub has_index : List Binding → ℕ → Bool
-has_index [] index = false
-has_index (binding ∷ bindings) index = (binding.index == index) || has_index bindings index
-
--- the lowest of so many indices, from a first one on, that no binding has
-abbrev pub free_index_from : List Binding → ℕ → ℕ → ℕ
-free_index_from bindings index zero = index
-free_index_from bindings index (suc count) =
-    if has_index bindings index then free_index_from bindings (index + 1) count else index
-
--- the lowest index from 1 to 15 that no binding has
-unfoldable pub free_index : List Binding → ℕ
-free_index bindings = free_index_from bindings 1 14
-
 -- the key word that is drawn next
 abbrev pub first_key : List ℕ → ℕ
 first_key keys = slice_index keys 0
 
--- the binding that is made
+-- the binding that is made: its index is the lowest that is free
 abbrev pub new_binding : State → Thread → ℕ → Binding
 new_binding state thread server = record { index = free_index thread.bindings; server = server; key = first_key state.keys }
 

@@ -6,7 +6,7 @@ ghost use Rattle.sb_state.specs.declared.page.PageName.TheVariants.{Record};
 ghost use Rattle.sb_state.specs.State.{page_with, thread_at};
 ghost use Rattle.sb_state.specs.Store.{added};
 ghost use Rattle.sb_state.specs.Registers.{rdi};
-ghost use Rattle.sb_trace.specs.SyscallBind.{refusal_of_bind, has_index, free_index, buffer_page, binding_pages, first_key, new_binding, with_binding, bind_outcome};
+ghost use Rattle.sb_trace.specs.SyscallBind.{refusal_of_bind, buffer_page, binding_pages, first_key, new_binding, with_binding, bind_outcome};
 
 use super::decline;
 use crate::pool::{handler_of, registration_of};
@@ -17,9 +17,6 @@ use sb_insn::registers::{RAX, RDI};
 use sb_state::{Binding, PageName, Pages, PlainState, Thread};
 use sb_trace::Event;
 use sb_tramp::RecordWords;
-
-/// The greatest index of a binding.
-const LAST_INDEX: u16 = 15;
 
 // ---- refusals
 
@@ -44,27 +41,6 @@ fn refusal_of(state: &PlainState, thread: &Thread, server: u64) -> Option<CallRe
 }
 
 // ---- the binding
-
-fn has_index(bindings: &[Binding], index: u16) -> bool
-    ensures { result ≡ has_index bindings.now index }
-{
-    match bindings.split_first() {
-        Some((first, others)) => first.index == index || has_index(others, index),
-        None => false,
-    }
-}
-
-// The lowest index from 1 to 15 that no binding has.
-fn free_index(bindings: &[Binding]) -> u16
-    ensures index { result ≡ free_index bindings.now }
-    ensures range { result ≤ 15 }
-{
-    let mut index = 1;
-    while index < LAST_INDEX && has_index(bindings, index) {
-        index += 1;
-    }
-    index
-}
 
 // The record page of a view.
 #[tactic(auto, using(sb_state::proofs::Start::record_page))]
@@ -120,7 +96,7 @@ fn make_binding(state: &mut PlainState, core: u8, server: u32) -> Binding
     let handler = handler_of(state, server);
     let key = draw_key(state);
     let thread = state.thread(core);
-    let index = free_index(thread.bindings.items());
+    let index = thread.bindings.free_index();
     let binding = Binding { index, server, key };
     let words = server_record(core, thread.home, key, handler);
     take_view(state, core, index, &words);

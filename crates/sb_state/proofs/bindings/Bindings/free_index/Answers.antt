@@ -1,7 +1,7 @@
 use Rattle.std.proofs.Common.{◌≡◌, ◌∙◌, ℕ, suc, ◌+◌, ◌-◌, ◌<◌, Bool, true, List, refl, sym, ap, arith, if◌then◌else◌}
 use Rattle.sb_state.specs.declared.state.Binding.{Binding}
-use Rattle.sb_trace.specs.SyscallBind.{has_index, free_index_from, free_index}
-use Rattle.sb_plain.proofs.system_call.bind.free_index.Goals as goal
+use Rattle.sb_state.specs.Bindings.{has_index, free_index_from, free_index}
+use Rattle.sb_state.proofs.bindings.Bindings.free_index.Goals as goal
 
 -- at an index below the last one, the next ones are looked at where a binding has it
 next : (bindings : List Binding) (index : ℕ) → index < 15
@@ -25,7 +25,7 @@ pub loop-index-preserved : goal.loop-index-preserved
 loop-index-preserved c = record {
   last = omega arith;
   lowest =
-      sym (by_test c.args.bindings.now c.loop-index.index true (sym c.has_index.ensures
+      sym (by_test c.args.self.now c.loop-index.index true (sym c.has_index.ensures
       ∙ c.if-has_index.true) c.loop-index-test.true)
       ∙ c.loop-index.invariant.lowest;
 }

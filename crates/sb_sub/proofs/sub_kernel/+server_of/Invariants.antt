@@ -1,5 +1,0 @@
-use Rattle.std.proofs.Common.{length}
-use Rattle.sb_sub.proofs.sub_kernel.+server_of.Given as goal
-
-abbrev pub decreases-server_of : goal.decreases-server_of
-decreases-server_of l = length l.bindings.now
