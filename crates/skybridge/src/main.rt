@@ -6,8 +6,8 @@
 //! The way through: `words` (which command), `top` (reading, writing and statuses), `bundle_commands` (from the bytes of an
 //! input to what the command writes), `command_text` (the text of `check` and `rewrite`), `refusal_lines` (the lines of the
 //! refusals). For commands that read nothing: `generator` (the generated bundle), `generated` (what is written of it),
-//! `summary` (the text of `gen`), `help` (that of `--help`). What they call: `sb_bundle` reads and writes bundles, `sb_load` rewrites a bundle's
-//! texts and says whether it can be loaded, `sb_plain` runs it, and `sb_trace` writes the report.
+//! `summary` (the text of `gen`), `help` (that of `--help`). What they call: `sb_bundle` reads and writes bundles, `sb_load`
+//! rewrites a bundle's texts and says whether it can be loaded, `sb_plain` runs it, and `sb_trace` writes the report.
 //!
 //! ```text
 //! skybridge replay < five.bundle
