@@ -60,7 +60,7 @@ fn sees_the_pattern_across_a_border(rt: HostRuntime) {
 /// Names, bytes with those before and after them, and the first place.
 #[rattlefmt::skip]
 const AROUND: [(&str, &[u8], &[u8], &[u8], Option<usize>); 6] = [
-    ("across the front", &[0x90, 0x0F], &[0x01, 0xD4, 0x0F, 0x01, 0xD4], &[], Some(1)),
+    ("across the prefix", &[0x90, 0x0F], &[0x01, 0xD4, 0x0F, 0x01, 0xD4], &[], Some(1)),
     ("inside", &[0x90, 0x90], &[0x90, 0x0F, 0x01, 0xD4], &[0x01, 0xD4], Some(3)),
     ("across the end", &[], &[0x90, 0x0F, 0x01], &[0xD4, 0x90], Some(1)),
     ("one byte across the end", &[0x0F], &[0x90, 0x0F], &[0x01, 0xD4], Some(2)),

@@ -55,7 +55,7 @@ const WRITES: [(&str, &str, usize, usize, u64, Option<usize>); 8] = [
 ];
 
 #[test]
-fn a_sink_in_memory_takes_all_or_a_front(rt: HostRuntime) -> Result<(), Fail> {
+fn a_sink_in_memory_takes_all_or_a_prefix(rt: HostRuntime) -> Result<(), Fail> {
     let alloc = rt.alloc();
     for (name, text, capacity, per_call, fails, written) in WRITES {
         assert!(rt; 0 < per_call);
@@ -67,8 +67,8 @@ fn a_sink_in_memory_takes_all_or_a_front(rt: HostRuntime) -> Result<(), Fail> {
             written.map(|written| WriteFault { written }),
             "{name}"
         );
-        let front = text.get(..written.unwrap_or(text.len())).ok_or("a front")?;
-        assert_eq!(rt; sink.held(), front, "{name}");
+        let prefix = text.get(..written.unwrap_or(text.len())).ok_or("a prefix")?;
+        assert_eq!(rt; sink.held(), prefix, "{name}");
     }
     Ok(())
 }

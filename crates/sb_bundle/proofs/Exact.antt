@@ -94,9 +94,9 @@ guard_ok : {A : Type 0} (b : Bool) (refusal : BundleRefusal) (x y : A) → cond 
 guard_ok true refusal x y e = absurd cc
 guard_ok false refusal x y e = (refl, cc)
 
-AllBelow-parts : (bound : ℕ) (front rest : List ℕ) → AllBelow bound (front ++ rest) → AllBelow bound front × AllBelow bound rest
+AllBelow-parts : (bound : ℕ) (prefix rest : List ℕ) → AllBelow bound (prefix ++ rest) → AllBelow bound prefix × AllBelow bound rest
 AllBelow-parts bound [] rest fits = (tt, fits)
-AllBelow-parts bound (x ∷ front) rest fits = let parts = AllBelow-parts bound front rest fits.1 in ((fits.0, parts.0), parts.1)
+AllBelow-parts bound (x ∷ prefix) rest fits = let parts = AllBelow-parts bound prefix rest fits.1 in ((fits.0, parts.0), parts.1)
 
 -- bytes, so many, spell themselves
 abbrev pub AreBytes : ℕ → List ℕ → Type 0
@@ -127,10 +127,10 @@ unfolding number
 number_reads size =
     restated (bind (bytes_reads size) (λ bytes. gives (little_number size bytes)))
     (λ n bytes rest good.
-    let front = good.2 in (
-      rw good.3.0 (number-fits size good.0 front.0.1),
-      front.1
-          ∙ rw (good.3.0, ← good.3.1) (ap (λ (xs : List ℕ). xs ++ good.1) (sym (bytes-again size good.0 front.0.0 front.0.1))),
+    let prefix = good.2 in (
+      rw good.3.0 (number-fits size good.0 prefix.0.1),
+      prefix.1
+          ∙ rw (good.3.0, ← good.3.1) (ap (λ (xs : List ℕ). xs ++ good.1) (sym (bytes-again size good.0 prefix.0.0 prefix.0.1))),
     ))
     (λ n bytes rest good. (
       number_bytes size n,

@@ -1,4 +1,4 @@
--- The fields behind the front are read exactly, each as the fields before it decide.
+-- The fields behind the lead are read exactly, each as the fields before it decide.
 use Rattle.std.proofs.Common.{ℕ, pos, List, ◌++◌, Option, refl, arith}
 use Rattle.std.specs.Option.{option_to_list}
 use Rattle.sb_insn.specs.declared.insn.Disp.{Disp}
@@ -12,14 +12,14 @@ use Rattle.sb_insn.specs.declared.insn.ImmKind.TheVariants as imm_kinds
 use Rattle.sb_insn.specs.OpcodeMap.{cell_of}
 use Rattle.sb_insn.specs.Spelling.{disp_bytes, imm_bytes}
 use Rattle.sb_insn.specs.Fields.{disp_kind_of, rule_of, imm_kind_of}
-use Rattle.sb_decode.specs.declared.front.Front.{Front}
+use Rattle.sb_decode.specs.declared.lead.Lead.{Lead}
 use Rattle.sb_decode.specs.Reading.{Read, and_then}
 use Rattle.sb_decode.specs.FieldReaders.{modrm_at, sib_at, disp_at, imm_at}
 use Rattle.sb_decode.proofs.Reader.{Reads, both}
 use Rattle.sb_decode.proofs.Tail.{GoodDisp, GoodImm, disp_reads, imm_reads}
 use Rattle.sb_decode.proofs.Sib.{GoodSib, sib_reads, some_sib}
 use Rattle.sb_decode.proofs.Modrm.{GoodModrm, modrm_reads, some_modrm}
-use Rattle.sb_decode.proofs.Prefixes.{GoodFront}
+use Rattle.sb_decode.proofs.Prefixes.{GoodLead}
 
 -- ---- the displacement and the immediate
 
@@ -76,34 +76,34 @@ some_behind modrm imm_kind = let sib = some_sib modrm in let end = some_end (dis
 abbrev pub Rest : Type 0
 Rest = Option ℕ × (Option ℕ × (Disp × Imm))
 
-abbrev imm_kind_at : Front → Option ℕ → ImmKind
-imm_kind_at front modrm = imm_kind_of (rule_of (cell_of front.op) modrm) front.rex
+abbrev imm_kind_at : Lead → Option ℕ → ImmKind
+imm_kind_at lead modrm = imm_kind_of (rule_of (cell_of lead.op) modrm) lead.rex
 
-abbrev pub GoodRest : Front → Rest → Type 0
-GoodRest front rest =
-    GoodModrm (cell_of front.op) front.lock front.rex rest.0 × GoodBehind rest.0 (imm_kind_at front rest.0) rest.1
+abbrev pub GoodRest : Lead → Rest → Type 0
+GoodRest lead rest =
+    GoodModrm (cell_of lead.op) lead.lock lead.rex rest.0 × GoodBehind rest.0 (imm_kind_at lead rest.0) rest.1
 
 abbrev pub spell_rest : Rest → List ℕ
 spell_rest rest = option_to_list rest.0 ++ spell_behind rest.1
 
-abbrev pub rest_at : Front → List ℕ → Read Rest
-rest_at front =
-    and_then (modrm_at (cell_of front.op) front.lock front.rex)
+abbrev pub rest_at : Lead → List ℕ → Read Rest
+rest_at lead =
+    and_then (modrm_at (cell_of lead.op) lead.lock lead.rex)
     (λ modrm. and_then (sib_at modrm)
-    (λ sib. and_then (disp_at (disp_kind_of modrm sib)) (λ d. imm_at (imm_kind_at front modrm))))
+    (λ sib. and_then (disp_at (disp_kind_of modrm sib)) (λ d. imm_at (imm_kind_at lead modrm))))
 
-pub rest_reads : (front : Front) → GoodFront front → Reads Rest (GoodRest front) spell_rest (rest_at front)
-rest_reads front good =
-    both (Option ℕ) (Option ℕ × (Disp × Imm)) (GoodModrm (cell_of front.op) front.lock front.rex)
-    (λ modrm. GoodBehind modrm (imm_kind_at front modrm)) (λ modrm. option_to_list modrm) spell_behind
-    (modrm_at (cell_of front.op) front.lock front.rex)
+pub rest_reads : (lead : Lead) → GoodLead lead → Reads Rest (GoodRest lead) spell_rest (rest_at lead)
+rest_reads lead good =
+    both (Option ℕ) (Option ℕ × (Disp × Imm)) (GoodModrm (cell_of lead.op) lead.lock lead.rex)
+    (λ modrm. GoodBehind modrm (imm_kind_at lead modrm)) (λ modrm. option_to_list modrm) spell_behind
+    (modrm_at (cell_of lead.op) lead.lock lead.rex)
     (λ modrm. and_then (sib_at modrm)
-    (λ sib. and_then (disp_at (disp_kind_of modrm sib)) (λ d. imm_at (imm_kind_at front modrm))))
-    (modrm_reads (cell_of front.op) front.lock front.rex good.takes)
-    (λ modrm fits. behind_reads modrm (imm_kind_at front modrm)) (λ modrm fits. some_behind modrm (imm_kind_at front modrm))
+    (λ sib. and_then (disp_at (disp_kind_of modrm sib)) (λ d. imm_at (imm_kind_at lead modrm))))
+    (modrm_reads (cell_of lead.op) lead.lock lead.rex good.takes)
+    (λ modrm fits. behind_reads modrm (imm_kind_at lead modrm)) (λ modrm fits. some_behind modrm (imm_kind_at lead modrm))
 
-pub some_rest : (front : Front) → GoodFront front → (rest : Rest) × GoodRest front rest
-some_rest front good =
-    let modrm = some_modrm (cell_of front.op) front.lock front.rex good.takes in
-    let behind = some_behind modrm.0 (imm_kind_at front modrm.0) in
+pub some_rest : (lead : Lead) → GoodLead lead → (rest : Rest) × GoodRest lead rest
+some_rest lead good =
+    let modrm = some_modrm (cell_of lead.op) lead.lock lead.rex good.takes in
+    let behind = some_behind modrm.0 (imm_kind_at lead modrm.0) in
     ((modrm.0, behind.0), (modrm.1, behind.1))

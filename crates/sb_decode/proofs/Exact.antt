@@ -6,32 +6,32 @@ use Rattle.sb_insn.specs.declared.insn.Insn.{Insn}
 use Rattle.sb_insn.specs.declared.insn.Op.{Op}
 use Rattle.sb_insn.specs.declared.insn.Op.TheVariants.{One, Two, Endbr, Vmfunc}
 use Rattle.sb_insn.specs.OpcodeMap.{cell_of}
-use Rattle.sb_insn.specs.Spelling.{lock_bytes, op_bytes, front_bytes, disp_bytes, imm_bytes, spelling}
+use Rattle.sb_insn.specs.Spelling.{lock_bytes, op_bytes, lead_bytes, disp_bytes, imm_bytes, spelling}
 use Rattle.sb_insn.specs.Grammar.{IsValid, BeginsWith, IsShort, IsUndecoded}
 use Rattle.sb_insn.proofs.Longest.{spelling_13}
 use Rattle.sb_decode.specs.declared.fault.DecodeFault.{DecodeFault}
 use Rattle.sb_decode.specs.declared.fault.DecodeFault.TheVariants.{Short, Undecoded}
-use Rattle.sb_decode.specs.declared.front.Front.{Front}
+use Rattle.sb_decode.specs.declared.lead.Lead.{Lead}
 use Rattle.sb_decode.specs.Reading.{Read}
-use Rattle.sb_decode.specs.FrontReader.{front_at}
+use Rattle.sb_decode.specs.LeadReader.{lead_at}
 use Rattle.sb_decode.specs.InsnReader.{Parts, parts_at, insn_of, from_parts}
 use Rattle.sb_decode.specs.Decode.{Decodes, NoneBeginsAnother, OneBegins, SpelledApart}
 use Rattle.sb_decode.proofs.Reader.{IsBytes, Reads, both, one}
 use Rattle.sb_decode.proofs.Modrm.{modrm_takes_prefixes}
-use Rattle.sb_decode.proofs.Prefixes.{GoodFront, spell_front, front_reads}
+use Rattle.sb_decode.proofs.Prefixes.{GoodLead, spell_lead, lead_reads}
 use Rattle.sb_decode.proofs.Behind.{Rest, GoodRest, spell_rest, rest_at, rest_reads, some_rest}
 
 -- ---- the whole
 
 abbrev GoodParts : Parts → Type 0
-GoodParts parts = GoodFront parts.0 × GoodRest parts.0 parts.1
+GoodParts parts = GoodLead parts.0 × GoodRest parts.0 parts.1
 
 abbrev spell_parts : Parts → List ℕ
-spell_parts parts = spell_front parts.0 ++ spell_rest parts.1
+spell_parts parts = spell_lead parts.0 ++ spell_rest parts.1
 
 parts_reads : Reads Parts GoodParts spell_parts parts_at
 unfolding parts_at
-parts_reads = both Front Rest GoodFront GoodRest spell_front spell_rest front_at rest_at front_reads rest_reads some_rest
+parts_reads = both Lead Rest GoodLead GoodRest spell_lead spell_rest lead_at rest_at lead_reads rest_reads some_rest
 
 abbrev parts_of : Insn → Parts
 parts_of insn = (record { lock = insn.lock; rex = insn.rex; op = insn.op }, (insn.modrm, (insn.sib, (insn.disp, insn.imm))))
@@ -152,7 +152,7 @@ spelling_some insn =
     omega (
       arith,
       op_some insn.op,
-      length-append (front_bytes insn.lock insn.rex insn.op)
+      length-append (lead_bytes insn.lock insn.rex insn.op)
           (option_to_list insn.modrm ++ (option_to_list insn.sib ++ (disp_bytes insn.disp ++ imm_bytes insn.imm))),
       length-append (lock_bytes insn.lock) (option_to_list insn.rex ++ op_bytes insn.op),
       length-append (option_to_list insn.rex) (op_bytes insn.op),

@@ -6,7 +6,7 @@ use Rattle.sb_insn.specs.declared.opcode_map.Cell.{Cell}
 use Rattle.sb_insn.specs.declared.opcode_map.Cell.TheVariants.{Absent}
 use Rattle.sb_insn.specs.OpcodeMap.{one_byte, two_byte}
 use Rattle.sb_insn.specs.Fields.{is_rex}
-use Rattle.sb_decode.specs.FrontReader.{takes_prefixes}
+use Rattle.sb_decode.specs.LeadReader.{takes_prefixes}
 
 pub no_0F : one_byte 0x0F ≡ Absent
 unfolding one_byte

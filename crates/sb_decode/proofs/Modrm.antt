@@ -16,7 +16,7 @@ use Rattle.sb_insn.specs.Grammar.{IsByte}
 use Rattle.sb_insn.proofs.Rows.{some_holds, extended}
 use Rattle.sb_decode.specs.declared.fault.DecodeFault.TheVariants.{Short, Undecoded}
 use Rattle.sb_decode.specs.Reading.{Read}
-use Rattle.sb_decode.specs.FrontReader.{takes_prefixes}
+use Rattle.sb_decode.specs.LeadReader.{takes_prefixes}
 use Rattle.sb_decode.specs.FieldReaders.{modrm_at, modrm_byte, is_alone}
 use Rattle.sb_decode.proofs.Reader.{IsBytes, Reads, ok_is, by_test}
 

@@ -8,9 +8,9 @@ use Rattle.sb_decode.specs.Reading.{◌>>=◌, Read, and_then}
 abbrev pub IsBytes : List ℕ → Type 0
 IsBytes bytes = (k : ℕ) → get_or bytes k 0 < 256
 
-pub IsBytes-rest : (front rest : List ℕ) → IsBytes (front ++ rest) → IsBytes rest
+pub IsBytes-rest : (lead rest : List ℕ) → IsBytes (lead ++ rest) → IsBytes rest
 IsBytes-rest [] rest h = h
-IsBytes-rest (x ∷ front) rest h = IsBytes-rest front rest (λ k. h (suc k))
+IsBytes-rest (x ∷ lead) rest h = IsBytes-rest lead rest (λ k. h (suc k))
 
 -- the fields that are good, how each is spelled, and what reads them
 pub record Reads (Field : Type 0) (Good : Field → Type 0) (spell : Field → List ℕ) (read : List ℕ → Read Field) : Type 0 where

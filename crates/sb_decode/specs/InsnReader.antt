@@ -5,14 +5,14 @@ use Rattle.sb_insn.specs.declared.insn.Disp.{Disp}
 use Rattle.sb_insn.specs.declared.insn.Imm.{Imm}
 use Rattle.sb_insn.specs.OpcodeMap.{cell_of}
 use Rattle.sb_insn.specs.Fields.{disp_kind_of, rule_of, imm_kind_of}
-use Rattle.sb_decode.specs.declared.front.Front.{Front}
+use Rattle.sb_decode.specs.declared.lead.Lead.{Lead}
 use Rattle.sb_decode.specs.Reading.{Read, and_then}
-use Rattle.sb_decode.specs.FrontReader.{front_at}
+use Rattle.sb_decode.specs.LeadReader.{lead_at}
 use Rattle.sb_decode.specs.FieldReaders.{modrm_at, sib_at, disp_at, imm_at}
 
--- the front, and behind it ModRM, SIB, the displacement and the immediate
+-- the lead, and behind it ModRM, SIB, the displacement and the immediate
 abbrev pub Parts : Type 0
-Parts = Front × (Option ℕ × (Option ℕ × (Disp × Imm)))
+Parts = Lead × (Option ℕ × (Option ℕ × (Disp × Imm)))
 
 abbrev pub insn_of : Parts → Insn
 insn_of parts =
@@ -28,11 +28,11 @@ insn_of parts =
 
 unfoldable pub parts_at : List ℕ → Read Parts
 parts_at =
-    and_then front_at (λ front.
-    and_then (modrm_at (cell_of front.op) front.lock front.rex) (λ modrm.
+    and_then lead_at (λ lead.
+    and_then (modrm_at (cell_of lead.op) lead.lock lead.rex) (λ modrm.
     and_then (sib_at modrm) (λ sib.
     and_then (disp_at (disp_kind_of modrm sib)) (λ disp.
-    imm_at (imm_kind_of (rule_of (cell_of front.op) modrm) front.rex)))))
+    imm_at (imm_kind_of (rule_of (cell_of lead.op) modrm) lead.rex)))))
 
 abbrev pub from_parts : Read Parts → Read Insn
 from_parts (Ok read) = Ok (insn_of read.0, read.1)

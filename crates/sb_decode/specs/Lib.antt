@@ -1,5 +1,5 @@
 pub mod Reading
-pub mod FrontReader
+pub mod LeadReader
 pub mod FieldReaders
 pub mod InsnReader
 pub mod Decode

@@ -3,7 +3,7 @@ use Rattle.std.specs.Prelude.{◌≡◌, List, ℕ, Result, Ok, Err}
 use Rattle.std.specs.Borrow.{Bor}
 use Rattle.sb_insn.specs.declared.opcode_map.Cell.{Cell}
 use Rattle.sb_insn.specs.OpcodeMap.{cell_of}
-use Rattle.sb_decode.specs.declared.front.Front.{Front}
+use Rattle.sb_decode.specs.declared.lead.Lead.{Lead}
 use Rattle.sb_decode.specs.declared.fault.DecodeFault.{DecodeFault}
 
 -- What reading gives: a field and the bytes behind it.
@@ -15,10 +15,10 @@ abbrev pub Gives : {Field : Type 0} → Result (Field × Bor (List ℕ)) DecodeF
 Gives (Ok got) read = read ≡ Ok (got.0, got.1.now)
 Gives (Err fault) read = read ≡ Err fault
 
--- a function that returned the front of an instruction, with what the opcode maps say of it, and a slice gave what is read
-abbrev pub GivesFront : Result ((Front × Cell) × Bor (List ℕ)) DecodeFault → Read Front → Type 0
-GivesFront (Ok got) read = (read ≡ Ok (got.0.0, got.1.now)) × (got.0.1 ≡ cell_of got.0.0.op)
-GivesFront (Err fault) read = read ≡ Err fault
+-- a function that returned the lead of an instruction, with what the opcode maps say of it, and a slice gave what is read
+abbrev pub GivesLead : Result ((Lead × Cell) × Bor (List ℕ)) DecodeFault → Read Lead → Type 0
+GivesLead (Ok got) read = (read ≡ Ok (got.0.0, got.1.now)) × (got.0.1 ≡ cell_of got.0.0.op)
+GivesLead (Err fault) read = read ≡ Err fault
 
 -- go on with what was read
 infixl 10 ◌>>=◌

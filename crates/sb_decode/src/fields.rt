@@ -5,7 +5,7 @@ ghost use Rattle.sb_decode.specs.Reading.{Gives};
 ghost use Rattle.sb_decode.specs.FieldReaders.{is_alone, modrm_at, sib_at, disp_at, imm_at};
 
 use crate::fault::DecodeFault;
-use crate::front::Front;
+use crate::lead::Lead;
 use crate::number::{number_8, number_32, number_64};
 use sb_insn::{Cell, Disp, DispKind, Imm, ImmKind, permits_modrm, wants_sib};
 
@@ -20,8 +20,8 @@ fn is_alone(cell: Cell) -> bool
 /// ModRM, where the opcode has it.
 #[inline(always)]
 #[tactic(auto, unfolding(crate::specs::FieldReaders::modrm_at))]
-pub fn modrm(cell: Cell, front: Front, bytes: &[u8]) -> Result<(Option<u8>, &[u8]), DecodeFault>
-    ensures { Gives result (modrm_at cell front.lock front.rex bytes.now) }
+pub fn modrm(cell: Cell, lead: Lead, bytes: &[u8]) -> Result<(Option<u8>, &[u8]), DecodeFault>
+    ensures { Gives result (modrm_at cell lead.lock lead.rex bytes.now) }
 {
     if is_alone(cell) {
         return Ok((None, bytes));
@@ -29,7 +29,7 @@ pub fn modrm(cell: Cell, front: Front, bytes: &[u8]) -> Result<(Option<u8>, &[u8
     match bytes {
         [] => Err(DecodeFault::Short),
         [byte, rest @ ..] => {
-            if permits_modrm(cell, front.lock, front.rex, *byte) {
+            if permits_modrm(cell, lead.lock, lead.rex, *byte) {
                 Ok((Some(*byte), rest))
             } else {
                 Err(DecodeFault::Undecoded)

@@ -13,7 +13,7 @@
 
 mod fault;
 mod fields;
-mod front;
+mod lead;
 mod number;
 
 ghost use Rattle.std.specs.Prelude.{◌≡◌, ◌<◌, ◌≤◌, length, IfOk, IsErrOf};
@@ -58,15 +58,15 @@ pub fn one_spelling()
 fn insn(bytes: &[u8]) -> Result<(Insn, &[u8]), DecodeFault>
     ensures { Gives result (from_parts (parts_at bytes.now)) }
 {
-    let ((front, cell), rest) = front::read(bytes)?;
-    let (modrm, rest) = fields::modrm(cell, front, rest)?;
+    let ((lead, cell), rest) = lead::read(bytes)?;
+    let (modrm, rest) = fields::modrm(cell, lead, rest)?;
     let (sib, rest) = fields::sib(modrm, rest)?;
     let (disp, rest) = fields::disp(disp_kind(modrm, sib), rest)?;
-    let (imm, rest) = fields::imm(imm_kind(cell, modrm, front.rex), rest)?;
+    let (imm, rest) = fields::imm(imm_kind(cell, modrm, lead.rex), rest)?;
     let insn = Insn {
-        lock: front.lock,
-        rex: front.rex,
-        op: front.op,
+        lock: lead.lock,
+        rex: lead.rex,
+        op: lead.op,
         modrm,
         sib,
         disp,

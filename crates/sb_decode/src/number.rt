@@ -15,8 +15,8 @@ pub fn number_8(bytes: &[u8]) -> Result<(i8, &[u8]), DecodeFault>
     if bytes.len() < 1 {
         return Err(DecodeFault::Short);
     }
-    let (front, rest) = bytes.split_at(1);
-    Ok((i8::from_le_bytes([front[0]]), rest))
+    let (lead, rest) = bytes.split_at(1);
+    Ok((i8::from_le_bytes([lead[0]]), rest))
 }
 
 /// A number of four bytes, and the bytes behind it.
@@ -28,8 +28,8 @@ pub fn number_32(bytes: &[u8]) -> Result<(i32, &[u8]), DecodeFault>
     if bytes.len() < 4 {
         return Err(DecodeFault::Short);
     }
-    let (front, rest) = bytes.split_at(4);
-    let number = i32::from_le_bytes([front[0], front[1], front[2], front[3]]);
+    let (lead, rest) = bytes.split_at(4);
+    let number = i32::from_le_bytes([lead[0], lead[1], lead[2], lead[3]]);
     Ok((number, rest))
 }
 
@@ -42,9 +42,9 @@ pub fn number_64(bytes: &[u8]) -> Result<(i64, &[u8]), DecodeFault>
     if bytes.len() < 8 {
         return Err(DecodeFault::Short);
     }
-    let (front, rest) = bytes.split_at(8);
+    let (lead, rest) = bytes.split_at(8);
     let number = i64::from_le_bytes([
-        front[0], front[1], front[2], front[3], front[4], front[5], front[6], front[7],
+        lead[0], lead[1], lead[2], lead[3], lead[4], lead[5], lead[6], lead[7],
     ]);
     Ok((number, rest))
 }

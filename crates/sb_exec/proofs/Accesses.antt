@@ -65,8 +65,8 @@ parts_run bus load.Nothing last after effect regs meaning account =
     store_runs bus load.Nothing last after effect regs meaning account 0
 parts_run bus (load.Read address size) last after effect regs meaning account =
     load_runs bus (load.Read address size) last after effect regs meaning _ _
-parts_run bus (load.ReadToWrite address size) last after effect regs meaning account =
-    load_runs bus (load.ReadToWrite address size) last after effect regs meaning _ _
+parts_run bus (load.ReadForWrite address size) last after effect regs meaning account =
+    load_runs bus (load.ReadForWrite address size) last after effect regs meaning _ _
 
 -- the run of the accesses is the load and then the store
 pub two_steps : {M A : Type 0} (bus : Interface M A) (row : Row) (regs : Regs) (meaning : M) (account : A)

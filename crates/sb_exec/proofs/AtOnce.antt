@@ -7,9 +7,9 @@ use Rattle.sb_insn.specs.Grammar.{IsValid, BeginsWith}
 use Rattle.sb_decode.proofs.Exact.{none_begins_another}
 use Rattle.sb_bus.specs.declared.stop.BusStop.{BusStop}
 use Rattle.sb_exec.specs.Fetching.{Stands, Fetches}
-use Rattle.sb_exec.proofs.OneFetch.{short_fronts}
+use Rattle.sb_exec.proofs.OneFetch.{short_prefixes}
 
--- no instruction begins a proper front of a spelling
+-- no instruction begins a proper prefix of a spelling
 none_before : (insn other : Insn) (count : ℕ) → IsValid insn → count < length (spelling insn)
     → BeginsWith (take count (spelling insn)) other → ⊥
 none_before insn other count valid below begins =
@@ -29,18 +29,18 @@ none_before insn other count valid below begins =
     )
 
 -- what begins bytes that stand there stands there
-front_stands : (fetch : ℕ → Result ℕ BusStop) (address : ℕ) (bytes front rest : List ℕ) → bytes ≡ front ++ rest
-    → Stands fetch address bytes → Stands fetch address front
-front_stands fetch address bytes front rest split stands index below =
-    let inside : index < length bytes = omega (arith, below, ap (λ (t : List ℕ). length t) split, length-append front rest) in
+prefix_stands : (fetch : ℕ → Result ℕ BusStop) (address : ℕ) (bytes prefix rest : List ℕ) → bytes ≡ prefix ++ rest
+    → Stands fetch address bytes → Stands fetch address prefix
+prefix_stands fetch address bytes prefix rest split stands index below =
+    let inside : index < length bytes = omega (arith, below, ap (λ (t : List ℕ). length t) split, length-append prefix rest) in
     stands index inside
-    ∙ ap (λ (b : ℕ). Ok b) (ap (λ (t : List ℕ). get_or t index 0) split ∙ get_or_append_left front rest 0 index below)
+    ∙ ap (λ (b : ℕ). Ok b) (ap (λ (t : List ℕ). get_or t index 0) split ∙ get_or_append_left prefix rest 0 index below)
 
 pub fetched_at_once : (fetch : ℕ → Result ℕ BusStop) (address : ℕ) (bytes : List ℕ) (insn : Insn) → BeginsWith bytes insn
     → Stands fetch address bytes → Fetches fetch address (Ok insn) (length (spelling insn))
 fetched_at_once fetch address bytes insn begins stands = record {
   bytes = spelling insn;
-  stands = front_stands fetch address bytes (spelling insn) begins.1.0 begins.1.1 stands;
-  fronts = short_fronts insn begins.0;
+  stands = prefix_stands fetch address bytes (spelling insn) begins.1.0 begins.1.1 stands;
+  prefixes = short_prefixes insn begins.0;
   ends = ((begins.0, refl), refl);
 }

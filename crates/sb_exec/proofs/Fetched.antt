@@ -7,22 +7,22 @@ use Rattle.sb_insn.specs.declared.insn.Insn.{Insn}
 use Rattle.sb_insn.specs.Spelling.{spelling}
 use Rattle.sb_insn.specs.Grammar.{Spells, BeginsWith, IsShort}
 use Rattle.sb_bus.specs.declared.stop.BusStop.{BusStop}
-use Rattle.sb_exec.specs.Fetching.{bytes_from_fetch, Stands, HasShortFronts}
+use Rattle.sb_exec.specs.Fetching.{bytes_from_fetch, Stands, HasShortPrefixes}
 
-pub no_fronts : HasShortFronts []
-unfolding HasShortFronts
-no_fronts count below = absurd (omega arith)
+pub no_prefixes : HasShortPrefixes []
+unfolding HasShortPrefixes
+no_prefixes count below = absurd (omega arith)
 
 -- ---- one byte more
 
-fronts_push : (byte : ℕ) (bytes : List ℕ) → HasShortFronts bytes → IsShort bytes → HasShortFronts (bytes ++ byte ∷ [])
-unfolding HasShortFronts
-fronts_push byte bytes fronts short count below =
+prefixes_push : (byte : ℕ) (bytes : List ℕ) → HasShortPrefixes bytes → IsShort bytes → HasShortPrefixes (bytes ++ byte ∷ [])
+unfolding HasShortPrefixes
+prefixes_push byte bytes prefixes short count below =
     let long : length (bytes ++ byte ∷ []) ≡ length bytes + 1 = length-append bytes (byte ∷ []) in
     let same : take count (bytes ++ byte ∷ []) ≡ take count bytes = take-append-le count bytes (byte ∷ []) (omega arith) in
     subst (λ (t : List ℕ). IsShort t) (sym same)
     (elim (cases_lt count (length bytes)) [
-      | inl inside ↦ fronts count inside
+      | inl inside ↦ prefixes count inside
       | inr all ↦ subst (λ (t : List ℕ). IsShort t) (sym (take_all count bytes all)) short
     ])
 
@@ -39,12 +39,12 @@ stands_push fetch address byte bytes stands next index below =
     ]
 
 -- the array has one byte more
-pub more_fronts : (count byte : ℕ) (array : List ℕ) → count < length array → HasShortFronts (take count array)
+pub more_prefixes : (count byte : ℕ) (array : List ℕ) → count < length array → HasShortPrefixes (take count array)
     → IsShort (take count array)
-    → HasShortFronts (take (count + 1) (slice_set array count byte))
-more_fronts count byte array inside fronts short =
-    subst (λ (t : List ℕ). HasShortFronts t) (sym (take_more_set array count byte inside))
-    (fronts_push byte (take count array) fronts short)
+    → HasShortPrefixes (take (count + 1) (slice_set array count byte))
+more_prefixes count byte array inside prefixes short =
+    subst (λ (t : List ℕ). HasShortPrefixes t) (sym (take_more_set array count byte inside))
+    (prefixes_push byte (take count array) prefixes short)
 
 pub more_stands : (fetch : ℕ → Result ℕ BusStop) (address count byte : ℕ) (array : List ℕ) → count < length array
     → Stands fetch address (take count array) → fetch (bytes_from_fetch address count) ≡ Ok byte
@@ -56,16 +56,16 @@ more_stands fetch address count byte array inside stands next =
 
 -- ---- no byte too many
 
--- an instruction that begins the bytes is the whole, if each proper front needs more
-pub spelled_whole : (bytes : List ℕ) (insn : Insn) → BeginsWith bytes insn → HasShortFronts bytes → Spells bytes insn
-unfolding HasShortFronts
-spelled_whole bytes insn begins fronts =
+-- an instruction that begins the bytes is the whole, if each proper prefix needs more
+pub spelled_whole : (bytes : List ℕ) (insn : Insn) → BeginsWith bytes insn → HasShortPrefixes bytes → Spells bytes insn
+unfolding HasShortPrefixes
+spelled_whole bytes insn begins prefixes =
     let split : bytes ≡ spelling insn ++ begins.1.0 = begins.1.1 in
-    let front : take (length (spelling insn)) bytes ≡ spelling insn =
+    let prefix : take (length (spelling insn)) bytes ≡ spelling insn =
     ap (λ (t : List ℕ). take (length (spelling insn)) t) split ∙ take-append_seam (spelling insn) begins.1.0 in
     elim (cases_lt (length (spelling insn)) (length bytes)) [
       | inl more ↦
-          let short : IsShort (spelling insn) = subst (λ (t : List ℕ). IsShort t) front (fronts (length (spelling insn)) more) in
+          let short : IsShort (spelling insn) = subst (λ (t : List ℕ). IsShort t) prefix (prefixes (length (spelling insn)) more) in
           absurd (short.0 insn (begins.0, ([], sym (append-nil (spelling insn)))))
-      | inr all ↦ (begins.0, sym (take_all (length (spelling insn)) bytes all) ∙ front)
+      | inr all ↦ (begins.0, sym (take_all (length (spelling insn)) bytes all) ∙ prefix)
     ]

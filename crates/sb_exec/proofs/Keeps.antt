@@ -5,7 +5,7 @@ use Rattle.sb_memory.specs.declared.address.Access.TheVariants as access
 use Rattle.sb_bus.specs.declared.stop.BusStop.{BusStop}
 use Rattle.sb_bus.specs.Interface.{Interface}
 use Rattle.sb_bus.specs.Access.{store_answer, byte_for, where_stored}
-use Rattle.sb_exec.specs.Row.{Row, MemoryAccess, Loads, LoadsToWrite, Stores, accesses}
+use Rattle.sb_exec.specs.Row.{Row, MemoryAccess, Loads, LoadsForWrite, Stores, accesses}
 use Rattle.sb_exec.specs.Execution.{Run, run, run_on, access_answer, meaning_after, call_of, execution_of}
 
 -- a store, whatever it stores and where, keeps the claim
@@ -20,7 +20,7 @@ where_kept M claim (Err stop) new old one other = other
 access_keeps : (M A : Type 0) (bus : Interface M A) (claim : M → Type 0) → StoresKeep M A bus claim
     → (one : MemoryAccess) (meaning : M) (loaded : ℕ) → claim meaning → claim (meaning_after bus one meaning loaded)
 access_keeps M A bus claim keep (Loads address size) meaning loaded holds = holds
-access_keeps M A bus claim keep (LoadsToWrite address size) meaning loaded holds = holds
+access_keeps M A bus claim keep (LoadsForWrite address size) meaning loaded holds = holds
 access_keeps M A bus claim keep (Stores address size value) meaning loaded holds =
     where_kept M claim (store_answer (byte_for (bus.byte meaning) access.Write) address size)
     (bus.stored meaning address size (value loaded)) meaning

@@ -9,7 +9,7 @@ use Rattle.sb_decode.proofs.Exact.{spelled_apart, none_begins_another}
 use Rattle.sb_decode.proofs.OneAnswer.{short_undecoded}
 use Rattle.sb_bus.specs.declared.stop.BusStop.{BusStop}
 use Rattle.sb_bus.specs.Interface.{Interface}
-use Rattle.sb_exec.specs.Fetching.{bytes_from_fetch, Stands, HasShortFronts, EndsFetch, Fetches, OneFetch, fetch_of, after_fetches, OneFetchOn}
+use Rattle.sb_exec.specs.Fetching.{bytes_from_fetch, Stands, HasShortPrefixes, EndsFetch, Fetches, OneFetch, fetch_of, after_fetches, OneFetchOn}
 
 same_ok : (first second : ℕ) (answer : Result ℕ BusStop) → answer ≡ Ok first → answer ≡ Ok second → first ≡ second
 same_ok first second answer one other = cc
@@ -20,11 +20,11 @@ same_err first second answer one other = cc
 not_both : (byte : ℕ) (stop : BusStop) (answer : Result ℕ BusStop) → answer ≡ Ok byte → answer ≡ Err stop → ⊥
 not_both byte stop answer one other = cc
 
--- of two lists that stand at one address the one that is not longer is the front of the other
-front_stands : (fetch : ℕ → Result ℕ BusStop) (address : ℕ) (short long : List ℕ) → Stands fetch address short
+-- of two lists that stand at one address the one that is not longer is the prefix of the other
+prefix_stands : (fetch : ℕ → Result ℕ BusStop) (address : ℕ) (short long : List ℕ) → Stands fetch address short
     → Stands fetch address long
     → length short ≤ length long → take (length short) long ≡ short
-front_stands fetch address short long in_short in_long within =
+prefix_stands fetch address short long in_short in_long within =
     let same : length (take (length short) long) ≡ length short = length-take-le (length short) long within in
     ext_get_or 0 (take (length short) long) short same
     (λ index below. let there : index < length short = omega arith in
@@ -48,13 +48,13 @@ spelled_or_undecoded bytes insn spelled undecoded =
 -- fetching that ends after some bytes does not go on
 ends_there : (fetch : ℕ → Result ℕ BusStop) (address : ℕ) (short long : List ℕ) (result : Result Insn BusStop) (asked : ℕ)
     → EndsFetch fetch address short result asked → Stands fetch address long → take (length short) long ≡ short
-    → HasShortFronts long
+    → HasShortPrefixes long
     → length short < length long → ⊥
-unfolding HasShortFronts
-ends_there fetch address short long (Ok insn) asked ends stands front fronts below =
-    spelled_or_short short insn ends.0 (subst (λ (t : List ℕ). IsShort t) front (fronts (length short) below))
-ends_there fetch address short long (Err stop) asked ends stands front fronts below = elim ends [
-  | inl undecoded ↦ short_undecoded short (subst (λ (t : List ℕ). IsShort t) front (fronts (length short) below)) undecoded.0
+unfolding HasShortPrefixes
+ends_there fetch address short long (Ok insn) asked ends stands prefix prefixes below =
+    spelled_or_short short insn ends.0 (subst (λ (t : List ℕ). IsShort t) prefix (prefixes (length short) below))
+ends_there fetch address short long (Err stop) asked ends stands prefix prefixes below = elim ends [
+  | inl undecoded ↦ short_undecoded short (subst (λ (t : List ℕ). IsShort t) prefix (prefixes (length short) below)) undecoded.0
   | inr more ↦ not_both _ stop (fetch (bytes_from_fetch address (length short))) (stands (length short) below) more.1
 ]
 
@@ -89,16 +89,16 @@ same_bytes : (fetch : ℕ → Result ℕ BusStop) (address : ℕ) (first second 
 same_bytes fetch address first second asked others one two =
     elim (cases_lt (length one.bytes) (length two.bytes)) [
       | inl below ↦
-          let front : take (length one.bytes) two.bytes ≡ one.bytes =
-          front_stands fetch address one.bytes two.bytes one.stands two.stands (omega arith) in
-          absurd (ends_there fetch address one.bytes two.bytes first asked one.ends two.stands front two.fronts below)
+          let prefix : take (length one.bytes) two.bytes ≡ one.bytes =
+          prefix_stands fetch address one.bytes two.bytes one.stands two.stands (omega arith) in
+          absurd (ends_there fetch address one.bytes two.bytes first asked one.ends two.stands prefix two.prefixes below)
       | inr within ↦
-          let front : take (length two.bytes) one.bytes ≡ two.bytes =
-          front_stands fetch address two.bytes one.bytes two.stands one.stands within in
+          let prefix : take (length two.bytes) one.bytes ≡ two.bytes =
+          prefix_stands fetch address two.bytes one.bytes two.stands one.stands within in
           elim (cases_lt (length two.bytes) (length one.bytes)) [
             | inl below ↦ absurd
-                (ends_there fetch address two.bytes one.bytes second others two.ends one.stands front one.fronts below)
-            | inr also ↦ sym (take_all (length two.bytes) one.bytes also) ∙ front
+                (ends_there fetch address two.bytes one.bytes second others two.ends one.stands prefix one.prefixes below)
+            | inr also ↦ sym (take_all (length two.bytes) one.bytes also) ∙ prefix
           ]
     ]
 
@@ -118,22 +118,22 @@ one_fetch_on bus meaning address account first_account second_account first seco
 -- no instruction is spelled by a proper prefix of another's bytes
 prefix_begins : (insn other : Insn) (count : ℕ) (rest : List ℕ) → IsValid insn → IsValid other → count < length (spelling insn)
     → take count (spelling insn) ≡ spelling other ++ rest → ⊥
-prefix_begins insn other count rest valid also below front =
+prefix_begins insn other count rest valid also below prefix =
     let behind = drop count (spelling insn) in
     let whole : spelling insn ≡ spelling other ++ (rest ++ behind) =
-    sym (take-append-drop count (spelling insn)) ∙ ap (λ (t : List ℕ). t ++ behind) front
+    sym (take-append-drop count (spelling insn)) ∙ ap (λ (t : List ℕ). t ++ behind) prefix
     ∙ append_assoc (spelling other) rest behind in
     let same : other ≡ insn = none_begins_another other insn (rest ++ behind) also valid whole in
     let size : length (take count (spelling insn)) ≡ count = length-take-le count (spelling insn) (omega arith) in
     let parts : length (take count (spelling insn)) ≡ length (spelling other) + length rest =
-    ap (λ (t : List ℕ). length t) front ∙ length-append (spelling other) rest in
+    ap (λ (t : List ℕ). length t) prefix ∙ length-append (spelling other) rest in
     let longer : length (spelling other) ≡ length (spelling insn) = ap (λ (i : Insn). length (spelling i)) same in
     omega (arith, size, parts, longer, below)
 
 -- after each proper prefix of an instruction's bytes fetching goes on
-pub short_fronts : (insn : Insn) → IsValid insn → HasShortFronts (spelling insn)
-unfolding HasShortFronts
-short_fronts insn valid count below = (
+pub short_prefixes : (insn : Insn) → IsValid insn → HasShortPrefixes (spelling insn)
+unfolding HasShortPrefixes
+short_prefixes insn valid count below = (
   λ other begins. prefix_begins insn other count begins.1.0 valid begins.0 below begins.1.1,
   (
     drop count (spelling insn),
@@ -149,6 +149,6 @@ pub spelled_fetches : (fetch : ℕ → Result ℕ BusStop) (address : ℕ) (insn
 spelled_fetches fetch address insn valid stands = record {
   bytes = spelling insn;
   stands = stands;
-  fronts = short_fronts insn valid;
+  prefixes = short_prefixes insn valid;
   ends = ((valid, refl), refl);
 }

@@ -10,7 +10,7 @@ use Rattle.sb_exec.specs.declared.action.Effect.{Effect}
 use Rattle.sb_memory.specs.Outcome.{and_then, done}
 use Rattle.sb_bus.specs.Access.{bytes_from, number_of, loaded_from, store_answer, where_stored}
 use Rattle.sb_bus.specs.Interface.{Interface}
-use Rattle.sb_exec.specs.Row.{Row, MemoryAccess, Loads, LoadsToWrite, Stores, accesses}
+use Rattle.sb_exec.specs.Row.{Row, MemoryAccess, Loads, LoadsForWrite, Stores, accesses}
 use Rattle.sb_exec.specs.Execution.{Run, Execution, Executes, run, run_on, execution_of, access_answer, meaning_after, execution_by, effect_after, registers_after}
 use Rattle.sb_exec.specs.Simulation.{told, WhereOk, IsAt, IsAnywhere, StoresKeepAt, BytesAgree, AgreeFrom, AgreeAt, AgreeAlong}
 use Rattle.sb_exec.specs.Simulation.{AccessesAgreeAt, SameExecution, RowsAgreeingAt, RowsAgreeing, RowsTold, Alike, RowsAlike, SameEnd}
@@ -78,7 +78,7 @@ access_agrees : {M N A B : Type 0} (naming : BusStop
     → AgreeAt naming left right one_access first second
     → access_answer right one_access second loaded ≡ told naming (access_answer left one_access first loaded)
 access_agrees naming left right (Loads address size) first second loaded given = loads_agree naming _ _ address size given
-access_agrees naming left right (LoadsToWrite address size) first second loaded given = loads_agree naming _ _ address size given
+access_agrees naming left right (LoadsForWrite address size) first second loaded given = loads_agree naming _ _ address size given
 access_agrees naming left right (Stores address size value) first second loaded given =
     rw (stores_agree naming _ _ address size given) (loaded_told naming _ loaded)
 
@@ -92,7 +92,7 @@ stored_related Related naming (Err stop) two first first' second second' equal g
 -- each access is somewhere
 pub anywhere : (one_access : MemoryAccess) → IsAt IsAnywhere one_access
 anywhere (Loads address size) = tt
-anywhere (LoadsToWrite address size) = tt
+anywhere (LoadsForWrite address size) = tt
 anywhere (Stores address size value) = tt
 
 all_anywhere : (accesses : List MemoryAccess) → AllByRecursion (IsAt IsAnywhere) accesses
@@ -106,7 +106,7 @@ pub access_related : {M N A B : Type 0} (At : ℕ → ℕ → Type 0) (Related :
     → AgreeAt naming left right one_access first second → Related first second
     → Related (meaning_after left one_access first loaded) (meaning_after right one_access second loaded)
 access_related At Related naming left right keep (Loads address size) first second loaded at given related = related
-access_related At Related naming left right keep (LoadsToWrite address size) first second loaded at given related = related
+access_related At Related naming left right keep (LoadsForWrite address size) first second loaded at given related = related
 access_related At Related naming left right keep (Stores address size value) first second loaded at given related =
     stored_related Related naming _ _ first _ second _ (stores_agree naming _ _ address size given) related
     (keep.stored first second related address size (value loaded) at)
@@ -204,7 +204,7 @@ at_all : {M N A B : Type 0} (Related : M → N → Type 0) (naming : BusStop →
     → AgreeAt naming left right one_access first second
 at_all Related naming left right all (Loads address size) first second related =
     from_all naming _ _ (λ address. all.byte first second related address access.Read tt) address size
-at_all Related naming left right all (LoadsToWrite address size) first second related =
+at_all Related naming left right all (LoadsForWrite address size) first second related =
     from_all naming _ _
     (λ address. to_write_told naming _ _ _ _ (all.byte first second related address access.Write tt)
     (all.byte first second related address access.Read tt)) address size

@@ -8,7 +8,7 @@ use Rattle.sb_exec.specs.declared.action.Effect.{Effect}
 use Rattle.sb_bus.specs.Interface.{Interface}
 use Rattle.sb_bus.specs.Access.{store_answer, byte_for, byte_for_write}
 use Rattle.sb_bus.proofs.Stops.{ByteStops, then_stops, load_stops, store_stops}
-use Rattle.sb_exec.specs.Row.{Row, MemoryAccess, Loads, LoadsToWrite, Stores, accesses}
+use Rattle.sb_exec.specs.Row.{Row, MemoryAccess, Loads, LoadsForWrite, Stores, accesses}
 use Rattle.sb_exec.specs.Execution.{Run, run, run_on, access_answer, meaning_after, call_of, effect_after, execution_of}
 use Rattle.sb_exec.specs.Fetching.{FetchesOn, undefined_at}
 
@@ -18,7 +18,7 @@ access_stops : (M A : Type 0) (bus : Interface M A) (claim : BusStop → Type 0)
     → (one : MemoryAccess) (meaning : M) (loaded : ℕ) → IfErr (access_answer bus one meaning loaded) claim
 access_stops M A bus claim all (Loads address size) meaning loaded =
     load_stops claim (byte_for (bus.byte meaning) access.Read) (λ at. all meaning at access.Read) address size
-access_stops M A bus claim all (LoadsToWrite address size) meaning loaded =
+access_stops M A bus claim all (LoadsForWrite address size) meaning loaded =
     load_stops claim (byte_for_write (bus.byte meaning))
     (λ at. then_stops ℕ ℕ claim (bus.byte meaning at access.Write) (λ _. bus.byte meaning at access.Read)
     (all meaning at access.Write) (λ _. all meaning at access.Read))

@@ -7,7 +7,7 @@ use Rattle.sb_exec.specs.declared.action.Effect.{Effect}
 use Rattle.sb_memory.specs.Outcome.{and_then, done}
 use Rattle.sb_bus.specs.Access.{bytes_from, loaded_from, store_answer, byte_for, byte_for_write}
 use Rattle.sb_bus.specs.Interface.{Interface}
-use Rattle.sb_exec.specs.Row.{MemoryAccess, Loads, LoadsToWrite, Stores, accesses}
+use Rattle.sb_exec.specs.Row.{MemoryAccess, Loads, LoadsForWrite, Stores, accesses}
 use Rattle.sb_exec.specs.Execution.{Run, run, run_on, execution_of, access_answer, effect_after}
 use Rattle.sb_exec.specs.Simulation.{told, WhereOk, StoresKeep, IsAnywhere, IsIn, BytesAgreeIn, AgreeFrom, AgreeAt, AgreeAlong, RowsIn}
 use Rattle.sb_exec.proofs.Simulation.{where_ok_map, anywhere, access_related, rows_agreeing}
@@ -58,7 +58,7 @@ unfolding loaded_from store_answer
 at_in Related naming out left right all (Loads address size) first second loaded related given =
     from_in naming out _ _ (λ address. all.byte first second related address access.Read tt) address size
     (in_first out (bytes_from (byte_for (left.byte first) access.Read) address size) _ given)
-at_in Related naming out left right all (LoadsToWrite address size) first second loaded related given =
+at_in Related naming out left right all (LoadsForWrite address size) first second loaded related given =
     from_in naming out _ _
     (λ address. to_write_in naming out _ _ _ _ (all.byte first second related address access.Write tt)
     (all.byte first second related address access.Read tt)) address size

@@ -14,7 +14,7 @@ use Rattle.sb_alu.specs.declared.operation.Operation.TheVariants as operation
 use Rattle.sb_exec.specs.declared.action.Exchange.TheVariants as exchange
 use Rattle.sb_exec.specs.declared.action.Action.{Action}
 use Rattle.sb_exec.specs.declared.action.Action.TheVariants.{Compute, ZeroExtend, LoadAddress, Exchange, Push, Pop, Return, Jump, JumpIf, Call, Pass, Stop}
-use Rattle.sb_exec.specs.Operand.{operand_size, opcode_of}
+use Rattle.sb_exec.specs.Operand.{operand_size, last_opcode_byte}
 
 -- ---- what the table looks at beside the instruction
 
@@ -28,7 +28,7 @@ moved_size insn = byte_or (operand_for insn) (operand_size insn)
 
 -- the condition of a jump: the lowest four bits of the opcode
 abbrev pub condition_number : Insn → ℕ
-condition_number insn = opcode_of insn.op % 16
+condition_number insn = last_opcode_byte insn.op % 16
 
 -- ---- the table
 

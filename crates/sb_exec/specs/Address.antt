@@ -7,8 +7,8 @@ use Rattle.sb_insn.specs.declared.insn.Disp.{Disp}
 use Rattle.sb_insn.specs.declared.insn.Disp.TheVariants as disp
 use Rattle.sb_insn.specs.declared.registers.Regs.{Regs}
 use Rattle.sb_insn.specs.Fields.{mod_field, rm_field, scale, index, base, rex_x, rex_b}
-use Rattle.sb_exec.specs.declared.action.Place.{Place}
-use Rattle.sb_exec.specs.declared.action.Place.TheVariants.{Register, Memory}
+use Rattle.sb_exec.specs.declared.action.Location.{Location}
+use Rattle.sb_exec.specs.declared.action.Location.TheVariants.{Register, Memory}
 use Rattle.sb_exec.specs.Operand.{modrm_of, rm_number, general, next_rip}
 
 -- ---- the SIB byte: scale, index and base
@@ -63,6 +63,6 @@ abbrev pub linear : ℕ → Linear
 linear address = record { 0 = address }
 
 -- mod 3 names a register, any other memory
-unfoldable pub rm_place : Insn → Regs → Place
-rm_place insn regs =
+unfoldable pub rm_location : Insn → Regs → Location
+rm_location insn regs =
     if mod_field (modrm_of insn) == 3 then Register (rm_number insn) else Memory (linear (operand_address insn regs))

@@ -7,21 +7,21 @@ use Rattle.sb_bus.specs.declared.stop.BusStop.{BusStop}
 use Rattle.sb_exec.specs.declared.action.Effect.{Effect}
 use Rattle.sb_bus.specs.Interface.{Interface, BusCall, LoadBytes, LoadForWrite, StoreBytes}
 use Rattle.sb_bus.specs.Access.{loaded_from, store_answer, byte_for, byte_for_write, where_stored}
-use Rattle.sb_exec.specs.Row.{Row, MemoryAccess, Loads, LoadsToWrite, Stores, accesses}
+use Rattle.sb_exec.specs.Row.{Row, MemoryAccess, Loads, LoadsForWrite, Stores, accesses}
 
 -- ---- one access
 
 -- the number that is loaded after an access, or why it stops
 abbrev pub access_answer : {M A : Type 0} → Interface M A → MemoryAccess → M → ℕ → Result ℕ BusStop
 access_answer bus (Loads address size) meaning loaded = loaded_from (byte_for (bus.byte meaning) Read) address size
-access_answer bus (LoadsToWrite address size) meaning loaded = loaded_from (byte_for_write (bus.byte meaning)) address size
+access_answer bus (LoadsForWrite address size) meaning loaded = loaded_from (byte_for_write (bus.byte meaning)) address size
 access_answer bus (Stores address size value) meaning loaded =
     and_then (store_answer (byte_for (bus.byte meaning) Write) address size) (λ _. Ok loaded)
 
 -- only a store that is done changes the meaning
 abbrev pub meaning_after : {M A : Type 0} → Interface M A → MemoryAccess → M → ℕ → M
 meaning_after bus (Loads address size) meaning loaded = meaning
-meaning_after bus (LoadsToWrite address size) meaning loaded = meaning
+meaning_after bus (LoadsForWrite address size) meaning loaded = meaning
 meaning_after bus (Stores address size value) meaning loaded =
     where_stored (store_answer (byte_for (bus.byte meaning) Write) address size)
     (bus.stored meaning address size (value loaded)) meaning
@@ -29,7 +29,7 @@ meaning_after bus (Stores address size value) meaning loaded =
 -- the call that makes an access
 abbrev pub call_of : MemoryAccess → ℕ → BusCall
 call_of (Loads address size) loaded = LoadBytes address size
-call_of (LoadsToWrite address size) loaded = LoadForWrite address size
+call_of (LoadsForWrite address size) loaded = LoadForWrite address size
 call_of (Stores address size value) loaded = StoreBytes address size (value loaded)
 
 -- ---- all of them

@@ -18,9 +18,9 @@ bytes_from_fetch address count = (address + count) % 2 ^ 64
 abbrev pub Stands : (ℕ → Result ℕ BusStop) → ℕ → List ℕ → Type 0
 Stands fetch address bytes = EachIndex bytes (λ index. fetch (bytes_from_fetch address index) ≡ Ok (slice_index bytes index))
 
--- each proper front of the bytes needs more: no instruction begins it, and one begins with it
-unfoldable pub HasShortFronts : List ℕ → Type 0
-HasShortFronts bytes = (count : ℕ) → count < length bytes → IsShort (take count bytes)
+-- each proper prefix of the bytes needs more: no instruction begins it, and one begins with it
+unfoldable pub HasShortPrefixes : List ℕ → Type 0
+HasShortPrefixes bytes = (count : ℕ) → count < length bytes → IsShort (take count bytes)
 
 -- where no instruction begins with the bytes
 abbrev pub undefined_at : ℕ → BusStop
@@ -34,12 +34,12 @@ EndsFetch fetch address bytes (Err stop) asked =
     (IsUndecoded bytes × (stop ≡ undefined_at address) × (asked ≡ length bytes))
     ⊎ (IsShort bytes × (fetch (bytes_from_fetch address (length bytes)) ≡ Err stop) × (asked ≡ suc (length bytes)))
 
--- Bytes are fetched one after another, as long as those so far are a proper front of an instruction.
+-- Bytes are fetched one after another, as long as those so far are a proper prefix of an instruction.
 pub record Fetches (fetch : ℕ → Result ℕ BusStop) (address : ℕ) (result : Result Insn BusStop) (asked : ℕ)
     : Type 0 where
   pub bytes : List ℕ
   pub stands : Stands fetch address bytes
-  pub fronts : HasShortFronts bytes
+  pub prefixes : HasShortPrefixes bytes
   pub ends : EndsFetch fetch address bytes result asked
 
 -- what memory gives determines the answer, and for how many bytes is asked

@@ -23,7 +23,7 @@ abbrev pub row_load_answer : {M A : Type 0} → Interface M A → Load → M →
 row_load_answer bus load.Nothing meaning = Ok 0
 row_load_answer bus (load.Read address size) meaning =
     loaded_from (byte_for (bus.byte meaning) Read) address.0 (size_bytes size)
-row_load_answer bus (load.ReadToWrite address size) meaning =
+row_load_answer bus (load.ReadForWrite address size) meaning =
     loaded_from (byte_for_write (bus.byte meaning)) address.0 (size_bytes size)
 
 -- the account after the load
@@ -31,7 +31,7 @@ abbrev pub row_load_account : {M A : Type 0} → Interface M A → Load → M �
 row_load_account bus load.Nothing meaning account = account
 row_load_account bus (load.Read address size) meaning account =
     bus.rule (LoadBytes address.0 (size_bytes size)) meaning account
-row_load_account bus (load.ReadToWrite address size) meaning account =
+row_load_account bus (load.ReadForWrite address size) meaning account =
     bus.rule (LoadForWrite address.0 (size_bytes size)) meaning account
 
 -- ---- the store

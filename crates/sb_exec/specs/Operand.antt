@@ -8,8 +8,8 @@ use Rattle.sb_insn.specs.Spelling.{spelling}
 use Rattle.sb_insn.specs.Fields.{reg_field, rm_field, rex_w, rex_r, rex_b}
 use Rattle.sb_alu.specs.declared.size.Size.{Size}
 use Rattle.sb_alu.specs.declared.size.Size.TheVariants.{Byte, Doubleword, Quadword}
-use Rattle.sb_exec.specs.declared.action.Place.{Place}
-use Rattle.sb_exec.specs.declared.action.Place.TheVariants.{Register, Memory}
+use Rattle.sb_exec.specs.declared.action.Location.{Location}
+use Rattle.sb_exec.specs.declared.action.Location.TheVariants.{Register, Memory}
 use Rattle.sb_alu.specs.Size.{low}
 
 -- ---- fields
@@ -27,15 +27,15 @@ abbrev pub rm_number : Insn → ℕ
 rm_number insn = rm_field (modrm_of insn) + 8 * rex_b insn.rex
 
 -- the last byte of the opcode
-abbrev pub opcode_of : Op → ℕ
-opcode_of (One opcode) = opcode
-opcode_of (Two opcode) = opcode
-opcode_of Endbr = 0xFA
-opcode_of Vmfunc = 0xD4
+abbrev pub last_opcode_byte : Op → ℕ
+last_opcode_byte (One opcode) = opcode
+last_opcode_byte (Two opcode) = opcode
+last_opcode_byte Endbr = 0xFA
+last_opcode_byte Vmfunc = 0xD4
 
 -- the register that the opcode names
 abbrev pub opcode_number : Insn → ℕ
-opcode_number insn = opcode_of insn.op % 8 + 8 * rex_b insn.rex
+opcode_number insn = last_opcode_byte insn.op % 8 + 8 * rex_b insn.rex
 
 -- 64 bits with REX.W, else 32
 abbrev pub operand_size : Insn → Size
@@ -54,8 +54,8 @@ abbrev pub general : Regs → ℕ → ℕ
 general regs number = slice_index regs.general number
 
 -- the lowest bits of what a register holds
-abbrev pub register : Size → ℕ → Regs → ℕ
-register size number regs = low size (general regs number)
+abbrev pub register_value : Size → ℕ → Regs → ℕ
+register_value size number regs = low size (general regs number)
 
 -- What a register holds after a value is written to it: 32 bits clear its upper half, a byte leaves the bits above it.
 unfoldable pub register_after_write : Size → ℕ → ℕ → ℕ
@@ -71,11 +71,11 @@ with_register size number value regs =
 -- ---- places
 
 -- there are sixteen registers
-abbrev pub IsPlace : Place → Type 0
+abbrev pub IsPlace : Location → Type 0
 IsPlace (Register number) = number < 16
 IsPlace (Memory address) = Unit {0}
 
 -- the value of an operand, whose bytes were loaded if it is in memory
-abbrev pub operand_value : Size → Place → Regs → ℕ → ℕ
-operand_value size (Register number) regs loaded = register size number regs
+abbrev pub operand_value : Size → Location → Regs → ℕ → ℕ
+operand_value size (Register number) regs loaded = register_value size number regs
 operand_value size (Memory address) regs loaded = low size loaded

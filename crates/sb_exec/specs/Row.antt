@@ -18,14 +18,14 @@ pub record Row : Type 0 where
 -- an access to memory; what is stored may depend on what was loaded before
 pub data MemoryAccess : Type 0 where
   Loads : (address size : ℕ) → MemoryAccess
-  LoadsToWrite : (address size : ℕ) → MemoryAccess
+  LoadsForWrite : (address size : ℕ) → MemoryAccess
   Stores : (address size : ℕ) (value : ℕ → ℕ) → MemoryAccess
 
 -- what is loaded, as an access
 abbrev pub load_accesses : Load → List MemoryAccess
 load_accesses load.Nothing = []
 load_accesses (load.Read address size) = Loads address.0 (size_bytes size) ∷ []
-load_accesses (load.ReadToWrite address size) = LoadsToWrite address.0 (size_bytes size) ∷ []
+load_accesses (load.ReadForWrite address size) = LoadsForWrite address.0 (size_bytes size) ∷ []
 
 -- what is stored, as an access
 abbrev pub store_accesses : Store → (ℕ → After) → List MemoryAccess

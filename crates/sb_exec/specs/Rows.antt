@@ -15,15 +15,15 @@ use Rattle.sb_exec.specs.declared.action.MemoryUse.{MemoryUse}
 use Rattle.sb_exec.specs.declared.action.MemoryUse.TheVariants as memory_use
 use Rattle.sb_exec.specs.declared.action.Action.{Action}
 use Rattle.sb_exec.specs.declared.action.Action.TheVariants.{Compute, ZeroExtend, LoadAddress, Exchange, Push, Pop, Return, Jump, JumpIf, Call, Pass, Stop}
-use Rattle.sb_exec.specs.declared.action.Place.{Place}
-use Rattle.sb_exec.specs.declared.action.Place.TheVariants.{Register, Memory}
+use Rattle.sb_exec.specs.declared.action.Location.{Location}
+use Rattle.sb_exec.specs.declared.action.Location.TheVariants.{Register, Memory}
 use Rattle.sb_exec.specs.declared.action.Load.{Load}
 use Rattle.sb_exec.specs.declared.action.Load.TheVariants as load
 use Rattle.sb_exec.specs.declared.action.Store.{Store}
 use Rattle.sb_exec.specs.declared.action.Store.TheVariants as store
 use Rattle.sb_exec.specs.declared.action.After.{After}
 use Rattle.sb_exec.specs.Operand.{reg_number, opcode_number, general, with_register, next_rip}
-use Rattle.sb_exec.specs.Address.{linear, operand_address, rm_place}
+use Rattle.sb_exec.specs.Address.{linear, operand_address, rm_location}
 use Rattle.sb_exec.specs.WriteBack.{regs_at_next, without_store, with_store, rm_value, last_operand, compute_result}
 use Rattle.sb_exec.specs.Exchanged.{exchange_after}
 use Rattle.sb_exec.specs.Branch.{rsp_after_push, regs_after_push, regs_after_pop, regs_after_pop_into, at_rip, target_of, regs_after_jcc}
@@ -92,15 +92,15 @@ rm_use form.Relative usage = memory_use.Nothing
 rm_use form.Nothing usage = memory_use.Nothing
 
 -- what is loaded of an operand that is in memory
-abbrev pub load_by : MemoryUse → Size → Place → Load
+abbrev pub load_by : MemoryUse → Size → Location → Load
 load_by usage size (Register number) = load.Nothing
 load_by memory_use.Read size (Memory address) = load.Read address size
-load_by memory_use.Update size (Memory address) = load.ReadToWrite address size
+load_by memory_use.Update size (Memory address) = load.ReadForWrite address size
 load_by memory_use.Write size (Memory address) = load.Nothing
 load_by memory_use.Nothing size (Memory address) = load.Nothing
 
 -- what is stored to it
-abbrev pub store_by : MemoryUse → Size → Place → Store
+abbrev pub store_by : MemoryUse → Size → Location → Store
 store_by usage size (Register number) = store.Nothing
 store_by memory_use.Update size (Memory address) = store.At address size
 store_by memory_use.Write size (Memory address) = store.At address size
@@ -109,13 +109,13 @@ store_by memory_use.Nothing size (Memory address) = store.Nothing
 
 -- what is pushed or jumped to is loaded, if it is in memory
 abbrev pub load_source : OperandForm → Insn → Regs → Load
-load_source form insn regs = load_by (rm_use form memory_use.Read) Quadword (rm_place insn regs)
+load_source form insn regs = load_by (rm_use form memory_use.Read) Quadword (rm_location insn regs)
 
 -- what an action loads
 unfoldable pub load_of : Action → Insn → Regs → Load
-load_of (Compute operation form size) insn regs = load_by (rm_use form (destination_use operation)) size (rm_place insn regs)
-load_of (ZeroExtend size) insn regs = load_by memory_use.Read Byte (rm_place insn regs)
-load_of (Exchange exchange size) insn regs = load_by memory_use.Update size (rm_place insn regs)
+load_of (Compute operation form size) insn regs = load_by (rm_use form (destination_use operation)) size (rm_location insn regs)
+load_of (ZeroExtend size) insn regs = load_by memory_use.Read Byte (rm_location insn regs)
+load_of (Exchange exchange size) insn regs = load_by memory_use.Update size (rm_location insn regs)
 load_of (Push form) insn regs = load_source form insn regs
 load_of (Jump form) insn regs = load_source form insn regs
 load_of (Call form) insn regs = load_source form insn regs
@@ -132,8 +132,8 @@ store_below regs = store.At (linear (rsp_after_push regs)) Quadword
 
 -- what an action stores
 unfoldable pub store_of : Action → Insn → Regs → Store
-store_of (Compute operation form size) insn regs = store_by (rm_use form (destination_use operation)) size (rm_place insn regs)
-store_of (Exchange exchange size) insn regs = store_by memory_use.Update size (rm_place insn regs)
+store_of (Compute operation form size) insn regs = store_by (rm_use form (destination_use operation)) size (rm_location insn regs)
+store_of (Exchange exchange size) insn regs = store_by memory_use.Update size (rm_location insn regs)
 store_of (Push form) insn regs = store_below regs
 store_of (Call form) insn regs = store_below regs
 store_of (ZeroExtend size) insn regs = store.Nothing

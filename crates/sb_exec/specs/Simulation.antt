@@ -8,7 +8,7 @@ use Rattle.sb_insn.specs.declared.registers.Regs.{Regs}
 use Rattle.sb_exec.specs.declared.action.Effect.{Effect}
 use Rattle.sb_bus.specs.Access.{store_answer, byte_for, byte_for_write}
 use Rattle.sb_bus.specs.Interface.{Interface}
-use Rattle.sb_exec.specs.Row.{Row, MemoryAccess, Loads, LoadsToWrite, Stores, accesses}
+use Rattle.sb_exec.specs.Row.{Row, MemoryAccess, Loads, LoadsForWrite, Stores, accesses}
 use Rattle.sb_exec.specs.Execution.{Execution, Executes, execution_of, access_answer, meaning_after}
 
 -- an answer whose stop is told by another name
@@ -31,7 +31,7 @@ IsData _ = Unit {0}
 -- of this one
 abbrev pub IsAt : (ℕ → ℕ → Type 0) → MemoryAccess → Type 0
 IsAt At (Loads address size) = At address size
-IsAt At (LoadsToWrite address size) = At address size
+IsAt At (LoadsForWrite address size) = At address size
 IsAt At (Stores address size value) = At address size
 
 -- of all that a row makes
@@ -76,7 +76,7 @@ AgreeFrom naming left right address (suc count) =
 abbrev pub AgreeAt : {M N A B : Type 0} → (BusStop → BusStop) → Interface M A → Interface N B → MemoryAccess → M → N → Type 0
 AgreeAt naming left right (Loads address size) first second =
     AgreeFrom naming (byte_for (left.byte first) access.Read) (byte_for (right.byte second) access.Read) address size
-AgreeAt naming left right (LoadsToWrite address size) first second =
+AgreeAt naming left right (LoadsForWrite address size) first second =
     AgreeFrom naming (byte_for_write (left.byte first)) (byte_for_write (right.byte second)) address size
 AgreeAt naming left right (Stores address size value) first second =
     AgreeFrom naming (byte_for (left.byte first) access.Write) (byte_for (right.byte second) access.Write) address size

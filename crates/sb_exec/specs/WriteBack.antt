@@ -10,13 +10,13 @@ use Rattle.sb_insn.specs.Branch.{imm_value}
 use Rattle.sb_alu.specs.declared.size.Size.{Size}
 use Rattle.sb_alu.specs.declared.size.Size.TheVariants.{Byte}
 use Rattle.sb_alu.specs.declared.operation.Operation.{Operation}
-use Rattle.sb_exec.specs.declared.action.Place.{Place}
-use Rattle.sb_exec.specs.declared.action.Place.TheVariants.{Register, Memory}
+use Rattle.sb_exec.specs.declared.action.Location.{Location}
+use Rattle.sb_exec.specs.declared.action.Location.TheVariants.{Register, Memory}
 use Rattle.sb_alu.specs.declared.operation.Outcome.{Outcome}
 use Rattle.sb_exec.specs.declared.action.After.{After}
 use Rattle.sb_alu.specs.Size.{low}
-use Rattle.sb_exec.specs.Operand.{reg_number, opcode_number, operand_value, register, with_register, next_rip}
-use Rattle.sb_exec.specs.Address.{rm_place}
+use Rattle.sb_exec.specs.Operand.{reg_number, opcode_number, operand_value, register_value, with_register, next_rip}
+use Rattle.sb_exec.specs.Address.{rm_location}
 use Rattle.sb_alu.specs.Operated.{operation_outcome}
 
 -- ---- registers after an instruction
@@ -38,7 +38,7 @@ abbrev pub with_store : Regs → ℕ → After
 with_store regs value = record { regs = regs; stored = value }
 
 -- a value that is written to a place: into its register, or as what is stored
-unfoldable pub write_result : Size → Place → ℕ → Regs → After
+unfoldable pub write_result : Size → Location → ℕ → Regs → After
 write_result size (Register number) value regs = without_store (with_register size number value regs)
 write_result size (Memory address) value regs = with_store regs value
 
@@ -46,15 +46,15 @@ write_result size (Memory address) value regs = with_store regs value
 
 -- the operand that ModRM names by mod and rm
 abbrev pub rm_value : Size → Insn → Regs → ℕ → ℕ
-rm_value size insn regs loaded = operand_value size (rm_place insn regs) regs loaded
+rm_value size insn regs loaded = operand_value size (rm_location insn regs) regs loaded
 
 -- where the result goes: the accumulator where the form names no place
-unfoldable pub destination : OperandForm → Insn → Regs → Place
-destination RmReg insn regs = rm_place insn regs
-destination RmImm insn regs = rm_place insn regs
-destination RmCount insn regs = rm_place insn regs
-destination RmCl insn regs = rm_place insn regs
-destination Rm insn regs = rm_place insn regs
+unfoldable pub destination : OperandForm → Insn → Regs → Location
+destination RmReg insn regs = rm_location insn regs
+destination RmImm insn regs = rm_location insn regs
+destination RmCount insn regs = rm_location insn regs
+destination RmCl insn regs = rm_location insn regs
+destination Rm insn regs = rm_location insn regs
 destination RegRm insn regs = Register (reg_number insn)
 destination RegRmImm insn regs = Register (reg_number insn)
 destination OpcodeImm insn regs = Register (opcode_number insn)
@@ -82,16 +82,16 @@ first_operand Nothing size insn regs loaded = operand_value size (destination No
 
 -- the last operand of a form; a relative one is the address that lies so far from the next instruction
 unfoldable pub last_operand : OperandForm → Size → Insn → Regs → ℕ → ℕ
-last_operand RmReg size insn regs loaded = register size (reg_number insn) regs
+last_operand RmReg size insn regs loaded = register_value size (reg_number insn) regs
 last_operand RegRm size insn regs loaded = rm_value size insn regs loaded
 last_operand RmImm size insn regs loaded = low size (imm_value insn.imm)
 last_operand AccImm size insn regs loaded = low size (imm_value insn.imm)
 last_operand OpcodeImm size insn regs loaded = low size (imm_value insn.imm)
 last_operand RegRmImm size insn regs loaded = low size (imm_value insn.imm)
 last_operand RmCount size insn regs loaded = low Byte (imm_value insn.imm)
-last_operand RmCl size insn regs loaded = register Byte RCX regs
+last_operand RmCl size insn regs loaded = register_value Byte RCX regs
 last_operand Rm size insn regs loaded = rm_value size insn regs loaded
-last_operand Opcode size insn regs loaded = register size (opcode_number insn) regs
+last_operand Opcode size insn regs loaded = register_value size (opcode_number insn) regs
 last_operand Imm size insn regs loaded = low size (imm_value insn.imm)
 last_operand Relative size insn regs loaded = low size ((next_rip insn regs + imm_value insn.imm) % 2 ^ 64)
 last_operand Nothing size insn regs loaded = 0
@@ -99,12 +99,12 @@ last_operand Nothing size insn regs loaded = 0
 -- ---- write back
 
 -- a result that is written back, if there is one
-unfoldable pub result_or_nothing : Size → Place → Option ℕ → Regs → After
+unfoldable pub result_or_nothing : Size → Location → Option ℕ → Regs → After
 result_or_nothing size place None regs = without_store regs
 result_or_nothing size place (Some value) regs = write_result size place value regs
 
 -- an outcome that is written back, with its flags
-abbrev pub write_back : Size → Place → Outcome → Regs → After
+abbrev pub write_back : Size → Location → Outcome → Regs → After
 write_back size place outcome regs = result_or_nothing size place outcome.value (with_flags outcome.flags regs)
 
 -- the result of an operation on the operands of a form, written back

@@ -71,7 +71,7 @@ pub enum Action {
 
 /// Where an operand is.
 #[derive(Clone, Copy, Debug, PartialEq, Eq)]
-pub enum Place {
+pub enum Location {
     /// A register by its number, which is below 16.
     Register(usize),
     /// The bytes from this address upwards.
@@ -84,7 +84,7 @@ pub enum Load {
     Nothing,
     Read(Linear, Size),
     /// The load needs the right to write too.
-    ReadToWrite(Linear, Size),
+    ReadForWrite(Linear, Size),
 }
 
 /// What is stored after it.

@@ -11,10 +11,10 @@ ghost use Rattle.sb_exec.specs.Address.{
   disp_value,
   base_value,
   operand_address,
-  rm_place,
+  rm_location,
 };
 
-use crate::action::Place;
+use crate::action::Location;
 use crate::operand::{modrm, next_rip, rm_number};
 use sb_insn::{Disp, Insn, Regs, base, index, mod_field, rex_b, rex_x, rm_field, scale};
 use sb_memory::Linear;
@@ -103,14 +103,14 @@ pub fn operand_address(insn: &Insn, regs: &Regs) -> u64
 }
 
 /// The operand that ModRM names: mod 3 names a register, any other memory.
-#[tactic(auto, unfolding(crate::specs::Address::rm_place))]
-pub fn rm_place(insn: &Insn, regs: &Regs) -> Place
-    ensures value { result ≡ rm_place insn.now regs.now }
+#[tactic(auto, unfolding(crate::specs::Address::rm_location))]
+pub fn rm_location(insn: &Insn, regs: &Regs) -> Location
+    ensures value { result ≡ rm_location insn.now regs.now }
     ensures range { IsPlace result }
 {
     if mod_field(modrm(insn)) == 3 {
-        Place::Register(rm_number(insn))
+        Location::Register(rm_number(insn))
     } else {
-        Place::Memory(Linear(operand_address(insn, regs)))
+        Location::Memory(Linear(operand_address(insn, regs)))
     }
 }

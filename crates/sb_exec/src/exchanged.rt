@@ -12,9 +12,9 @@ ghost use Rattle.sb_exec.specs.Exchanged.{
   exchange_after,
 };
 
-use crate::action::{After, Exchange, Place};
-use crate::address::rm_place;
-use crate::operand::{reg_number, register, set_register};
+use crate::action::{After, Exchange, Location};
+use crate::address::rm_location;
+use crate::operand::{reg_number, register_value, set_register};
 use crate::write_back::{regs_at_next, rm_value, written};
 use sb_alu::{Size, difference_outcome, sum, sum_outcome};
 use sb_insn::registers::RAX;
@@ -24,7 +24,7 @@ use sb_insn::{Insn, Regs};
 fn xchg_result(
     size: Size,
     number: usize,
-    place: Place,
+    place: Location,
     old: u64,
     value: u64,
     mut regs: Regs,
@@ -38,7 +38,7 @@ fn xchg_result(
 }
 
 /// XADD: the new value is the sum.
-fn xadd_result(size: Size, number: usize, place: Place, old: u64, source: u64, regs: Regs) -> After
+fn xadd_result(size: Size, number: usize, place: Location, old: u64, source: u64, regs: Regs) -> After
     requires number { number < 16 }
     requires place { IsPlace place }
     requires old { old < modulus size }
@@ -53,23 +53,23 @@ fn xadd_result(size: Size, number: usize, place: Place, old: u64, source: u64, r
 }
 
 /// The accumulator gets what rm held, which is stored again.
-fn cmpxchg_unequal(size: Size, place: Place, old: u64, mut regs: Regs) -> After
+fn cmpxchg_unequal(size: Size, place: Location, old: u64, mut regs: Regs) -> After
     ensures { result ≡ cmpxchg_unequal size place old regs }
 {
     set_register(size, RAX, old, &mut regs);
     match place {
-        Place::Register(_) => After { regs, stored: 0 },
-        Place::Memory(_) => After { regs, stored: old },
+        Location::Register(_) => After { regs, stored: 0 },
+        Location::Memory(_) => After { regs, stored: old },
     }
 }
 
 /// CMPXCHG: rm gets the new value where it equals the accumulator.
-fn cmpxchg_result(size: Size, place: Place, old: u64, source: u64, regs: Regs) -> After
+fn cmpxchg_result(size: Size, place: Location, old: u64, source: u64, regs: Regs) -> After
     requires place { IsPlace place }
     requires old { old < modulus size }
     ensures { result ≡ cmpxchg_result size place old source regs }
 {
-    let accumulator = register(size, RAX, &regs);
+    let accumulator = register_value(size, RAX, &regs);
     let next = Regs {
         flags: difference_outcome(size, accumulator, old).flags,
         ..regs
@@ -86,7 +86,7 @@ fn exchange(
     kind: Exchange,
     size: Size,
     number: usize,
-    place: Place,
+    place: Location,
     old: u64,
     source: u64,
     regs: Regs,
@@ -110,12 +110,12 @@ pub fn exchange_after(kind: Exchange, size: Size, insn: &Insn, regs: &Regs, load
 {
     let number = reg_number(insn);
     let old = rm_value(size, insn, regs, loaded);
-    let source = register(size, number, regs);
+    let source = register_value(size, number, regs);
     exchange(
         kind,
         size,
         number,
-        rm_place(insn, regs),
+        rm_location(insn, regs),
         old,
         source,
         regs_at_next(insn, regs),

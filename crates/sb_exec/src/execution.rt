@@ -22,7 +22,7 @@ fn loaded<B: Bus>(load: Load, bus: &mut B) -> Result<u64, BusStop>
     match load {
         Load::Nothing => Ok(0),
         Load::Read(at, size) => bus.load(at, size.bytes()),
-        Load::ReadToWrite(at, size) => bus.load_for_write(at, size.bytes()),
+        Load::ReadForWrite(at, size) => bus.load_for_write(at, size.bytes()),
     }
 }
 

@@ -14,7 +14,7 @@ const LONGEST: usize = 13;
 
 /// The instruction at an address.
 ///
-/// Bytes are fetched one after another, modulo 2^64, as long as those so far are a proper front of an instruction. `Err`
+/// Bytes are fetched one after another, modulo 2^64, as long as those so far are a proper prefix of an instruction. `Err`
 /// is what the bus answers at the first byte that fails, or fault `undefined` at `rip` where no instruction begins with
 /// the bytes.
 pub fn fetch_insn<B: Bus>(bus: &mut B, rip: u64) -> Result<Insn, BusStop>

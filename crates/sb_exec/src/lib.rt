@@ -32,7 +32,7 @@ mod rows;
 mod table;
 mod write_back;
 
-pub use action::{Action, After, Effect, Exchange, Load, MemoryUse, Place, Store};
+pub use action::{Action, After, Effect, Exchange, Load, MemoryUse, Location, Store};
 pub use execution::execute;
 pub use fetch::{fetch_insn, first_insn, one_fetch, one_fetch_on};
 pub use pair::{

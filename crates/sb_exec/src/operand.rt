@@ -6,18 +6,18 @@ ghost use Rattle.sb_exec.specs.Operand.{
   modrm_of,
   reg_number,
   rm_number,
-  opcode_of,
+  last_opcode_byte,
   opcode_number,
   operand_size,
   next_rip,
-  register,
+  register_value,
   with_register,
   operand_value,
   register_after_write,
   IsPlace,
 };
 
-use crate::action::Place;
+use crate::action::Location;
 use sb_alu::Size;
 use sb_insn::{Insn, Op, Regs, reg_field, rex_b, rex_r, rex_w, rm_field};
 
@@ -48,7 +48,7 @@ pub fn rm_number(insn: &Insn) -> usize
 
 /// The last byte of the opcode.
 pub fn opcode(op: Op) -> u8
-    ensures { result ≡ opcode_of op }
+    ensures { result ≡ last_opcode_byte op }
 {
     match op {
         Op::One(opcode) | Op::Two(opcode) => opcode,
@@ -88,9 +88,9 @@ pub fn next_rip(insn: &Insn, regs: &Regs) -> u64
 // ---- registers at a size
 
 /// The lowest bits of a register.
-pub fn register(size: Size, number: usize, regs: &Regs) -> u64
+pub fn register_value(size: Size, number: usize, regs: &Regs) -> u64
     requires { number < 16 }
-    ensures value { result ≡ register size number regs.now }
+    ensures value { result ≡ register_value size number regs.now }
     ensures range { result < modulus size }
 {
     size.low(regs.general[number])
@@ -117,13 +117,13 @@ pub fn set_register(size: Size, number: usize, value: u64, regs: &mut Regs)
 }
 
 /// The value of an operand, whose bytes were loaded if it is in memory.
-pub fn operand_value(size: Size, place: Place, regs: &Regs, loaded: u64) -> u64
+pub fn operand_value(size: Size, place: Location, regs: &Regs, loaded: u64) -> u64
     requires { IsPlace place }
     ensures value { result ≡ operand_value size place regs.now loaded }
     ensures range { result < modulus size }
 {
     match place {
-        Place::Register(number) => register(size, number, regs),
-        Place::Memory(_) => size.low(loaded),
+        Location::Register(number) => register_value(size, number, regs),
+        Location::Memory(_) => size.low(loaded),
     }
 }

@@ -16,8 +16,8 @@ ghost use Rattle.sb_exec.specs.Rows.{
   effect_of,
 };
 
-use crate::action::{Action, After, Effect, Load, MemoryUse, Place, Store};
-use crate::address::{operand_address, rm_place};
+use crate::action::{Action, After, Effect, Load, MemoryUse, Location, Store};
+use crate::address::{operand_address, rm_location};
 use crate::branch::{
     jumped_if, popped_into, regs_after_pop, regs_after_push, stack_top, target, top_pushed,
 };
@@ -137,26 +137,26 @@ fn rm_use(form: OperandForm, usage: MemoryUse) -> MemoryUse
 }
 
 /// What is loaded of an operand that is in memory.
-fn load_by(usage: MemoryUse, size: Size, place: Place) -> Load
+fn load_by(usage: MemoryUse, size: Size, place: Location) -> Load
     ensures { result ≡ load_by usage size place }
 {
     match place {
-        Place::Register(_) => Load::Nothing,
-        Place::Memory(at) => match usage {
+        Location::Register(_) => Load::Nothing,
+        Location::Memory(at) => match usage {
             MemoryUse::Read => Load::Read(at, size),
-            MemoryUse::Update => Load::ReadToWrite(at, size),
+            MemoryUse::Update => Load::ReadForWrite(at, size),
             MemoryUse::Write | MemoryUse::Nothing => Load::Nothing,
         },
     }
 }
 
 /// What is stored to an operand that is in memory.
-fn store_by(usage: MemoryUse, size: Size, place: Place) -> Store
+fn store_by(usage: MemoryUse, size: Size, place: Location) -> Store
     ensures { result ≡ store_by usage size place }
 {
     match place {
-        Place::Register(_) => Store::Nothing,
-        Place::Memory(at) => match usage {
+        Location::Register(_) => Store::Nothing,
+        Location::Memory(at) => match usage {
             MemoryUse::Update | MemoryUse::Write => Store::At(at, size),
             MemoryUse::Read | MemoryUse::Nothing => Store::Nothing,
         },
@@ -170,7 +170,7 @@ fn load_source(form: OperandForm, insn: &Insn, regs: &Regs) -> Load
     load_by(
         rm_use(form, MemoryUse::Read),
         Size::Quadword,
-        rm_place(insn, regs),
+        rm_location(insn, regs),
     )
 }
 
@@ -183,10 +183,10 @@ pub fn load(action: Action, insn: &Insn, regs: &Regs) -> Load
         Action::Compute(operation, form, size) => load_by(
             rm_use(form, destination_use(operation)),
             size,
-            rm_place(insn, regs),
+            rm_location(insn, regs),
         ),
-        Action::ZeroExtend(_) => load_by(MemoryUse::Read, Size::Byte, rm_place(insn, regs)),
-        Action::Exchange(_, size) => load_by(MemoryUse::Update, size, rm_place(insn, regs)),
+        Action::ZeroExtend(_) => load_by(MemoryUse::Read, Size::Byte, rm_location(insn, regs)),
+        Action::Exchange(_, size) => load_by(MemoryUse::Update, size, rm_location(insn, regs)),
         Action::Push(form) | Action::Jump(form) | Action::Call(form) => load_source(
             form, insn, regs,
         ),
@@ -212,9 +212,9 @@ pub fn store(action: Action, insn: &Insn, regs: &Regs) -> Store
         Action::Compute(operation, form, size) => store_by(
             rm_use(form, destination_use(operation)),
             size,
-            rm_place(insn, regs),
+            rm_location(insn, regs),
         ),
-        Action::Exchange(_, size) => store_by(MemoryUse::Update, size, rm_place(insn, regs)),
+        Action::Exchange(_, size) => store_by(MemoryUse::Update, size, rm_location(insn, regs)),
         Action::Push(_) | Action::Call(_) => store_below(regs),
         Action::ZeroExtend(_)
         | Action::LoadAddress(_)

@@ -14,9 +14,9 @@ ghost use Rattle.sb_exec.specs.WriteBack.{
   compute_result,
 };
 
-use crate::action::{After, Place};
-use crate::address::rm_place;
-use crate::operand::{next_rip, opcode_number, operand_value, reg_number, register, set_register};
+use crate::action::{After, Location};
+use crate::address::rm_location;
+use crate::operand::{next_rip, opcode_number, operand_value, reg_number, register_value, set_register};
 use sb_alu::{Operation, Size, operate};
 use sb_insn::registers::{RAX, RCX};
 use sb_insn::{Insn, OperandForm, Regs};
@@ -33,16 +33,16 @@ pub fn regs_at_next(insn: &Insn, regs: &Regs) -> Regs
 
 /// A value that is written to a place: into its register, or as what is stored.
 #[tactic(auto, unfolding(crate::specs::WriteBack::write_result))]
-pub fn written(size: Size, place: Place, value: u64, mut regs: Regs) -> After
+pub fn written(size: Size, place: Location, value: u64, mut regs: Regs) -> After
     requires { IsPlace place }
     ensures { result ≡ write_result size place value regs }
 {
     match place {
-        Place::Register(number) => {
+        Location::Register(number) => {
             set_register(size, number, value, &mut regs);
             After { regs, stored: 0 }
         }
-        Place::Memory(_) => After {
+        Location::Memory(_) => After {
             regs,
             stored: value,
         },
@@ -56,12 +56,12 @@ pub fn rm_value(size: Size, insn: &Insn, regs: &Regs, loaded: u64) -> u64
     ensures value { result ≡ rm_value size insn.now regs.now loaded }
     ensures range { result < modulus size }
 {
-    operand_value(size, rm_place(insn, regs), regs, loaded)
+    operand_value(size, rm_location(insn, regs), regs, loaded)
 }
 
 /// Where the result goes: the accumulator where the form names no place.
 #[tactic(auto, unfolding(crate::specs::WriteBack::destination))]
-fn destination(form: OperandForm, insn: &Insn, regs: &Regs) -> Place
+fn destination(form: OperandForm, insn: &Insn, regs: &Regs) -> Location
     ensures value { result ≡ destination form insn.now regs.now }
     ensures range { IsPlace result }
 {
@@ -70,11 +70,11 @@ fn destination(form: OperandForm, insn: &Insn, regs: &Regs) -> Place
         | OperandForm::RmImm
         | OperandForm::RmCount
         | OperandForm::RmCl
-        | OperandForm::Rm => rm_place(insn, regs),
-        OperandForm::RegRm | OperandForm::RegRmImm => Place::Register(reg_number(insn)),
-        OperandForm::OpcodeImm | OperandForm::Opcode => Place::Register(opcode_number(insn)),
+        | OperandForm::Rm => rm_location(insn, regs),
+        OperandForm::RegRm | OperandForm::RegRmImm => Location::Register(reg_number(insn)),
+        OperandForm::OpcodeImm | OperandForm::Opcode => Location::Register(opcode_number(insn)),
         OperandForm::AccImm | OperandForm::Imm | OperandForm::Relative | OperandForm::Nothing =>
-            Place::Register(RAX),
+            Location::Register(RAX),
     }
 }
 
@@ -110,7 +110,7 @@ pub fn last_operand(form: OperandForm, size: Size, insn: &Insn, regs: &Regs, loa
     ensures range { result < modulus size }
 {
     match form {
-        OperandForm::RmReg => register(size, reg_number(insn), regs),
+        OperandForm::RmReg => register_value(size, reg_number(insn), regs),
         OperandForm::RegRm | OperandForm::Rm => rm_value(size, insn, regs, loaded),
         OperandForm::RmImm
         | OperandForm::AccImm
@@ -118,8 +118,8 @@ pub fn last_operand(form: OperandForm, size: Size, insn: &Insn, regs: &Regs, loa
         | OperandForm::RegRmImm
         | OperandForm::Imm => size.low(insn.imm.value()),
         OperandForm::RmCount => Size::Byte.low(insn.imm.value()),
-        OperandForm::RmCl => register(Size::Byte, RCX, regs),
-        OperandForm::Opcode => register(size, opcode_number(insn), regs),
+        OperandForm::RmCl => register_value(Size::Byte, RCX, regs),
+        OperandForm::Opcode => register_value(size, opcode_number(insn), regs),
         OperandForm::Relative => size.low(next_rip(insn, regs).wrapping_add(insn.imm.value())),
         OperandForm::Nothing => 0,
     }
@@ -129,7 +129,7 @@ pub fn last_operand(form: OperandForm, size: Size, insn: &Insn, regs: &Regs, loa
 
 /// A result that is written back, if there is one.
 #[tactic(auto, unfolding(crate::specs::WriteBack::result_or_nothing))]
-fn written_back(size: Size, place: Place, value: Option<u64>, regs: Regs) -> After
+fn written_back(size: Size, place: Location, value: Option<u64>, regs: Regs) -> After
     requires { IsPlace place }
     ensures { result ≡ result_or_nothing size place value regs }
 {

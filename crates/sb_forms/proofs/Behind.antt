@@ -9,7 +9,7 @@ use Rattle.sb_forms.specs.Holding.{holds_pattern}
 use Rattle.sb_forms.specs.Table.{is_vmfunc, has_memory}
 use Rattle.sb_forms.proofs.Operands.{no_memory}
 use Rattle.sb_forms.proofs.Quiet.{skip}
-use Rattle.sb_forms.proofs.Fronts.{valid_rex, valid_op, front_holds}
+use Rattle.sb_forms.proofs.Leads.{valid_rex, valid_op, lead_holds}
 
 -- the bytes behind the opcode
 abbrev pub behind_opcode : Insn → List ℕ
@@ -19,7 +19,7 @@ behind_opcode insn = option_to_list insn.modrm ++ (option_to_list insn.sib ++ (d
 pub behind_holds : (insn : Insn) → IsValid insn → is_vmfunc insn.op ≡ false
     → holds_pattern (spelling insn) ≡ holds_pattern (behind_opcode insn)
 behind_holds insn valid other =
-    front_holds insn.lock insn.rex insn.op (behind_opcode insn) (valid_rex insn.rex valid.rex)
+    lead_holds insn.lock insn.rex insn.op (behind_opcode insn) (valid_rex insn.rex valid.rex)
     (valid_op insn.op insn.lock insn.rex insn.modrm other valid.modrm)
 
 register_holds : (modrm : Option ℕ) (rest : List ℕ) → has_memory modrm ≡ false

@@ -27,7 +27,7 @@ use Rattle.sb_forms.proofs.Held.{not_held}
 use Rattle.sb_forms.proofs.ByTable.{IsHeld, TableCases, by_table}
 use Rattle.sb_forms.proofs.Operands.{no_sib_0f}
 use Rattle.sb_forms.proofs.Quiet.{last_one, IsQuiet, AreQuiet, MayFollow, in_place_clean, slot_clean}
-use Rattle.sb_forms.proofs.Fronts.{valid_rex, valid_op, exchanged_rex, front_holds, front_quiet}
+use Rattle.sb_forms.proofs.Leads.{valid_rex, valid_op, exchanged_rex, lead_holds, lead_quiet}
 use Rattle.sb_forms.proofs.Behind.{imm_holds}
 use Rattle.sb_forms.proofs.Small.{address_small, constant_small, both_small, wide_small, displaced_small, quiet_memory}
 use Rattle.sb_forms.proofs.QuietPieces.{save_first, save_second, save_word, save_low, save_high, restore_first, restore_second, jump_through_word, constant_quiet, address_quiet, jump_quiet}
@@ -80,7 +80,7 @@ exchanged_quiet insn valid other e none =
     let rest = option_to_list insn.modrm ++ 0x39 ∷ (disp_bytes insn.disp ++ imm_bytes insn.imm) in
     let known = valid_op insn.op insn.lock insn.rex insn.modrm other valid.modrm in
     let range = exchanged_rex insn.rex in
-    front_quiet
+    lead_quiet
     insn.lock
     (with_x_b_exchanged insn.rex)
     insn.op
@@ -88,7 +88,7 @@ exchanged_quiet insn valid other e none =
     range
     known
     (any_start insn.op rest (sib_start insn.modrm insn.sib (0x39 ∷ (disp_bytes insn.disp ++ imm_bytes insn.imm)) e valid.sib))
-    (sym (front_holds insn.lock (with_x_b_exchanged insn.rex) insn.op rest range known) ∙ none)
+    (sym (lead_holds insn.lock (with_x_b_exchanged insn.rex) insn.op rest range known) ∙ none)
 
 -- ---- moved
 
@@ -192,7 +192,7 @@ address_good instruction insn site held place none =
 
 -- a lowered constant is raised last, which ends with 00
 lowered_end : (helper : Helper) (value : ℤ) → is_lowered value ≡ true
-    → (front : List ℕ) × (spelled_bytes (save helper first_saved ∷ load_constant helper value) ≡ front ++ 0 ∷ [])
+    → (lead : List ℕ) × (spelled_bytes (save helper first_saved ∷ load_constant helper value) ≡ lead ++ 0 ∷ [])
 unfolding save load_constant add_step_back load_number add_number
 lowered_end helper value e =
     let first =

@@ -11,7 +11,7 @@ use Rattle.sb_insn.specs.declared.opcode_map.Mnemonic.{Mnemonic}
 use Rattle.sb_insn.specs.declared.opcode_map.Mnemonic.TheVariants as mnemonic
 use Rattle.sb_insn.specs.declared.opcode_map.OperandForm.{OperandForm}
 use Rattle.sb_insn.specs.declared.opcode_map.OperandForm.TheVariants.{AccImm, OpcodeImm}
-use Rattle.sb_insn.specs.Spelling.{lock_bytes, op_bytes, disp_bytes, imm_bytes, front_bytes, spelling}
+use Rattle.sb_insn.specs.Spelling.{lock_bytes, op_bytes, disp_bytes, imm_bytes, lead_bytes, spelling}
 use Rattle.sb_insn.specs.Grammar.{IsValid}
 use Rattle.sb_insn.proofs.Longest.{one_field, spelling_13}
 use Rattle.sb_forms.specs.declared.helper.Helper.{Helper}
@@ -28,7 +28,7 @@ pub spelling_length : (insn : Insn) → length (spelling insn)
     (option_to_list insn.modrm) + length (option_to_list insn.sib) + length (disp_bytes insn.disp) + length
     (imm_bytes insn.imm)
 spelling_length insn =
-    let a = length-append (front_bytes insn.lock insn.rex insn.op)
+    let a = length-append (lead_bytes insn.lock insn.rex insn.op)
     (option_to_list insn.modrm ++ (option_to_list insn.sib ++ (disp_bytes insn.disp ++ imm_bytes insn.imm))) in
     let b = length-append (lock_bytes insn.lock) (option_to_list insn.rex ++ op_bytes insn.op) in
     let c = length-append (option_to_list insn.rex) (op_bytes insn.op) in

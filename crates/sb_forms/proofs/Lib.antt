@@ -5,7 +5,7 @@ pub mod Lengths
 pub mod Maps
 pub mod Operands
 pub mod Quiet
-pub mod Fronts
+pub mod Leads
 pub mod QuietPieces
 pub mod QuietMains
 pub mod ByTable

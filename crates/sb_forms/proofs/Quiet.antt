@@ -90,8 +90,8 @@ in_place_clean insns quiet =
     around (spelled_bytes insns) (λ before. followed (replicate before 0xCC) insns (filler_quiet before).none quiet)
 
 -- a byte 00 between bytes in which the pattern does not stand
-zero_between : (front second : List ℕ) → holds_pattern (front ++ 0 ∷ []) ≡ false → holds_pattern second ≡ false
-    → holds_pattern (front ++ 0 ∷ second) ≡ false
+zero_between : (lead second : List ℕ) → holds_pattern (lead ++ 0 ∷ []) ≡ false → holds_pattern second ≡ false
+    → holds_pattern (lead ++ 0 ∷ second) ≡ false
 unfolding holds_pattern
 zero_between [] second none other = other
 zero_between (a ∷ []) second none other =
@@ -106,23 +106,23 @@ zero_between (a ∷ b ∷ c ∷ rest) second none other =
     (zero_between (b ∷ c ∷ rest) second parts.1 other)
 
 -- bytes behind some that end with 00
-behind_zero : (first front second : List ℕ) → first ≡ front ++ 0 ∷ [] → holds_pattern first ≡ false
+behind_zero : (first lead second : List ℕ) → first ≡ lead ++ 0 ∷ [] → holds_pattern first ≡ false
     → holds_pattern second ≡ false → holds_pattern (first ++ second) ≡ false
-behind_zero first front second is none other =
-    let ends : holds_pattern (front ++ 0 ∷ []) ≡ false = ap (λ (bytes : List ℕ). holds_pattern bytes) (sym is) ∙ none in
+behind_zero first lead second is none other =
+    let ends : holds_pattern (lead ++ 0 ∷ []) ≡ false = ap (λ (bytes : List ℕ). holds_pattern bytes) (sym is) ∙ none in
     ap (λ (bytes : List ℕ). holds_pattern (bytes ++ second)) is
-    ∙ ap (λ (bytes : List ℕ). holds_pattern bytes) (append_assoc front (0 ∷ []) second) ∙ zero_between front second ends other
+    ∙ ap (λ (bytes : List ℕ). holds_pattern bytes) (append_assoc lead (0 ∷ []) second) ∙ zero_between lead second ends other
 
 -- The main instruction may begin like the end of the pattern where the bytes before it end with 00.
 abbrev pub MayFollow : List ℕ → List ℕ → Type 0
-MayFollow before bytes = IsQuiet bytes ⊎ ((holds_pattern bytes ≡ false) × ((front : List ℕ) × (before ≡ front ++ 0 ∷ [])))
+MayFollow before bytes = IsQuiet bytes ⊎ ((holds_pattern bytes ≡ false) × ((lead : List ℕ) × (before ≡ lead ++ 0 ∷ [])))
 
 main_follows : (fill pre main : List ℕ) → holds_pattern (fill ++ pre) ≡ false → MayFollow pre main
     → holds_pattern ((fill ++ pre) ++ main) ≡ false
 main_follows fill pre main none (inl quiet) = joined (fill ++ pre) main none quiet
-main_follows fill pre main none (inr (other, (front, is))) =
-    behind_zero (fill ++ pre) (fill ++ front) main (ap (λ (bytes : List ℕ). fill ++ bytes) is
-    ∙ sym (append_assoc fill front (0 ∷ []))) none other
+main_follows fill pre main none (inr (other, (lead, is))) =
+    behind_zero (fill ++ pre) (fill ++ lead) main (ap (λ (bytes : List ℕ). fill ++ bytes) is
+    ∙ sym (append_assoc fill lead (0 ∷ []))) none other
 
 -- a slot
 pub slot_clean : (pre : List Insn) (main : Insn) (post : List Insn) → AreQuiet pre

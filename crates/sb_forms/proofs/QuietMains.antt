@@ -13,19 +13,19 @@ use Rattle.sb_insn.specs.declared.opcode_map.Mnemonic.{Mnemonic}
 use Rattle.sb_insn.specs.declared.opcode_map.Mnemonic.TheVariants as mnemonic
 use Rattle.sb_insn.specs.declared.opcode_map.OperandForm.{OperandForm}
 use Rattle.sb_insn.specs.declared.opcode_map.OperandForm.TheVariants.{AccImm, OpcodeImm}
-use Rattle.sb_insn.specs.Spelling.{number, imm_bytes, front_bytes, spelling}
+use Rattle.sb_insn.specs.Spelling.{number, imm_bytes, lead_bytes, spelling}
 use Rattle.sb_insn.specs.Fields.{reg_field, rm_field}
 use Rattle.sb_forms.specs.declared.helper.Helper.{Helper}
 use Rattle.sb_forms.specs.declared.helper.Helper.TheVariants.{Rcx, Rdx, Rbx, Rsi, Rdi}
 use Rattle.sb_scan.proofs.Held.{nothing_holds}
 use Rattle.sb_forms.specs.Holding.{begins_with, holds_pattern}
 use Rattle.sb_forms.specs.Rex.{rex_r, rex_b, with_r_b}
-use Rattle.sb_forms.specs.Registers.{number_of, modrm_of, opcode_of}
+use Rattle.sb_forms.specs.Registers.{number_of, modrm_of, one_byte_opcode}
 use Rattle.sb_forms.specs.Mains.{at_helper, own_register, with_displacement, with_helper, register_op, with_constant, on_register, behind_main, move_product, load_target, load_word}
 use Rattle.sb_forms.specs.Table.{begins_with_01_d4}
 use Rattle.sb_forms.proofs.Lowered.{in_four}
 use Rattle.sb_forms.proofs.Quiet.{IsQuiet, AreQuiet, skip, last_one}
-use Rattle.sb_forms.proofs.Fronts.{IsRex, IsOpcode, IsStart, with_r_b_rex, r_1, b_1, front_holds, front_quiet}
+use Rattle.sb_forms.proofs.Leads.{IsRex, IsOpcode, IsStart, with_r_b_rex, r_1, b_1, lead_holds, lead_quiet}
 use Rattle.sb_forms.proofs.QuietPieces.{number_7}
 
 -- ---- behind the opcode
@@ -43,9 +43,9 @@ any_start Vmfunc rest other = tt
 -- an instruction with this ModRM byte
 modrm_quiet : (lock : Bool) (rex : Option ℕ) (op : Op) (modrm : ℕ) (rest : List ℕ) → IsRex rex → IsOpcode op
     → (modrm ≡ 0x0F → ⊥) → (modrm ≡ 0xD4 → ⊥) → holds_pattern rest ≡ false
-    → IsQuiet (front_bytes lock rex op ++ modrm ∷ rest)
+    → IsQuiet (lead_bytes lock rex op ++ modrm ∷ rest)
 modrm_quiet lock rex op modrm rest range known other last none =
-    front_quiet lock rex op (modrm ∷ rest) range known (any_start op (modrm ∷ rest) (not_d4 modrm rest last))
+    lead_quiet lock rex op (modrm ∷ rest) range known (any_start op (modrm ∷ rest) (not_d4 modrm rest last))
     (skip modrm rest other ∙ none)
 
 zero_holds : holds_pattern (0 ∷ []) ≡ false
@@ -86,9 +86,9 @@ on_memory_quiet name insn helper second =
 
 -- the immediate in a helper, and a register that is not a helper: ModRM may be D4 here
 register_holds : (lock : Bool) (rex : Option ℕ) (b : ℕ) (op : Op) (modrm : ℕ) → b ≤ 1 → IsOpcode op → 0xC0 ≤ modrm
-    → holds_pattern (front_bytes lock (with_r_b rex 0 b) op ++ modrm ∷ []) ≡ false
+    → holds_pattern (lead_bytes lock (with_r_b rex 0 b) op ++ modrm ∷ []) ≡ false
 register_holds lock rex b op modrm bit known high =
-    front_holds lock (with_r_b rex 0 b) op (modrm ∷ []) (with_r_b_rex rex 0 b (omega arith) bit) known
+    lead_holds lock (with_r_b rex 0 b) op (modrm ∷ []) (with_r_b_rex rex 0 b (omega arith) bit) known
     ∙ skip modrm [] (λ is. omega (arith, is, high)) ∙ nothing_holds
 
 own_holds : (form : OperandForm) (name : Mnemonic) (insn : Insn) (helper : Helper)
@@ -98,7 +98,7 @@ own_holds AccImm name insn helper =
     register_holds insn.lock insn.rex 0 (register_op name) (0xC0 + 8 * number_of helper) (omega arith) (register_opcode name)
     (omega arith)
 own_holds OpcodeImm name insn helper =
-    register_holds insn.lock insn.rex (rex_b insn.rex) (register_op name) (0xC0 + opcode_of insn.op % 8 + 8 * number_of helper)
+    register_holds insn.lock insn.rex (rex_b insn.rex) (register_op name) (0xC0 + one_byte_opcode insn.op % 8 + 8 * number_of helper)
     (b_1 insn.rex) (register_opcode name) (omega arith)
 own_holds _ name insn helper =
     register_holds insn.lock insn.rex (rex_b insn.rex) (register_op name) (0xC0 + rm_field (modrm_of insn) + 8 * number_of helper)
@@ -117,7 +117,7 @@ on_register_holds name form insn helper = own_holds form name insn helper
 product_quiet : (insn : Insn) (helper : Helper) → IsQuiet (spelling (move_product insn helper))
 unfolding move_product
 product_quiet insn helper =
-    front_quiet
+    lead_quiet
     false
     (with_r_b insn.rex 0 (rex_r insn.rex))
     (One 0x89)
@@ -169,7 +169,7 @@ load_word_quiet insn =
     false
     (Some (0x48 + 4 * rex_b insn.rex))
     (One 0x8B)
-    (8 * (opcode_of insn.op % 8) + 4)
+    (8 * (one_byte_opcode insn.op % 8) + 4)
     (0x25 ∷ 0x10 ∷ 0x40 ∷ 0x00 ∷ 0x70 ∷ [])
     (omega (arith, b_1 insn.rex), omega (arith, b_1 insn.rex))
     (λ is. omega (arith, is), λ is. omega (arith, is))

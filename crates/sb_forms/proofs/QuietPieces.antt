@@ -20,7 +20,7 @@ use Rattle.sb_forms.specs.Pieces.{first_saved, second_saved, scratch_word, upper
 use Rattle.sb_forms.proofs.Lowered.{in_four, lowered_holds}
 use Rattle.sb_forms.proofs.Operands.{no_sib_7, no_disp_7, kind_none}
 use Rattle.sb_forms.proofs.Quiet.{IsQuiet, AreQuiet, skip}
-use Rattle.sb_forms.proofs.Fronts.{x_1, b_1, front_quiet}
+use Rattle.sb_forms.proofs.Leads.{x_1, b_1, lead_quiet}
 
 -- ---- numbers
 
@@ -192,7 +192,7 @@ lea_quiet : (helper : Helper) (insn : Insn) (displacement : Disp) → IsBare (le
     → IsQuiet (spelling (load_address helper insn displacement))
 unfolding load_address
 lea_quiet helper insn displacement bare other e =
-    front_quiet
+    lead_quiet
     false
     (Some (0x48 + 2 * rex_x insn.rex + rex_b insn.rex))
     (One 0x8D)

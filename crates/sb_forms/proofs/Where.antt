@@ -19,7 +19,7 @@ use Rattle.sb_insn.specs.declared.opcode_map.Cell.{Cell}
 use Rattle.sb_insn.specs.declared.opcode_map.Cell.TheVariants.{Absent, NoModRm, ModRm, Extended}
 use Rattle.sb_insn.specs.OpcodeMap.{Opcodes, Single, Span, Row, is_of, look_up, one_byte, one_byte_rows, two_byte, two_byte_rows, cell_of}
 use Rattle.sb_insn.specs.Groups.{extensions, group_operand, operand_of}
-use Rattle.sb_insn.specs.Spelling.{number, lock_bytes, op_bytes, disp_bytes, imm_bytes, front_bytes, spelling}
+use Rattle.sb_insn.specs.Spelling.{number, lock_bytes, op_bytes, disp_bytes, imm_bytes, lead_bytes, spelling}
 use Rattle.sb_insn.specs.Fields.{reg_field, is_modrm_field, is_sib_field, disp_kind_of, operand_rule, rule_of, imm_kind_of, kind_of_imm}
 use Rattle.sb_insn.specs.Grammar.{FitsImm, IsValid}
 use Rattle.sb_insn.specs.Listing.{named_instruction, instruction_in, instruction_of}
@@ -29,12 +29,12 @@ use Rattle.sb_scan.specs.Pattern.{HasPatternAt}
 use Rattle.sb_forms.specs.Holding.{holds_pattern}
 use Rattle.sb_forms.specs.Table.{is_vmfunc, has_memory}
 use Rattle.sb_insn.specs.Branch.{imm_value, is_distance, is_relative, is_direct}
-use Rattle.sb_forms.specs.Places.{front, HasForm, IsPermitted, BehindOpcode, AtModrm, IsOrImul, InImmediate, NotInJumps}
+use Rattle.sb_forms.specs.Places.{lead, HasForm, IsPermitted, BehindOpcode, AtModrm, IsOrImul, InImmediate, NotInJumps}
 use Rattle.sb_forms.proofs.Held.{before, not_held, none_held, nothing_holds, byte_holds}
 use Rattle.sb_forms.proofs.Lowered.{IsInFour, in_four}
 use Rattle.sb_forms.proofs.Maps.{of_operand, narrow, is_narrow, is_bare, one_narrow, two_bare, bare_imm}
 use Rattle.sb_forms.proofs.Operands.{bare_0f, no_memory}
-use Rattle.sb_forms.proofs.Fronts.{IsRex, IsOpcode, valid_rex, valid_op}
+use Rattle.sb_forms.proofs.Leads.{IsRex, IsOpcode, valid_rex, valid_op}
 use Rattle.sb_forms.proofs.Behind.{behind_opcode, imm_holds}
 
 -- ---- behind the opcode
@@ -80,10 +80,10 @@ lock_from : (lock : Bool) (rest : List ℕ) (count : ℕ) → BeginsFrom count r
 lock_from false rest count from place stands = omega (arith, from place stands)
 lock_from true rest count from place stands = omega (arith, one_more 0xF0 rest count (λ is. omega (arith, is)) from place stands)
 
-front_from : (lock : Bool) (rex : Option ℕ) (op : Op) (rest : List ℕ) (count : ℕ) → IsRex rex → IsOpcode op
-    → BeginsFrom count rest → BeginsFrom (length (front_bytes lock rex op) + count) (front_bytes lock rex op ++ rest)
-front_from lock rex op rest count range known behind place stands =
-    let same : (front_bytes lock rex op ++ rest) ≡ lock_bytes lock ++ (option_to_list rex ++ (op_bytes op ++ rest)) =
+lead_from : (lock : Bool) (rex : Option ℕ) (op : Op) (rest : List ℕ) (count : ℕ) → IsRex rex → IsOpcode op
+    → BeginsFrom count rest → BeginsFrom (length (lead_bytes lock rex op) + count) (lead_bytes lock rex op ++ rest)
+lead_from lock rex op rest count range known behind place stands =
+    let same : (lead_bytes lock rex op ++ rest) ≡ lock_bytes lock ++ (option_to_list rex ++ (op_bytes op ++ rest)) =
     append_assoc (lock_bytes lock) (option_to_list rex ++ op_bytes op) rest
     ∙ ap (λ (bytes : List ℕ). lock_bytes lock ++ bytes) (append_assoc (option_to_list rex) (op_bytes op) rest) in
     let from =
@@ -107,7 +107,7 @@ pub behind_opcode_only : BehindOpcode
 behind_opcode_only insn place valid other stands =
     omega (
       arith,
-      front_from insn.lock insn.rex insn.op (behind_opcode insn) 0 (valid_rex insn.rex valid.rex)
+      lead_from insn.lock insn.rex insn.op (behind_opcode insn) 0 (valid_rex insn.rex valid.rex)
           (valid_op insn.op insn.lock insn.rex insn.modrm (not_vmfunc insn.op other) valid.modrm)
           (anywhere (behind_opcode insn)) place stands,
     )
@@ -127,14 +127,14 @@ in_immediate insn place valid other alone stands =
     let sib : length (option_to_list insn.sib) ≡ 0 = ap (λ s. length (option_to_list s)) none.0 in
     let disp : length (disp_bytes insn.disp) ≡ 0 = ap (λ d. length (disp_bytes d)) none.1 in
     let from =
-    front_from insn.lock insn.rex insn.op (behind_opcode insn) (length (option_to_list insn.modrm)) (valid_rex insn.rex valid.rex)
+    lead_from insn.lock insn.rex insn.op (behind_opcode insn) (length (option_to_list insn.modrm)) (valid_rex insn.rex valid.rex)
     (valid_op insn.op insn.lock insn.rex insn.modrm (not_vmfunc insn.op other) valid.modrm)
     (register_from insn.modrm (option_to_list insn.sib ++ (disp_bytes insn.disp ++ imm_bytes insn.imm)) alone) place stands in
     let last = length-append (disp_bytes insn.disp) (imm_bytes insn.imm) in
     let more = length-append (option_to_list insn.sib) (disp_bytes insn.disp ++ imm_bytes insn.imm) in
     let rest =
     length-append (option_to_list insn.modrm) (option_to_list insn.sib ++ (disp_bytes insn.disp ++ imm_bytes insn.imm)) in
-    let whole = length-append (front insn) (behind_opcode insn) in
+    let whole = length-append (lead insn) (behind_opcode insn) in
     omega (arith, from, sib, disp, last, more, rest, whole)
 
 -- ---- at ModRM
@@ -240,7 +240,7 @@ or_imul Endbr lock rex immediate e k long = absurd cc
 or_imul Vmfunc lock rex immediate e k long = absurd cc
 
 -- the ModRM byte is 0F
-at_0f : (insn : Insn) → IsValid insn → insn.modrm ≡ Some 0x0F → HasPatternAt (spelling insn) (length (front insn))
+at_0f : (insn : Insn) → IsValid insn → insn.modrm ≡ Some 0x0F → HasPatternAt (spelling insn) (length (lead insn))
     → IsOrImul insn × ((behind : List ℕ) × (imm_bytes insn.imm ≡ 0x01 ∷ 0xD4 ∷ behind))
 at_0f insn valid is stands =
     let bare =
@@ -250,7 +250,7 @@ at_0f insn valid is stands =
     ap (λ m. option_to_list m ++ (option_to_list insn.sib ++ (disp_bytes insn.disp ++ imm_bytes insn.imm))) is
     ∙ ap (λ s. 0x0F ∷ (option_to_list s ++ (disp_bytes insn.disp ++ imm_bytes insn.imm))) bare.0
     ∙ ap (λ d. 0x0F ∷ (disp_bytes d ++ imm_bytes insn.imm)) bare.1 in
-    let there = subst (λ (all : List ℕ). HasPatternAt all 0) bytes (stands_behind (front insn) (behind_opcode insn) stands) in
+    let there = subst (λ (all : List ℕ). HasPatternAt all 0) bytes (stands_behind (lead insn) (behind_opcode insn) stands) in
     let found = begins (imm_bytes insn.imm) there.1 there.2 in
     let long : 2 ≤ length (imm_bytes insn.imm) = omega (arith, ap (λ (all : List ℕ). length all) found.1) in (
       or_imul insn.op insn.lock insn.rex insn.imm (ap (λ m. is_modrm_field (cell_of insn.op) insn.lock insn.rex m) (sym is)
@@ -260,7 +260,7 @@ at_0f insn valid is stands =
 
 pub at_modrm_only : AtModrm
 at_modrm_only insn modrm valid is stands =
-    let there = stands_behind (front insn) (behind_opcode insn) stands in
+    let there = stands_behind (lead insn) (behind_opcode insn) stands in
     let first : modrm ≡ 0x0F =
     sym (ap (λ m. get_or (option_to_list m ++ (option_to_list insn.sib ++ (disp_bytes insn.disp ++ imm_bytes insn.imm))) 0
     0) is) ∙ there.0 in

@@ -6,20 +6,20 @@ use Rattle.sb_memory.specs.declared.page.TheConstants.{PAGE_SIZE}
 use Rattle.sb_abi.specs.declared.trampoline.TheConstants.{TRAMPOLINE_ADDRESS}
 use Rattle.sb_insn.specs.declared.insn.Insn.{Insn}
 use Rattle.sb_insn.specs.declared.insn.Op.TheVariants.{One, Vmfunc}
-use Rattle.sb_insn.specs.Spelling.{front_bytes, imm_bytes, spelling}
+use Rattle.sb_insn.specs.Spelling.{lead_bytes, imm_bytes, spelling}
 use Rattle.sb_insn.specs.Grammar.{IsValid}
 use Rattle.sb_insn.specs.Branch.{imm_value, is_direct}
 use Rattle.sb_scan.specs.Pattern.{HasPatternAt, HasNoPattern}
 use Rattle.sb_forms.specs.Table.{has_memory}
 
 -- the bytes before ModRM: LOCK, REX and the opcode
-abbrev pub front : Insn → List ℕ
-front insn = front_bytes insn.lock insn.rex insn.op
+abbrev pub lead : Insn → List ℕ
+lead insn = lead_bytes insn.lock insn.rex insn.op
 
 -- In an instruction other than VMFUNC they begin behind the opcode.
 abbrev pub BehindOpcode : Type 0
 BehindOpcode = (insn : Insn) (place : ℕ) → IsValid insn → ¬ (insn.op ≡ Vmfunc) → HasPatternAt (spelling insn) place
-    → length (front insn) ≤ place
+    → length (lead insn) ≤ place
 
 -- 81 /1 or 69
 abbrev pub IsOrImul : Insn → Type 0
@@ -28,7 +28,7 @@ IsOrImul insn = (insn.op ≡ One 0x81) ⊎ (insn.op ≡ One 0x69)
 -- They begin at ModRM only where it is 0F and an immediate of four bytes begins with 01 D4: in 81 /1 and in 69.
 abbrev pub AtModrm : Type 0
 AtModrm =
-    (insn : Insn) (modrm : ℕ) → IsValid insn → insn.modrm ≡ Some modrm → HasPatternAt (spelling insn) (length (front insn))
+    (insn : Insn) (modrm : ℕ) → IsValid insn → insn.modrm ≡ Some modrm → HasPatternAt (spelling insn) (length (lead insn))
     → (modrm ≡ 0x0F) × IsOrImul insn × ((behind : List ℕ) × (imm_bytes insn.imm ≡ 0x01 ∷ 0xD4 ∷ behind))
 
 -- an instruction other than VMFUNC that holds them has at least five bytes

@@ -15,8 +15,8 @@ use Rattle.sb_forms.specs.Rex.{rex_r, rex_x, rex_b}
 -- ---- registers by their numbers, 0 to 15
 
 -- a field of three bits and the bit of REX that extends it
-abbrev pub register : ℕ → ℕ → ℕ
-register field extension = field + 8 * extension
+abbrev pub register_number : ℕ → ℕ → ℕ
+register_number field extension = field + 8 * extension
 
 -- a field of one byte, 0 where none stands
 abbrev pub byte_of : Option ℕ → ℕ
@@ -28,16 +28,16 @@ abbrev pub modrm_of : Insn → ℕ
 modrm_of insn = byte_of insn.modrm
 
 -- the opcode byte of the one-byte map
-abbrev pub opcode_of : Op → ℕ
-opcode_of (One opcode) = opcode
-opcode_of _ = 0
+abbrev pub one_byte_opcode : Op → ℕ
+one_byte_opcode (One opcode) = opcode
+one_byte_opcode _ = 0
 
 abbrev pub reg_number : Insn → ℕ
-reg_number insn = register (reg_field (modrm_of insn)) (rex_r insn.rex)
+reg_number insn = register_number (reg_field (modrm_of insn)) (rex_r insn.rex)
 
 -- the register in the opcode
 abbrev pub opcode_number : Insn → ℕ
-opcode_number insn = register (opcode_of insn.op % 8) (rex_b insn.rex)
+opcode_number insn = register_number (one_byte_opcode insn.op % 8) (rex_b insn.rex)
 
 -- the number of a register that may be absent
 abbrev pub is_number : Option ℕ → ℕ → Bool
@@ -46,15 +46,15 @@ is_number (Some named) number = named == number
 
 abbrev pub rm_number : Option ℕ → Option ℕ → Option ℕ
 rm_number None rex = None
-rm_number (Some modrm) rex = Some (register (rm_field modrm) (rex_b rex))
+rm_number (Some modrm) rex = Some (register_number (rm_field modrm) (rex_b rex))
 
 abbrev pub base_number : Option ℕ → Option ℕ → Option ℕ
 base_number None rex = None
-base_number (Some sib) rex = Some (register (base sib) (rex_b rex))
+base_number (Some sib) rex = Some (register_number (base sib) (rex_b rex))
 
 abbrev pub index_number : Option ℕ → Option ℕ → Option ℕ
 index_number None rex = None
-index_number (Some sib) rex = Some (register (index sib) (rex_x rex))
+index_number (Some sib) rex = Some (register_number (index sib) (rex_x rex))
 
 -- The register that the operands name beside rm: reg, the register in the opcode, or CL. A reg field that extends the
 -- opcode names none.

@@ -2,9 +2,9 @@
 
 ghost use Rattle.std.specs.Prelude.{◌≡◌, ◌≤◌};
 ghost use Rattle.sb_forms.specs.Registers.{
-  register,
+  register_number,
   modrm_of,
-  opcode_of,
+  one_byte_opcode,
   reg_number,
   opcode_number,
   is_number,
@@ -71,8 +71,8 @@ pub fn modrm_of(insn: &Insn) -> u8
 }
 
 /// The opcode byte of the one-byte map, 0 for another opcode.
-pub fn opcode_of(op: Op) -> u8
-    ensures { result ≡ opcode_of op }
+pub fn one_byte_opcode(op: Op) -> u8
+    ensures { result ≡ one_byte_opcode op }
 {
     match op {
         Op::One(opcode) => opcode,
@@ -81,10 +81,10 @@ pub fn opcode_of(op: Op) -> u8
 }
 
 /// The full number of a register: a field of three bits, and the bit of REX that extends it.
-fn register(field: u8, extension: u8) -> u8
+fn register_number(field: u8, extension: u8) -> u8
     requires field { field ≤ 7 }
     requires extension { extension ≤ 1 }
-    ensures { result ≡ register field extension }
+    ensures { result ≡ register_number field extension }
 {
     field + 8 * extension
 }
@@ -93,21 +93,21 @@ fn register(field: u8, extension: u8) -> u8
 fn rm_number(insn: &Insn) -> Option<u8>
     ensures { result ≡ rm_number insn.now.modrm insn.now.rex }
 {
-    Some(register(rm_field(insn.modrm?), rex_b(insn.rex)))
+    Some(register_number(rm_field(insn.modrm?), rex_b(insn.rex)))
 }
 
 /// The register that the base of SIB names, if an SIB byte stands.
 fn base_number(insn: &Insn) -> Option<u8>
     ensures { result ≡ base_number insn.now.sib insn.now.rex }
 {
-    Some(register(base(insn.sib?), rex_b(insn.rex)))
+    Some(register_number(base(insn.sib?), rex_b(insn.rex)))
 }
 
 /// The register that the index of SIB names, if an SIB byte stands.
 fn index_number(insn: &Insn) -> Option<u8>
     ensures { result ≡ index_number insn.now.sib insn.now.rex }
 {
-    Some(register(index(insn.sib?), rex_x(insn.rex)))
+    Some(register_number(index(insn.sib?), rex_x(insn.rex)))
 }
 
 /// The register that the operands name beside rm: reg, the one in the opcode, or CL.
@@ -116,10 +116,10 @@ fn form_number(form: OperandForm, insn: &Insn) -> Option<u8>
 {
     match form {
         OperandForm::RmReg | OperandForm::RegRm | OperandForm::RegRmImm => {
-            Some(register(reg_field(modrm_of(insn)), rex_r(insn.rex)))
+            Some(register_number(reg_field(modrm_of(insn)), rex_r(insn.rex)))
         }
         OperandForm::OpcodeImm | OperandForm::Opcode => {
-            Some(register(opcode_of(insn.op) % 8, rex_b(insn.rex)))
+            Some(register_number(one_byte_opcode(insn.op) % 8, rex_b(insn.rex)))
         }
         OperandForm::RmCl => Some(Helper::Rcx.number()),
         OperandForm::RmImm

@@ -19,7 +19,7 @@ ghost use Rattle.sb_forms.specs.Mains.{
 ghost use Rattle.sb_forms.specs.Table.{spelled_bytes};
 
 use crate::code::Code;
-use crate::helper::{Helper, modrm_of, opcode_of};
+use crate::helper::{Helper, modrm_of, one_byte_opcode};
 use crate::pieces::{SCRATCH_WORD, opcode_alone, wide, wide_at_address};
 use crate::rex::with_r_b;
 use sb_insn::{Disp, Imm, Insn, Mnemonic, Op, OperandForm, reg_field, rex_b, rex_r, rm_field};
@@ -66,7 +66,7 @@ fn own_register(form: OperandForm, insn: &Insn) -> RmOperand
             rex_b: 0,
         },
         OperandForm::OpcodeImm => RmOperand {
-            mod_rm: 0xC0 + opcode_of(insn.op) % 8,
+            mod_rm: 0xC0 + one_byte_opcode(insn.op) % 8,
             disp: Disp::None,
             rex_b: rex_b(insn.rex),
         },
@@ -315,6 +315,6 @@ pub fn load_word(insn: &Insn) -> Insn
 {
     Insn {
         rex: Some(0x48 + 4 * rex_b(insn.rex)),
-        ..wide_at_address(0x8B, opcode_of(insn.op) % 8, SCRATCH_WORD)
+        ..wide_at_address(0x8B, one_byte_opcode(insn.op) % 8, SCRATCH_WORD)
     }
 }

@@ -21,7 +21,7 @@ use Rattle.sb_insn.specs.declared.opcode_map.ModRmOpcode.{ModRmOpcode}
 use Rattle.sb_insn.specs.OpcodeMap.{one_byte, one_byte_rows, two_byte, two_byte_rows, cell_of}
 use Rattle.sb_insn.specs.Groups.{extended_by, extensions, group_operand, operand_of}
 use Rattle.sb_insn.proofs.Rows.{looked_up, every_extension, some_holds, extended}
-use Rattle.sb_insn.specs.Spelling.{lock_bytes, op_bytes, disp_bytes, imm_bytes, front_bytes, spelling}
+use Rattle.sb_insn.specs.Spelling.{lock_bytes, op_bytes, disp_bytes, imm_bytes, lead_bytes, spelling}
 use Rattle.sb_insn.specs.Fields.{kind_of_imm, kind_of_disp, imm_kind_of, rule_of, disp_kind_of, is_sib_field, is_modrm_field, operand_rule, reg_field}
 use Rattle.sb_insn.specs.Grammar.{IsValid}
 
@@ -212,7 +212,7 @@ pub spelling_13 : (insn : Insn) → IsValid insn → length (spelling insn) ≤ 
 spelling_13 insn valid =
     let tail =
     tail_11 insn.op insn.modrm insn.sib insn.disp insn.imm insn.lock insn.rex valid.modrm valid.sib valid.disp valid.imm in
-    let a = length-append (front_bytes insn.lock insn.rex insn.op)
+    let a = length-append (lead_bytes insn.lock insn.rex insn.op)
     (option_to_list insn.modrm ++ (option_to_list insn.sib ++ (disp_bytes insn.disp ++ imm_bytes insn.imm))) in
     let b = length-append (lock_bytes insn.lock) (option_to_list insn.rex ++ op_bytes insn.op) in
     let c = length-append (option_to_list insn.rex) (op_bytes insn.op) in

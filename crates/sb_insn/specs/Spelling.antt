@@ -36,11 +36,11 @@ imm_bytes (imm.I32 value) = number w32 value
 imm_bytes (imm.I64 value) = number w64 value
 
 -- the prefixes and the opcode
-abbrev pub front_bytes : Bool → Option ℕ → Op → List ℕ
-front_bytes lock rex op = lock_bytes lock ++ (option_to_list rex ++ op_bytes op)
+abbrev pub lead_bytes : Bool → Option ℕ → Op → List ℕ
+lead_bytes lock rex op = lock_bytes lock ++ (option_to_list rex ++ op_bytes op)
 
 -- the one spelling of an instruction: LOCK, REX, opcode, ModRM, SIB, displacement, immediate
 abbrev pub spelling : Insn → List ℕ
 spelling insn =
-    front_bytes insn.lock insn.rex insn.op
+    lead_bytes insn.lock insn.rex insn.op
     ++ (option_to_list insn.modrm ++ (option_to_list insn.sib ++ (disp_bytes insn.disp ++ imm_bytes insn.imm)))

@@ -11,7 +11,7 @@ use Rattle.sb_rewrite.specs.Rewriting.{Rewrites}
 use Rattle.sb_load.specs.Loading.{AreRewritten, HasEntry, IsFirstRefused, IsFirstBadEntry}
 use Rattle.sb_load.specs.Checks.{refusal_of, RewritesTexts}
 
--- a list is a front, one element, and what stands behind it
+-- a list is a prefix, one element, and what stands behind it
 cut_at : {X : Type 0} (xs : List X) (k : ℕ) (d : X) → k < length xs → xs ≡ take k xs ++ get_or xs k d ∷ drop (k + 1) xs
 cut_at xs k d within = sym (take-append-drop k xs) ∙ ap (λ behind. take k xs ++ behind) (drop_more xs k d within)
 
@@ -39,10 +39,10 @@ pub one_more_text : (images : List Image) (rewritten more : List Output) (k : �
 one_more_text images rewritten more k image text made within is its_text are one pushed =
     let longer : AreRewritten (take k images ++ image ∷ []) (rewritten ++ made ∷ []) =
     rewritten_push (take k images) rewritten image made are (subst (λ (bytes : List ℕ). Rewrites bytes (Ok made)) its_text one) in
-    let front : take (k + 1) images ≡ take k images ++ image ∷ [] =
+    let prefix : take (k + 1) images ≡ take k images ++ image ∷ [] =
     take_more images k image within ∙ ap (λ (one : Image). take k images ++ one ∷ []) (sym is) in
     subst (λ (list : List Output). AreRewritten (take (k + 1) images) list) (sym pushed)
-    (subst (λ (list : List Image). AreRewritten list (rewritten ++ made ∷ [])) (sym front) longer)
+    (subst (λ (list : List Image). AreRewritten list (rewritten ++ made ∷ [])) (sym prefix) longer)
 
 refused_at : (images : List Image) (rewritten : List Output) (k : ℕ) (why : RewriteRefusal) (image : Image)
     → k < length images → image ≡ get_or images k image

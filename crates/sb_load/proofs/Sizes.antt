@@ -8,7 +8,7 @@ use Rattle.sb_insn.specs.Spelling.{spelling}
 use Rattle.sb_bundle.specs.declared.bundle.Image.{Image}
 use Rattle.sb_bundle.specs.Limits.{IsImage}
 use Rattle.sb_rewrite.specs.Listing.{text_address}
-use Rattle.sb_rewrite.specs.Placing.{Place, slot_bytes, place, places_from, places, area_address, area_end}
+use Rattle.sb_rewrite.specs.Placing.{Placement, slot_bytes, place, places_from, places, area_address, area_end}
 use Rattle.sb_rewrite.specs.Output.{Output, area_bytes}
 use Rattle.sb_rewrite.specs.Rewriting.{EndsBehindArea, NoneOf, Rewrites}
 use Rattle.sb_rewrite.proofs.Ordered.{ordered}
@@ -25,9 +25,9 @@ slots_within : (text : List ℕ) (at slot : ℕ) (insns : List Insn) → slot �
 unfolding places_from
 slots_within text at slot [] within none = omega arith
 slots_within text at slot (insn ∷ insns) within none =
-    let first : Place = place text at slot insn in
+    let first : Placement = place text at slot insn in
     let next : ℕ = slot + length (slot_bytes first.form) in
-    let later : List Place = places_from text (at + length (spelling insn)) next insns in
+    let later : List Placement = places_from text (at + length (spelling insn)) next insns in
     let ends : area_end < next → ⊥ = none.0 in
     let fits : next ≤ area_end = omega arith in
     let behind : next + length (flat_map area_bytes later) ≤ area_end =
@@ -37,10 +37,10 @@ slots_within text at slot (insn ∷ insns) within none =
 pub small_area : (text : List ℕ) (made : Output) → Rewrites text (Ok made) → HasSmallArea made
 small_area text made (of_text, are, fits, is, free) =
     let none : NoneOf EndsBehindArea (places text are.insns) =
-    subst (λ (list : List Place). NoneOf EndsBehindArea list) are.places_are fits.1 in
+    subst (λ (list : List Placement). NoneOf EndsBehindArea list) are.places_are fits.1 in
     let within = slots_within text text_address area_address are.insns (omega arith) none in
     let size : length made.area ≡ length (flat_map area_bytes (places text are.insns)) =
-    ap (λ (one : Output). length one.area) is ∙ ap (λ (list : List Place). length (flat_map area_bytes list)) are.places_are in
+    ap (λ (one : Output). length one.area) is ∙ ap (λ (list : List Placement). length (flat_map area_bytes list)) are.places_are in
     omega arith
 
 pub small_areas : (images : List Image) (rewritten : List Output) → AreRewritten images rewritten → AllSmallAreas rewritten

@@ -9,7 +9,7 @@ use Rattle.sb_bus.specs.declared.stop.BusStop.{BusStop}
 use Rattle.sb_exec.specs.declared.action.Effect.TheVariants.{Next, Syscall, Switch, Undefined}
 use Rattle.sb_exec.specs.Interface.{Interface}
 use Rattle.sb_exec.specs.Access.{store_answer, byte_for, where_stored}
-use Rattle.sb_exec.specs.Row.{Row, MemoryAccess, Loads, LoadsToWrite, Stores, accesses}
+use Rattle.sb_exec.specs.Row.{Row, MemoryAccess, Loads, LoadsForWrite, Stores, accesses}
 use Rattle.sb_exec.specs.Execution as exec
 use Rattle.sb_exec.specs.Execution.{access_answer, meaning_after, call_of, execution_by, execution_of}
 use Rattle.sb_original.specs.Words.{Words}
@@ -68,7 +68,7 @@ meaning_beside : {N B : Type 0} (bus : Interface N B) (words : ℕ → Words) (a
     → meaning_after (beside_words bus) access (paired meaning words) loaded
     ≡ paired (meaning_after bus access meaning loaded) words
 meaning_beside bus words (Loads address size) meaning loaded = refl
-meaning_beside bus words (LoadsToWrite address size) meaning loaded = refl
+meaning_beside bus words (LoadsForWrite address size) meaning loaded = refl
 meaning_beside bus words (Stores address size value) meaning loaded =
     stored_beside words (store_answer (byte_for (bus.byte meaning) Write) address size)
     (bus.stored meaning address size (value loaded)) meaning
@@ -76,7 +76,7 @@ meaning_beside bus words (Stores address size value) meaning loaded =
 answer_beside : {N B : Type 0} (bus : Interface N B) (words : ℕ → Words) (access : MemoryAccess) (meaning : N) (loaded : ℕ)
     → access_answer (beside_words bus) access (paired meaning words) loaded ≡ access_answer bus access meaning loaded
 answer_beside bus words (Loads address size) meaning loaded = refl
-answer_beside bus words (LoadsToWrite address size) meaning loaded = refl
+answer_beside bus words (LoadsForWrite address size) meaning loaded = refl
 answer_beside bus words (Stores address size value) meaning loaded = refl
 
 all_beside : {N B : Type 0} (bus : Interface N B) (words : ℕ

@@ -16,7 +16,7 @@ use Rattle.sb_memory.specs.Outcome.{and_then, done}
 use Rattle.sb_exec.specs.Access.{bytes_from, number_of, loaded_from, store_answer, byte_for, byte_for_write, where_stored}
 use Rattle.sb_exec.specs.Interface.{Interface}
 use Rattle.sb_exec.specs.Size.{size_bytes}
-use Rattle.sb_exec.specs.Row.{Row, MemoryAccess, Loads, LoadsToWrite, Stores, load_accesses, store_accesses, accesses}
+use Rattle.sb_exec.specs.Row.{Row, MemoryAccess, Loads, LoadsForWrite, Stores, load_accesses, store_accesses, accesses}
 use Rattle.sb_exec.specs.Execution.{Run, run, run_on, execution_of, execution_by, effect_after, registers_after}
 use Rattle.sb_exec.specs.Simulation.{told, IsAt, IsRowAt, AgreeAt, StoresKeepAt}
 use Rattle.sb_exec.proofs.Simulation.{SameRun, run_agrees_at}
@@ -58,7 +58,7 @@ agree_at : {M A N B : Type 0} (left : Interface M A) (right : Interface N B) (Ho
     → (access : MemoryAccess) → IsAt IsOutside access → AgreeAt naming left right access first second
 agree_at left right Holds IsOutside naming beside words first second holds (Loads address size) outside =
     beside.reads words first second address size holds outside
-agree_at left right Holds IsOutside naming beside words first second holds (LoadsToWrite address size) outside =
+agree_at left right Holds IsOutside naming beside words first second holds (LoadsForWrite address size) outside =
     beside.updates words first second address size holds outside
 agree_at left right Holds IsOutside naming beside words first second holds (Stores address size value) outside =
     beside.writes words first second address size holds outside
@@ -223,7 +223,7 @@ row_stopped left right Holds IsOutside naming beside (load.Read address size) pl
     (λ loaded loaded'. store_stopped left right Holds IsOutside naming beside place after words first second _ _ loaded loaded'
     holds)
 row_stopped left right Holds IsOutside naming beside
-    (load.ReadToWrite address size) place after words first second account other holds =
+    (load.ReadForWrite address size) place after words first second account other holds =
     first_stopped naming (run left (store_accesses place after)) (run right (store_accesses place after))
     (loaded_from (byte_for_write (left.byte first)) address.0 (size_bytes size))
     (loaded_from (byte_for_write (right.byte second)) address.0 (size_bytes size)) first second _ _

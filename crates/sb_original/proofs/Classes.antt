@@ -23,7 +23,7 @@ use Rattle.sb_alu.specs.declared.operation.Operation.TheVariants as operation
 use Rattle.sb_exec.specs.declared.action.Exchange.TheVariants as exchange
 use Rattle.sb_exec.specs.declared.action.Action.TheVariants.{Compute, ZeroExtend, LoadAddress, Exchange, JumpIf}
 use Rattle.sb_alu.specs.declared.size.Size.TheVariants.{Doubleword, Quadword}
-use Rattle.sb_exec.specs.Operand.{reg_number, operand_size, opcode_of}
+use Rattle.sb_exec.specs.Operand.{reg_number, operand_size, last_opcode_byte}
 use Rattle.sb_exec.specs.Actions.{byte_or, moved_size, condition_number, action_by, action_for, action_of}
 use Rattle.sb_forms.specs.Registers as forms
 use Rattle.sb_forms.specs.Registers.{byte_of, is_number, rm_number, base_number, index_number, form_number, is_named}
@@ -327,4 +327,4 @@ same_work insn main byte memory op modrm reg wide =
     ∙ operand_same (cell_of insn.op) insn.modrm byte memory reg in
     let moved : moved_size main ≡ moved_size insn =
     ap (λ o. byte_or o (operand_size main)) operand ∙ ap (λ s. byte_or (operand_for insn) s) size in
-    action_same insn main found size moved (ap (λ o. opcode_of o % 16) op)
+    action_same insn main found size moved (ap (λ o. last_opcode_byte o % 16) op)

@@ -32,12 +32,12 @@ use Rattle.sb_exec.specs.declared.action.Load.TheVariants as load
 use Rattle.sb_exec.specs.declared.action.Store.TheVariants as store
 use Rattle.sb_exec.specs.declared.action.Action.{Action}
 use Rattle.sb_exec.specs.declared.action.Action.TheVariants.{Compute}
-use Rattle.sb_exec.specs.declared.action.Place.{Place}
-use Rattle.sb_exec.specs.declared.action.Place.TheVariants.{Register, Memory}
+use Rattle.sb_exec.specs.declared.action.Location.{Location}
+use Rattle.sb_exec.specs.declared.action.Location.TheVariants.{Register, Memory}
 use Rattle.sb_exec.specs.Size.{low}
 use Rattle.sb_insn.specs.Branch.{imm_value}
 use Rattle.sb_exec.specs.Operand.{reg_number, opcode_number, operand_size, general, operand_value}
-use Rattle.sb_exec.specs.Address.{rm_place}
+use Rattle.sb_exec.specs.Address.{rm_location}
 use Rattle.sb_exec.specs.WriteBack.{destination, first_operand, last_operand}
 use Rattle.sb_exec.specs.Actions.{byte_or, moved_size, action_by, action_for, action_of}
 use Rattle.sb_exec.specs.Rows.{destination_use, rm_use, load_by, store_by, row_by, row_of}
@@ -171,46 +171,46 @@ own_by _ kind kinds insn is moved = absurd cc
 
 -- ---- forms with an immediate beside one operand
 
-pub no_load : (size : Size) (place : Place) → load_by memory_use.Nothing size place ≡ load.Nothing
+pub no_load : (size : Size) (place : Location) → load_by memory_use.Nothing size place ≡ load.Nothing
 no_load size (Register number) = refl
 no_load size (Memory address) = refl
 
-pub no_store : (size : Size) (place : Place) → store_by memory_use.Nothing size place ≡ store.Nothing
+pub no_store : (size : Size) (place : Location) → store_by memory_use.Nothing size place ≡ store.Nothing
 no_store size (Register number) = refl
 no_store size (Memory address) = refl
 
-register_load : (usage : MemoryUse) (size : Size) (place : Place) (number : ℕ) → place ≡ Register number
+register_load : (usage : MemoryUse) (size : Size) (place : Location) (number : ℕ) → place ≡ Register number
     → load_by usage size place ≡ load.Nothing
-register_load usage size place number is = ap (λ (there : Place). load_by usage size there) is
+register_load usage size place number is = ap (λ (there : Location). load_by usage size there) is
 
-register_store : (usage : MemoryUse) (size : Size) (place : Place) (number : ℕ) → place ≡ Register number
+register_store : (usage : MemoryUse) (size : Size) (place : Location) (number : ℕ) → place ≡ Register number
     → store_by usage size place ≡ store.Nothing
-register_store usage size place number is = ap (λ (there : Place). store_by usage size there) is
+register_store usage size place number is = ap (λ (there : Location). store_by usage size there) is
 
 -- the main's place is the destination
 abbrev pub PlaceIs : OperandForm → Insn → Regs → Insn → Regs → Type 0
-PlaceIs kinds insn old main other = rm_place main other ≡ destination kinds insn old
+PlaceIs kinds insn old main other = rm_location main other ≡ destination kinds insn old
 
 loads_same : (kinds : OperandForm) (usage : MemoryUse) (size : Size) (insn : Insn) (old : Regs) (main : Insn) (other : Regs)
     → is_imm_form kinds ≡ true → PlaceIs kinds insn old main other
-    → load_by (rm_use form.RmReg usage) size (rm_place main other) ≡ load_by (rm_use kinds usage) size (rm_place insn old)
+    → load_by (rm_use form.RmReg usage) size (rm_location main other) ≡ load_by (rm_use kinds usage) size (rm_location insn old)
 unfolding rm_use destination
-loads_same form.RmImm usage size insn old main other is place = ap (λ (there : Place). load_by usage size there) place
+loads_same form.RmImm usage size insn old main other is place = ap (λ (there : Location). load_by usage size there) place
 loads_same form.AccImm usage size insn old main other is place =
-    register_load usage size (rm_place main other) 0 place ∙ sym (no_load size (rm_place insn old))
+    register_load usage size (rm_location main other) 0 place ∙ sym (no_load size (rm_location insn old))
 loads_same form.OpcodeImm usage size insn old main other is place =
-    register_load usage size (rm_place main other) (opcode_number insn) place ∙ sym (no_load size (rm_place insn old))
+    register_load usage size (rm_location main other) (opcode_number insn) place ∙ sym (no_load size (rm_location insn old))
 loads_same _ usage size insn old main other is place = absurd cc
 
 stores_same : (kinds : OperandForm) (usage : MemoryUse) (size : Size) (insn : Insn) (old : Regs) (main : Insn) (other : Regs)
     → is_imm_form kinds ≡ true → PlaceIs kinds insn old main other
-    → store_by (rm_use form.RmReg usage) size (rm_place main other) ≡ store_by (rm_use kinds usage) size (rm_place insn old)
+    → store_by (rm_use form.RmReg usage) size (rm_location main other) ≡ store_by (rm_use kinds usage) size (rm_location insn old)
 unfolding rm_use destination
-stores_same form.RmImm usage size insn old main other is place = ap (λ (there : Place). store_by usage size there) place
+stores_same form.RmImm usage size insn old main other is place = ap (λ (there : Location). store_by usage size there) place
 stores_same form.AccImm usage size insn old main other is place =
-    register_store usage size (rm_place main other) 0 place ∙ sym (no_store size (rm_place insn old))
+    register_store usage size (rm_location main other) 0 place ∙ sym (no_store size (rm_location insn old))
 stores_same form.OpcodeImm usage size insn old main other is place =
-    register_store usage size (rm_place main other) (opcode_number insn) place ∙ sym (no_store size (rm_place insn old))
+    register_store usage size (rm_location main other) (opcode_number insn) place ∙ sym (no_store size (rm_location insn old))
 stores_same _ usage size insn old main other is place = absurd cc
 
 first_is : (kinds : OperandForm) (size : Size) (insn : Insn) (old : Regs) (loaded : ℕ) → is_imm_form kinds ≡ true
@@ -236,7 +236,7 @@ low_whole Doubleword value = omega arith
 low_whole Quadword value = omega arith
 
 main_first : (size : Size) (main : Insn) (other : Regs) (loaded : ℕ)
-    → first_operand form.RmReg size main other loaded ≡ operand_value size (rm_place main other) other loaded
+    → first_operand form.RmReg size main other loaded ≡ operand_value size (rm_location main other) other loaded
 unfolding first_operand destination
 main_first size main other loaded = refl
 
@@ -245,7 +245,7 @@ main_last : (size : Size) (main : Insn) (other : Regs) (loaded : ℕ)
 unfolding last_operand
 main_last size main other loaded = refl
 
-main_place : (main : Insn) (other : Regs) → destination form.RmReg main other ≡ rm_place main other
+main_place : (main : Insn) (other : Regs) → destination form.RmReg main other ≡ rm_location main other
 unfolding destination
 main_place main other = refl
 
@@ -290,7 +290,7 @@ constant_main hidden insn instruction kind value operand helper old other work b
     subst (λ action. AlikeBut hidden old (row_by action insn old) (row_by (action_of main) main other)) (sym own)
     (subst (λ action. AlikeBut hidden old (row_by (Compute kind kinds size) insn old) (row_by action main other)) (sym mains)
     (compute_alike hidden kind kinds form.RmReg size insn old main other agree shown (main_place main other ∙ place)
-    (λ loaded. main_first size main other loaded ∙ ap (λ (there : Place). operand_value size there other loaded) place
+    (λ loaded. main_first size main other loaded ∙ ap (λ (there : Location). operand_value size there other loaded) place
     ∙ value_same hidden size (destination kinds insn old) old other loaded shown agree
     ∙ sym (first_is kinds size insn old loaded work.form))
     (λ loaded. main_last size main other loaded ∙ ap (λ (n : ℕ). low size (general other n)) reg

@@ -15,8 +15,8 @@ use Rattle.sb_insn.specs.Spelling.{spelling}
 use Rattle.sb_insn.specs.Listing.{instruction_of}
 use Rattle.sb_exec.specs.declared.action.Action.TheVariants.{Compute}
 use Rattle.sb_alu.specs.declared.operation.Operation.{Operation}
-use Rattle.sb_exec.specs.declared.action.Place.{Place}
-use Rattle.sb_exec.specs.declared.action.Place.TheVariants.{Memory}
+use Rattle.sb_exec.specs.declared.action.Location.{Location}
+use Rattle.sb_exec.specs.declared.action.Location.TheVariants.{Memory}
 use Rattle.sb_alu.specs.declared.size.Size.{Size}
 use Rattle.sb_exec.specs.Interface.{Interface}
 use Rattle.sb_exec.specs.Operand.{modrm_of, reg_number, rm_number, opcode_number, operand_size, general, next_rip}
@@ -33,7 +33,7 @@ use Rattle.sb_forms.specs.Pieces.{first_saved, second_saved, save, restore, load
 use Rattle.sb_forms.specs.Mains.{at_helper, own_register, with_constant, on_register, behind_main}
 use Rattle.sb_forms.specs.Table.{spelled_bytes, has_memory, move_outcome, bytes_of, constant_form, address_and_constant_form}
 use Rattle.sb_forms.specs.Answers.{IsSmall}
-use Rattle.sb_forms.proofs.Fronts.{b_1}
+use Rattle.sb_forms.proofs.Leads.{b_1}
 use Rattle.sb_original.specs.Words.{FirstSaved, SecondSaved, Words, HasWords}
 use Rattle.sb_original.specs.Kept.{AgreeBut, IsShown}
 use Rattle.sb_original.specs.Work.{constant_operation, is_imm_form, IsConstantWork, IsEntered}
@@ -86,7 +86,7 @@ none_behind _ kind insn helper is = absurd cc
 
 -- ---- where the operand is
 
-rm_is : (insn : Insn) (modrm : ℕ) → insn.modrm ≡ Some modrm → forms.register (rm_field modrm) (rex_b insn.rex) ≡ rm_number insn
+rm_is : (insn : Insn) (modrm : ℕ) → insn.modrm ≡ Some modrm → forms.register_number (rm_field modrm) (rex_b insn.rex) ≡ rm_number insn
 rm_is insn modrm is =
     let byte : modrm_of insn ≡ modrm = ap (λ (m : Option ℕ). unwrap_or m 0) is in
     omega (arith, byte)
@@ -146,7 +146,7 @@ own_stays numbers name insn instruction form.AccImm old other helper found is e 
     }
 own_stays numbers name insn instruction form.OpcodeImm old other helper found is e none accumulator stands =
     let operand = own_register form.OpcodeImm insn in
-    let low = forms.opcode_of insn.op % 8 in
+    let low = forms.one_byte_opcode insn.op % 8 in
     let known : IsRegister operand low 0 = record { mod_rm = refl; within = omega arith; rex = b_1 insn.rex } in
     let one = opcode_is_one insn instruction found is in
     let number : low + 8 * rex_b (with_r_b insn.rex 0 (rex_b insn.rex)) ≡ opcode_number insn =
@@ -170,7 +170,7 @@ own_stays numbers name insn instruction form.RmImm old other helper found is e n
     omega (arith, modrm_same insn.modrm, with_b insn.rex 0 (omega arith)) in
     let there = register_place insn old three in record {
       place = own_place name insn operand helper low 0 (rm_number insn) other known number ∙ sym there;
-      shown = subst (λ (place : Place). IsShown (hides numbers) place) (sym there) (
+      shown = subst (λ (place : Location). IsShown (hides numbers) place) (sym there) (
         omega (arith, b_1 insn.rex),
         rm_shown numbers form.RmImm insn modrm.0 modrm.1 none,
       );
@@ -187,7 +187,7 @@ memory_stays numbers name insn old other at helper memory is =
     let reduced : general other (number_of at) % 2 ^ 64 ≡ operand_address insn old = omega (arith, is, address_below insn old) in
     record {
       place = memory_at name insn at helper other ∙ ap (λ (n : ℕ). Memory (linear n)) reduced ∙ sym there;
-      shown = subst (λ (place : Place). IsShown (hides numbers) place) (sym there) tt;
+      shown = subst (λ (place : Location). IsShown (hides numbers) place) (sym there) tt;
       reg = memory_reg name insn at helper;
     }
 

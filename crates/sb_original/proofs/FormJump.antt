@@ -11,15 +11,15 @@ use Rattle.sb_insn.specs.OpcodeMap.{one_byte}
 use Rattle.sb_insn.specs.Listing.{instruction_of, operand_for}
 use Rattle.sb_alu.specs.declared.size.Size.TheVariants.{Quadword}
 use Rattle.sb_exec.specs.declared.action.Action.TheVariants.{Jump}
-use Rattle.sb_exec.specs.declared.action.Place.{Place}
-use Rattle.sb_exec.specs.declared.action.Place.TheVariants.{Memory}
+use Rattle.sb_exec.specs.declared.action.Location.{Location}
+use Rattle.sb_exec.specs.declared.action.Location.TheVariants.{Memory}
 use Rattle.sb_exec.specs.declared.action.Load.TheVariants as load
 use Rattle.sb_exec.specs.declared.action.Store.TheVariants as store
 use Rattle.sb_exec.specs.declared.action.MemoryUse.TheVariants as memory_use
 use Rattle.sb_exec.specs.Interface.{Interface}
 use Rattle.sb_exec.specs.Size.{low}
 use Rattle.sb_exec.specs.Operand.{general, register_after_write, next_rip, operand_value}
-use Rattle.sb_exec.specs.Address.{linear, operand_address, rm_place}
+use Rattle.sb_exec.specs.Address.{linear, operand_address, rm_location}
 use Rattle.sb_exec.specs.Operated.{operation_outcome}
 use Rattle.sb_exec.specs.WriteBack.{regs_at_next, without_store, write_result, destination, first_operand, last_operand, result_or_nothing, compute_result}
 use Rattle.sb_exec.specs.Branch.{at_rip}
@@ -56,7 +56,7 @@ target_is : (helper : Helper) (regs : Regs)
     ≡ load_row ((general regs (number_of helper) + 0) % 2 ^ 64) Quadword
     (λ loaded. without_store (with_general (number_of helper) (loaded % 2 ^ 64) (regs_at_next (load_target helper) regs)))
 unfolding row_of action_of action_by instruction_of operand_for one_byte load_target load_of store_of after_action effect_of
-    compute_result destination first_operand last_operand operation_outcome result_or_nothing write_result rm_use rm_place
+    compute_result destination first_operand last_operand operation_outcome result_or_nothing write_result rm_use rm_location
     operand_address low register_after_write
 target_is Rcx regs = refl
 target_is Rdx regs = refl
@@ -65,11 +65,11 @@ target_is Rsi regs = refl
 target_is Rdi regs = refl
 
 -- the row of a jump to what a place holds
-jump_by : (insn : Insn) (regs : Regs) (address : ℕ) → rm_place insn regs ≡ Memory (linear address)
+jump_by : (insn : Insn) (regs : Regs) (address : ℕ) → rm_location insn regs ≡ Memory (linear address)
     → row_by (Jump form.Rm) insn regs ≡ load_row address Quadword (λ loaded. without_store (at_rip (loaded % 2 ^ 64) regs))
 unfolding load_of store_of after_action effect_of rm_use last_operand low
 jump_by insn regs address is =
-    ap (λ (place : Place).
+    ap (λ (place : Location).
     let r : Row =
     record {
       load = load_by memory_use.Read Quadword place;

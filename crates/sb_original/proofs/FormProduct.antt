@@ -15,21 +15,21 @@ use Rattle.sb_insn.specs.Listing.{instruction_of, operand_for}
 use Rattle.sb_insn.specs.declared.opcode_map.OperandForm.TheVariants as form
 use Rattle.sb_alu.specs.declared.operation.Operation.TheVariants as operation
 use Rattle.sb_exec.specs.declared.action.Action.TheVariants.{Compute}
-use Rattle.sb_forms.proofs.Fronts.{r_1}
+use Rattle.sb_forms.proofs.Leads.{r_1}
 use Rattle.sb_original.proofs.Constants.{low_whole}
 use Rattle.sb_alu.specs.declared.size.Size.{Size}
 use Rattle.sb_alu.specs.declared.size.Size.TheVariants.{Byte, Doubleword, Quadword}
 use Rattle.sb_exec.specs.declared.action.Effect.TheVariants.{Next}
 use Rattle.sb_exec.specs.declared.action.MemoryUse.TheVariants as memory_use
-use Rattle.sb_exec.specs.declared.action.Place.{Place}
-use Rattle.sb_exec.specs.declared.action.Place.TheVariants.{Register}
+use Rattle.sb_exec.specs.declared.action.Location.{Location}
+use Rattle.sb_exec.specs.declared.action.Location.TheVariants.{Register}
 use Rattle.sb_alu.specs.declared.operation.Outcome.{Outcome}
 use Rattle.sb_exec.specs.Size.{modulus, low}
 use Rattle.sb_exec.specs.Arithmetic.{product_overflows, product_outcome, signed_value, fits, is_negative}
 use Rattle.sb_exec.specs.Interface.{Interface}
 use Rattle.sb_insn.specs.Branch.{imm_value}
-use Rattle.sb_exec.specs.Operand.{modrm_of, reg_number, rm_number, operand_size, general, register, register_after_write, with_register, operand_value}
-use Rattle.sb_exec.specs.Address.{rm_place}
+use Rattle.sb_exec.specs.Operand.{modrm_of, reg_number, rm_number, operand_size, general, register_value, register_after_write, with_register, operand_value}
+use Rattle.sb_exec.specs.Address.{rm_location}
 use Rattle.sb_exec.specs.Operated.{operation_outcome}
 use Rattle.sb_exec.specs.WriteBack.{regs_at_next, with_flags, without_store, write_result, destination, first_operand, last_operand, result_or_nothing, compute_result, rm_value}
 use Rattle.sb_exec.specs.Row.{Row}
@@ -48,7 +48,7 @@ use Rattle.sb_original.proofs.Registers.{follow_with, value_same}
 use Rattle.sb_original.proofs.Operands.{register_place, with_r_0}
 use Rattle.sb_original.proofs.Pieces.{plain_row, plain_does}
 use Rattle.sb_original.proofs.Chains.{agree_set}
-use Rattle.sb_forms.proofs.Fronts.{r_1}
+use Rattle.sb_forms.proofs.Leads.{r_1}
 use Rattle.sb_forms.proofs.QuietPieces.{number_7}
 
 -- ---- a product
@@ -81,7 +81,7 @@ unfolding move_product
 move_fields insn helper = (refl, refl)
 
 move_parts : (insn : Insn) (helper : Helper) (regs : Regs)
-    → (rm_place (move_product insn helper) regs ≡ Register (reg_number insn))
+    → (rm_location (move_product insn helper) regs ≡ Register (reg_number insn))
     × (reg_number (move_product insn helper) ≡ number_of helper)
     × (operand_size (move_product insn helper) ≡ operand_size insn)
 move_parts insn helper regs =
@@ -101,17 +101,17 @@ move_parts insn helper regs =
           ∙ with_w insn.rex 0 (rex_r insn.rex) (omega arith) (r_1 insn.rex)),
     )
 
-abbrev move_row : Insn → Regs → Place → Size → ℕ → Row
+abbrev move_row : Insn → Regs → Location → Size → ℕ → Row
 move_row move regs place size number = record {
   load = load_by memory_use.Write size place;
   store = store_by memory_use.Write size place;
-  after = λ loaded. result_or_nothing size place (Some (register size number regs))
+  after = λ loaded. result_or_nothing size place (Some (register_value size number regs))
       (with_flags regs.flags (regs_at_next move regs));
   effect = Next;
 }
 
 move_by : (insn : Insn) (helper : Helper) (regs : Regs)
-    → row_of (move_product insn helper) regs ≡ move_row (move_product insn helper) regs (rm_place (move_product insn helper) regs)
+    → row_of (move_product insn helper) regs ≡ move_row (move_product insn helper) regs (rm_location (move_product insn helper) regs)
     (operand_size (move_product insn helper)) (reg_number (move_product insn helper))
 unfolding row_of action_of action_by instruction_of operand_for one_byte move_product load_of store_of after_action effect_of
     compute_result destination first_operand last_operand operation_outcome rm_use
@@ -119,14 +119,14 @@ move_by insn helper regs = refl
 
 move_plain : (move : Insn) (regs : Regs) (size : Size) (to number : ℕ)
     → move_row move regs (Register to) size number
-    ≡ plain_row (λ loaded. without_store (with_register size to (register size number regs) (regs_at_next move regs)))
+    ≡ plain_row (λ loaded. without_store (with_register size to (register_value size number regs) (regs_at_next move regs)))
 unfolding result_or_nothing write_result
 move_plain move regs size to number = refl
 
 -- what the piece leaves: the helper's value in the destination
 abbrev pub product_moved : Insn → Helper → Slotted → Slotted
 product_moved insn helper state = record {
-  regs = with_register (operand_size insn) (reg_number insn) (register (operand_size insn) (number_of helper) state.regs)
+  regs = with_register (operand_size insn) (reg_number insn) (register_value (operand_size insn) (number_of helper) state.regs)
       (regs_at_next (move_product insn helper) state.regs);
   words = state.words;
 }
@@ -138,7 +138,7 @@ move_does bus Holds insn helper state =
     let move = move_product insn helper in
     let parts = move_parts insn helper state.regs in
     let row = move_by insn helper state.regs
-    ∙ ap (λ (place : Place). move_row move state.regs place (operand_size move) (reg_number move)) parts.0
+    ∙ ap (λ (place : Location). move_row move state.regs place (operand_size move) (reg_number move)) parts.0
     ∙ ap (λ (size : Size). move_row move state.regs (Register (reg_number insn)) size (reg_number move)) parts.2
     ∙ ap (λ (number : ℕ). move_row move state.regs (Register (reg_number insn)) (operand_size insn) number) parts.1
     ∙ move_plain move state.regs (operand_size insn) (reg_number insn) (number_of helper) in
@@ -163,7 +163,7 @@ pub product_follows : (helper : Helper) (numbers : List ℕ) (insn main : Insn) 
     with_register size (number_of helper) (product % modulus size) (with_flags flags (regs_at_next main other)) in
     FollowBut (hides numbers) old
     (with_register size (reg_number insn) (product % modulus size) (with_flags flags (regs_at_next insn old)))
-    (with_register size (reg_number insn) (register size (number_of helper) now) (record now { rip = rip })))
+    (with_register size (reg_number insn) (register_value size (number_of helper) now) (record now { rip = rip })))
 product_follows helper numbers insn main size product flags old other rip hidden below shown agree =
     let value = product % modulus size in
     let base : Regs = with_flags flags (regs_at_next main other) in
@@ -180,19 +180,19 @@ product_follows helper numbers insn main size product flags old other rip hidden
     let follow : FollowBut (hides numbers) old (with_flags flags (regs_at_next insn old)) (record now { rip = rip }) =
     record { agree = after; left = λ k _. refl } in
     let both =
-    follow_with (hides numbers) old size (reg_number insn) (register size (number_of helper) now)
+    follow_with (hides numbers) old size (reg_number insn) (register_value size (number_of helper) now)
     (with_flags flags (regs_at_next insn old)) (record now { rip = rip }) below shown follow in
-    let same : register_after_write size (general old (reg_number insn)) (register size (number_of helper) now)
+    let same : register_after_write size (general old (reg_number insn)) (register_value size (number_of helper) now)
     ≡ register_after_write size (general old (reg_number insn)) value =
     ap (λ (n : ℕ). register_after_write size (general old (reg_number insn)) (low size n)) (sym kept)
     ∙ merged_low size (general old (reg_number insn)) (general base (number_of helper)) product in
     subst (λ (n : ℕ). FollowBut (hides numbers) old
     (record (with_flags flags (regs_at_next insn old)) { general = slice_set old.general (reg_number insn) n })
-    (with_register size (reg_number insn) (register size (number_of helper) now) (record now { rip = rip }))) same both
+    (with_register size (reg_number insn) (register_value size (number_of helper) now) (record now { rip = rip }))) same both
 
 -- ---- the rows of the original and of main
 
-abbrev pub product_row : Insn → Regs → Place → Size → ℕ → (ℕ → Outcome) → Row
+abbrev pub product_row : Insn → Regs → Location → Size → ℕ → (ℕ → Outcome) → Row
 product_row insn regs place size number out = record {
   load = load_by memory_use.Read size place;
   store = store_by memory_use.Read size place;
@@ -203,33 +203,33 @@ product_row insn regs place size number out = record {
 
 pub own_product : (insn : Insn) (old : Regs) (size : Size)
     → row_by (Compute operation.Multiply form.RegRmImm size) insn old
-    ≡ product_row insn old (rm_place insn old) size (reg_number insn)
+    ≡ product_row insn old (rm_location insn old) size (reg_number insn)
     (λ loaded. product_outcome size (rm_value size insn old loaded) (low size (imm_value insn.imm)) old.flags)
 unfolding load_of store_of after_action effect_of compute_result destination first_operand last_operand operation_outcome rm_use
 own_product insn old size = refl
 
 pub main_product : (main : Insn) (other : Regs) (size : Size)
     → row_by (Compute operation.Multiply form.RegRm size) main other
-    ≡ product_row main other (rm_place main other) size (reg_number main)
-    (λ loaded. product_outcome size (register size (reg_number main) other) (rm_value size main other loaded) other.flags)
+    ≡ product_row main other (rm_location main other) size (reg_number main)
+    (λ loaded. product_outcome size (register_value size (reg_number main) other) (rm_value size main other loaded) other.flags)
 unfolding load_of store_of after_action effect_of compute_result destination first_operand last_operand operation_outcome rm_use
 main_product main other size = refl
 
 -- the helper has the immediate, and the other operand is where it was: the same product and flags
 pub same_product : (hidden : ℕ
     → Bool) (insn main : Insn) (size : Size) (value : ℤ) (helper : Helper) (old other : Regs) (loaded : ℕ)
-    → AgreeBut hidden old other → IsShown hidden (rm_place insn old) → rm_place main other ≡ rm_place insn old
+    → AgreeBut hidden old other → IsShown hidden (rm_location insn old) → rm_location main other ≡ rm_location insn old
     → reg_number main ≡ number_of helper
     → general other (number_of helper) ≡ (0 + cast_unsigned w64 value) % 2 ^ 64 → insn.imm ≡ imm.I32 value
-    → product_outcome size (register size (reg_number main) other) (rm_value size main other loaded) other.flags
+    → product_outcome size (register_value size (reg_number main) other) (rm_value size main other loaded) other.flags
     ≡ product_outcome size (rm_value size insn old loaded) (low size (imm_value insn.imm)) old.flags
 same_product hidden insn main size value helper old other loaded agree shown place reg holds is =
-    let number : register size (reg_number main) other ≡ low size (imm_value insn.imm) =
+    let number : register_value size (reg_number main) other ≡ low size (imm_value insn.imm) =
     ap (λ (n : ℕ). low size (general other n)) reg ∙ ap (λ (n : ℕ). low size n) holds ∙ low_whole size (cast_unsigned w64 value)
     ∙ ap (λ i. low size (imm_value i)) (sym is) in
     let rm : rm_value size main other loaded ≡ rm_value size insn old loaded =
-    ap (λ (there : Place). operand_value size there other loaded) place
-    ∙ value_same hidden size (rm_place insn old) old other loaded shown agree in
+    ap (λ (there : Location). operand_value size there other loaded) place
+    ∙ value_same hidden size (rm_location insn old) old other loaded shown agree in
     ap (λ (n : ℕ). product_outcome size n (rm_value size main other loaded) other.flags) number
     ∙ ap (λ (n : ℕ). product_outcome size (low size (imm_value insn.imm)) n other.flags) rm
     ∙ ap (λ (f : Flags). product_outcome size (low size (imm_value insn.imm)) (rm_value size insn old loaded) f) agree.flags

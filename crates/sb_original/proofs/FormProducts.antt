@@ -13,7 +13,7 @@ use Rattle.sb_original.proofs.Memory.{memory_place, memory_mod, address_below}
 use Rattle.sb_original.proofs.Fields.{modrm_same, with_b, reg_number_same}
 use Rattle.sb_original.proofs.Saves.{save_done_first, save_done_second, staged_done, staged_then, address_saves, constant_saves}
 use Rattle.sb_original.specs.Work.{IsEntered}
-use Rattle.sb_forms.proofs.Fronts.{b_1}
+use Rattle.sb_forms.proofs.Leads.{b_1}
 use Rattle.sb_forms.specs.Answers.{IsSmall}
 use Rattle.sb_forms.specs.Table.{spelled_bytes, has_memory, move_outcome, bytes_of, constant_form, address_and_constant_form}
 use Rattle.sb_forms.specs.Registers as forms
@@ -34,12 +34,12 @@ use Rattle.sb_insn.specs.declared.registers.Regs.{Regs}
 use Rattle.sb_insn.specs.Spelling.{spelling}
 use Rattle.sb_insn.specs.Listing.{instruction_of}
 use Rattle.sb_exec.specs.declared.action.Action.TheVariants.{Compute}
-use Rattle.sb_exec.specs.declared.action.Place.{Place}
-use Rattle.sb_exec.specs.declared.action.Place.TheVariants.{Register, Memory}
+use Rattle.sb_exec.specs.declared.action.Location.{Location}
+use Rattle.sb_exec.specs.declared.action.Location.TheVariants.{Register, Memory}
 use Rattle.sb_exec.specs.Interface.{Interface}
 use Rattle.sb_insn.specs.Branch.{imm_value}
 use Rattle.sb_exec.specs.Operand.{reg_number, operand_size, general, next_rip, with_register, modrm_of, rm_number}
-use Rattle.sb_exec.specs.Address.{rm_place, linear, operand_address}
+use Rattle.sb_exec.specs.Address.{rm_location, linear, operand_address}
 use Rattle.sb_exec.specs.WriteBack.{regs_at_next, with_flags, without_store, write_result, result_or_nothing, rm_value}
 use Rattle.sb_exec.specs.Actions.{action_for, action_of, action_by}
 use Rattle.sb_exec.specs.Rows.{row_of, row_by, load_by, store_by}
@@ -81,8 +81,8 @@ record IsProductMain (numbers : List ℕ) (insn main : Insn) (helper : Helper) (
   own : action_of insn ≡ Compute operation.Multiply form.RegRmImm (operand_size insn)
   main_is : action_of main ≡ Compute operation.Multiply form.RegRm (operand_size insn)
   agree : AgreeBut (hides numbers) old other
-  shown : IsShown (hides numbers) (rm_place insn old)
-  place : rm_place main other ≡ rm_place insn old
+  shown : IsShown (hides numbers) (rm_location insn old)
+  place : rm_location main other ≡ rm_location insn old
   reg : reg_number main ≡ number_of helper
   holds : general other (number_of helper) ≡ (0 + cast_unsigned w64 value) % 2 ^ 64
   imm : insn.imm ≡ imm.I32 value
@@ -144,9 +144,9 @@ product_accesses numbers insn main helper value old other known =
     let size = operand_size insn in
     let own = ap (λ action. row_by action insn old) known.own ∙ own_product insn old size in
     let there = ap (λ action. row_by action main other) known.main_is ∙ main_product main other size in record {
-      load = ap (λ (r : Row). r.load) there ∙ ap (λ (p : Place). load_by memory_use.Read size p) known.place
+      load = ap (λ (r : Row). r.load) there ∙ ap (λ (p : Location). load_by memory_use.Read size p) known.place
           ∙ sym (ap (λ (r : Row). r.load) own);
-      store = ap (λ (r : Row). r.store) there ∙ ap (λ (p : Place). store_by memory_use.Read size p) known.place
+      store = ap (λ (r : Row). r.store) there ∙ ap (λ (p : Location). store_by memory_use.Read size p) known.place
           ∙ sym (ap (λ (r : Row). r.store) own);
       effect = ap (λ (r : Row). r.effect) there ∙ sym (ap (λ (r : Row). r.effect) own);
       stored = λ loaded. ap (λ (a : After). a.stored) (main_after numbers insn main helper value old other loaded known)
@@ -308,7 +308,7 @@ product_slot bus Holds insn instruction value helper site start state has work f
           main_action insn operand helper
           ∙ ap (λ s. Compute operation.Multiply form.RegRm s) (main_size mnemonic.Imul insn operand helper bit);
       agree = loads.agree;
-      shown = subst (λ (place : Place). IsShown (hides numbers) place) (sym there) (
+      shown = subst (λ (place : Location). IsShown (hides numbers) place) (sym there) (
         omega (arith, b_1 insn.rex),
         rm_shown numbers instruction.form insn modrm.0 modrm.1 (named, tt),
       );
@@ -434,7 +434,7 @@ product_both_slot bus Holds insn instruction value helper second site start stat
           main_action insn operand second
           ∙ ap (λ s. Compute operation.Multiply form.RegRm s) (main_size mnemonic.Imul insn operand second (at_bit helper));
       agree = loads.agree;
-      shown = subst (λ (place : Place). IsShown (hides numbers) place) (sym there) tt;
+      shown = subst (λ (place : Location). IsShown (hides numbers) place) (sym there) tt;
       place = memory_at mnemonic.Imul insn helper second ready.regs ∙ ap (λ (n : ℕ). Memory (linear n)) reduced ∙ sym there;
       reg = memory_reg mnemonic.Imul insn helper second;
       holds = loads.loaded;

@@ -22,7 +22,7 @@ use Rattle.sb_exec.specs.Interface.{Interface}
 use Rattle.sb_exec.specs.Size.{low}
 use Rattle.sb_insn.specs.Branch.{imm_value}
 use Rattle.sb_exec.specs.Operand.{general, next_rip}
-use Rattle.sb_exec.specs.Address.{linear, rm_place}
+use Rattle.sb_exec.specs.Address.{linear, rm_location}
 use Rattle.sb_exec.specs.WriteBack.{regs_at_next, with_store, last_operand}
 use Rattle.sb_exec.specs.Branch.{rsp_after_push, regs_after_push}
 use Rattle.sb_exec.specs.Row.{Row}
@@ -65,7 +65,7 @@ push_row insn regs value =
 main_is : (helper : Helper) (regs : Regs)
     → row_of (opcode_alone (0x50 + number_of helper)) regs
     ≡ push_row (opcode_alone (0x50 + number_of helper)) regs (general regs (number_of helper) % 2 ^ 64)
-unfolding row_of action_of action_by instruction_of one_byte load_of store_of after_action effect_of last_operand rm_use rm_place
+unfolding row_of action_of action_by instruction_of one_byte load_of store_of after_action effect_of last_operand rm_use rm_location
     low
 main_is Rcx regs = refl
 main_is Rdx regs = refl
@@ -85,7 +85,7 @@ own_by insn regs value is =
       after = λ loaded. with_store (regs_after_push (regs_at_next insn regs)) (imm_value insn.imm % 2 ^ 64);
       effect =
           Next;
-    } in r) (no_load Quadword (rm_place insn regs))
+    } in r) (no_load Quadword (rm_location insn regs))
     ∙ ap (λ i. push_row insn regs (imm_value i % 2 ^ 64)) is
 
 own_is : (insn : Insn) (instruction : Instruction) (value : ℤ) (regs : Regs) → IsPushWork insn instruction value

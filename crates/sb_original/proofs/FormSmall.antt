@@ -16,7 +16,7 @@ use Rattle.sb_insn.specs.Listing.{instruction_of, operand_for}
 use Rattle.sb_insn.specs.Grammar.{IsValid}
 use Rattle.sb_exec.specs.Size.{low}
 use Rattle.sb_exec.specs.Operand.{register_after_write}
-use Rattle.sb_exec.specs.Address.{operand_address, rm_place}
+use Rattle.sb_exec.specs.Address.{operand_address, rm_location}
 use Rattle.sb_exec.specs.Operated.{operation_outcome}
 use Rattle.sb_exec.specs.WriteBack.{write_result, destination, first_operand, last_operand, result_or_nothing, compute_result}
 use Rattle.sb_exec.specs.Actions.{action_by, action_of}
@@ -32,7 +32,7 @@ add_to_rm = record { lock = false; rex = None; op = One 0x01; modrm = Some 0xD4;
 
 pub add_rows : (regs : Regs) → InPlaceLaw (row_of add_to_rm regs) add_from_rm regs
 unfolding row_of action_of action_by instruction_of operand_for one_byte load_of store_of after_action effect_of compute_result
-    destination first_operand last_operand operation_outcome result_or_nothing write_result rm_use rm_place operand_address low
+    destination first_operand last_operand operation_outcome result_or_nothing write_result rm_use rm_location operand_address low
     register_after_write
 add_rows regs =
     record { accesses = record { load = refl; store = refl; effect = refl; stored = λ loaded. refl }; registers = λ loaded. refl }

@@ -9,7 +9,7 @@ use Rattle.sb_exec.specs.declared.action.Action.{Action}
 use Rattle.sb_exec.specs.declared.action.Action.TheVariants.{Jump, Call}
 use Rattle.sb_exec.specs.declared.action.MemoryUse.TheVariants as memory_use
 use Rattle.sb_exec.specs.Operand.{next_rip}
-use Rattle.sb_exec.specs.Address.{rm_place}
+use Rattle.sb_exec.specs.Address.{rm_location}
 use Rattle.sb_exec.specs.WriteBack.{last_operand}
 use Rattle.sb_exec.specs.Branch.{at_rip, regs_after_push}
 use Rattle.sb_exec.specs.Actions.{action_by, action_for, action_of}
@@ -43,7 +43,7 @@ jump_same insn main regs own other same =
     (record {
       accesses =
           record {
-            load = load_same (rm_use form.Rm memory_use.Read) Quadword (rm_place insn regs) (rm_place main regs) same.place;
+            load = load_same (rm_use form.Rm memory_use.Read) Quadword (rm_location insn regs) (rm_location main regs) same.place;
             store = refl;
             effect = refl;
             stored = λ loaded. refl;
@@ -62,7 +62,7 @@ call_same insn main regs own other same next =
     (record {
       accesses =
           record {
-            load = load_same (rm_use form.Rm memory_use.Read) Quadword (rm_place insn regs) (rm_place main regs) same.place;
+            load = load_same (rm_use form.Rm memory_use.Read) Quadword (rm_location insn regs) (rm_location main regs) same.place;
             store = refl;
             effect = refl;
             stored = λ loaded. next;

@@ -24,7 +24,7 @@ use Rattle.sb_exec.specs.declared.action.After.{After}
 use Rattle.sb_exec.specs.Interface.{Interface}
 use Rattle.sb_exec.specs.Size.{low}
 use Rattle.sb_exec.specs.Operand.{general, register_after_write, next_rip, opcode_number}
-use Rattle.sb_exec.specs.Address.{operand_address, rm_place}
+use Rattle.sb_exec.specs.Address.{operand_address, rm_location}
 use Rattle.sb_exec.specs.Operated.{operation_outcome}
 use Rattle.sb_exec.specs.WriteBack.{regs_at_next, without_store, write_result, destination, first_operand, last_operand, result_or_nothing, compute_result}
 use Rattle.sb_exec.specs.Row.{Row}
@@ -39,7 +39,7 @@ use Rattle.sb_forms.specs.Pieces.{first_saved, scratch_word, upper_half, save, r
 use Rattle.sb_forms.specs.Mains.{load_word}
 use Rattle.sb_forms.specs.Table.{spelled_bytes, bytes_of, wide_constant_form}
 use Rattle.sb_forms.specs.Answers.{IsSmall}
-use Rattle.sb_forms.proofs.Fronts.{b_1}
+use Rattle.sb_forms.proofs.Leads.{b_1}
 use Rattle.sb_original.specs.Words.{FirstSaved, Third, Words, HasWords}
 use Rattle.sb_original.specs.Kept.{AgreeBut, FollowBut}
 use Rattle.sb_original.specs.Alike.{hides}
@@ -100,7 +100,7 @@ word_to low b = record (wide_at_address 0x8B low scratch_word) { rex = Some (0x4
 
 word_is : (low b : ℕ) (regs : Regs) → low < 8 → b ≤ 1 → row_of (word_to low b) regs ≡ word_row (low + 8 * b) regs
 unfolding row_of action_of action_by instruction_of operand_for one_byte load_of store_of after_action effect_of compute_result
-    destination first_operand last_operand operation_outcome result_or_nothing write_result rm_use rm_place operand_address low
+    destination first_operand last_operand operation_outcome result_or_nothing write_result rm_use rm_location operand_address low
     register_after_write word_row
 word_is zero zero regs a c = refl
 word_is (suc zero) zero regs a c = refl
@@ -121,7 +121,7 @@ word_is (suc (suc (suc (suc (suc (suc (suc zero))))))) (suc zero) regs a c = ref
 word_is (suc (suc (suc (suc (suc (suc (suc (suc k)))))))) b regs a c = absurd (omega arith)
 word_is k (suc (suc b)) regs a c = absurd (omega arith)
 
-load_word_is : (insn : Insn) → load_word insn ≡ word_to (forms.opcode_of insn.op % 8) (rex_b insn.rex)
+load_word_is : (insn : Insn) → load_word insn ≡ word_to (forms.one_byte_opcode insn.op % 8) (rex_b insn.rex)
 unfolding load_word
 load_word_is insn = refl
 
@@ -172,9 +172,9 @@ main_row : (insn : Insn) (instruction : Instruction) (value : ℤ) (regs : Regs)
 unfolding word_row
 main_row insn instruction value regs work =
     let one = opcode_is_one insn instruction work.named work.form in
-    let number : forms.opcode_of insn.op % 8 + 8 * rex_b insn.rex ≡ opcode_number insn = omega (arith, one) in
+    let number : forms.one_byte_opcode insn.op % 8 + 8 * rex_b insn.rex ≡ opcode_number insn = omega (arith, one) in
     ap (λ (i : Insn). row_of i regs) (load_word_is insn)
-    ∙ word_is (forms.opcode_of insn.op % 8) (rex_b insn.rex) regs (omega arith) (b_1 insn.rex)
+    ∙ word_is (forms.one_byte_opcode insn.op % 8) (rex_b insn.rex) regs (omega arith) (b_1 insn.rex)
     ∙ ap (λ (n : ℕ). word_row n regs) number
 
 own_row : (insn : Insn) (instruction : Instruction) (value : ℤ) (regs : Regs) → IsWideWork insn instruction value
@@ -183,8 +183,8 @@ own_row : (insn : Insn) (instruction : Instruction) (value : ℤ) (regs : Regs) 
     ≡ without_store (with_general (opcode_number insn) (cast_unsigned w64 value % 2 ^ 64) (regs_at_next insn regs)))
 unfolding row_of load_of store_of effect_of rm_use
 own_row insn instruction value regs work = (
-  ap (λ a. (row_by a insn regs).load) work.action ∙ no_load Quadword (rm_place insn regs),
-  ap (λ a. (row_by a insn regs).store) work.action ∙ no_store Quadword (rm_place insn regs),
+  ap (λ a. (row_by a insn regs).load) work.action ∙ no_load Quadword (rm_location insn regs),
+  ap (λ a. (row_by a insn regs).store) work.action ∙ no_store Quadword (rm_location insn regs),
   ap (λ a. (row_by a insn regs).effect) work.action,
   ap (λ a. (row_by a insn regs).after 0) work.action ∙ move_by insn regs value work.imm,
 )

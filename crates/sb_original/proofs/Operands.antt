@@ -18,10 +18,10 @@ use Rattle.sb_insn.specs.Groups.{extensions, group_operand}
 use Rattle.sb_insn.specs.Fields.{mod_field, reg_field, rex_r, rex_b}
 use Rattle.sb_insn.specs.Listing.{named_instruction, instruction_in, instruction_of}
 use Rattle.sb_insn.proofs.Rows.{looked_up, some_holds, every_extension, extended}
-use Rattle.sb_exec.specs.declared.action.Place.TheVariants.{Register, Memory}
+use Rattle.sb_exec.specs.declared.action.Location.TheVariants.{Register, Memory}
 use Rattle.sb_exec.specs.Operand.{modrm_of, reg_number, rm_number, opcode_number, general}
 use Rattle.sb_exec.specs.Operand as exec
-use Rattle.sb_exec.specs.Address.{linear, disp_value, operand_address, rm_place}
+use Rattle.sb_exec.specs.Address.{linear, disp_value, operand_address, rm_location}
 use Rattle.sb_forms.specs.declared.helper.Helper.{Helper}
 use Rattle.sb_forms.specs.declared.mains.RmOperand.{RmOperand}
 use Rattle.sb_forms.specs.Rex.{with_r_b}
@@ -42,8 +42,8 @@ reg_fields : (n r : ℕ) → n ≤ 7 → r ≤ 7
     → ((0xC0 + n + 8 * r) / 64 ≡ 3) × ((0xC0 + n + 8 * r) / 8 % 8 ≡ r) × ((0xC0 + n + 8 * r) % 8 ≡ n)
 reg_fields n r nn rr = (omega arith, omega arith, omega arith)
 
-pub register_place : (insn : Insn) (regs : Regs) → mod_field (modrm_of insn) ≡ 3 → rm_place insn regs ≡ Register (rm_number insn)
-unfolding rm_place
+pub register_place : (insn : Insn) (regs : Regs) → mod_field (modrm_of insn) ≡ 3 → rm_location insn regs ≡ Register (rm_number insn)
+unfolding rm_location
 register_place insn regs is =
     cond-true (mod_field (modrm_of insn) == 3) (Register (rm_number insn)) (Memory (linear (operand_address insn regs)))
     (eq-eqb (mod_field (modrm_of insn)) 3 is)
@@ -83,7 +83,7 @@ memory_address name insn at helper regs =
     ∙ memory_distance name insn at helper (general regs (number_of at))
 
 pub memory_at : (name : Mnemonic) (insn : Insn) (at helper : Helper) (regs : Regs)
-    → rm_place (with_constant name insn (at_helper at) helper) regs ≡ Memory (linear (general regs (number_of at) % 2 ^ 64))
+    → rm_location (with_constant name insn (at_helper at) helper) regs ≡ Memory (linear (general regs (number_of at) % 2 ^ 64))
 memory_at name insn at helper regs =
     let main = with_constant name insn (at_helper at) helper in
     let top =
@@ -116,7 +116,7 @@ own_reg name insn operand helper low bit is =
 
 pub own_place : (name : Mnemonic) (insn : Insn) (operand : RmOperand) (helper : Helper) (low bit number : ℕ) (regs : Regs)
     → IsRegister operand low bit → low + 8 * rex_b (with_r_b insn.rex 0 operand.rex_b) ≡ number
-    → rm_place (with_constant name insn operand helper) regs ≡ Register number
+    → rm_location (with_constant name insn operand helper) regs ≡ Register number
 own_place name insn operand helper low bit number regs is same =
     let main = with_constant name insn operand helper in
     let fields = own_fields name insn operand helper in
@@ -176,7 +176,7 @@ unfolding two_byte
 two_no_opcode opcode = looked_up (λ cell. all_of no_opcode cell) opcode two_byte_rows refl refl
 
 opcode_by : (op : Op) (modrm : Option ℕ) (instruction : Instruction) → instruction_in (cell_of op) modrm ≡ Some instruction
-    → is_opcode_form instruction.form ≡ true → forms.opcode_of op ≡ exec.opcode_of op
+    → is_opcode_form instruction.form ≡ true → forms.one_byte_opcode op ≡ exec.last_opcode_byte op
 opcode_by (One opcode) modrm instruction is e = refl
 opcode_by (Two opcode) modrm instruction is e =
     absurd (both_ways (no_opcode instruction) (ap (λ t. not t) e)
@@ -188,6 +188,6 @@ opcode_by Vmfunc modrm instruction is e =
     (found_all no_opcode (cell_of Vmfunc) modrm instruction refl is))
 
 pub opcode_is_one : (insn : Insn) (instruction : Instruction) → instruction_of insn ≡ Some instruction
-    → instruction.form ≡ form.OpcodeImm → forms.opcode_of insn.op ≡ exec.opcode_of insn.op
+    → instruction.form ≡ form.OpcodeImm → forms.one_byte_opcode insn.op ≡ exec.last_opcode_byte insn.op
 unfolding instruction_of
 opcode_is_one insn instruction is e = opcode_by insn.op insn.modrm instruction is (ap (λ f. is_opcode_form f) e)

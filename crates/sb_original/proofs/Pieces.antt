@@ -19,7 +19,7 @@ use Rattle.sb_exec.specs.Size.{low, size_bytes}
 use Rattle.sb_exec.specs.Interface.{Interface}
 use Rattle.sb_exec.specs.Access.{loaded_from, store_answer, byte_for}
 use Rattle.sb_exec.specs.Operand.{general, register_after_write}
-use Rattle.sb_exec.specs.Address.{linear, operand_address, rm_place}
+use Rattle.sb_exec.specs.Address.{linear, operand_address, rm_location}
 use Rattle.sb_exec.specs.Operated.{operation_outcome}
 use Rattle.sb_exec.specs.WriteBack.{regs_at_next, without_store, with_store, write_result, destination, first_operand, last_operand, result_or_nothing, compute_result}
 use Rattle.sb_exec.specs.Branch.{at_rip}
@@ -229,7 +229,7 @@ restore_is : (helper : Helper) (which : ScratchWord) (regs : Regs)
     (λ loaded. without_store
     (with_general (number_of helper) (loaded % 2 ^ 64) (regs_at_next (restore helper (address_of which)) regs)))
 unfolding row_of action_of action_by instruction_of operand_for one_byte restore load_of store_of after_action effect_of
-    compute_result destination first_operand last_operand operation_outcome result_or_nothing write_result rm_use rm_place
+    compute_result destination first_operand last_operand operation_outcome result_or_nothing write_result rm_use rm_location
     operand_address low register_after_write
 restore_is Rcx FirstSaved regs = refl
 restore_is Rdx FirstSaved regs = refl
@@ -267,7 +267,7 @@ load_number_is : (helper : Helper) (value : ℤ) (regs : Regs)
     (regs_at_next (load_number helper value) regs)))
 unfolding row_of action_of action_by instruction_of operand_for one_byte group_operand load_number load_of store_of after_action
     effect_of compute_result destination first_operand last_operand operation_outcome result_or_nothing write_result rm_use
-    rm_place operand_address low register_after_write
+    rm_location operand_address low register_after_write
 load_number_is Rcx value regs = refl
 load_number_is Rdx value regs = refl
 load_number_is Rbx value regs = refl
@@ -288,7 +288,7 @@ add_number_is : (helper : Helper) (amount : ℤ) (regs : Regs)
     (with_general (number_of helper) ((general regs (number_of helper) + cast_unsigned w64 amount) % 2 ^ 64)
     (regs_at_next (add_number helper amount) regs)))
 unfolding row_of action_of action_by instruction_of operand_for one_byte add_number load_of store_of after_action effect_of rm_use
-    rm_place operand_address low register_after_write
+    rm_location operand_address low register_after_write
 add_number_is Rcx amount regs = refl
 add_number_is Rdx amount regs = refl
 add_number_is Rbx amount regs = refl
@@ -309,7 +309,7 @@ low_half_is : (helper : Helper) (regs : Regs)
     ≡ store_row 0x70004010 Doubleword
     (λ loaded. with_store (regs_at_next (save_half helper scratch_word) regs) (general regs (number_of helper) % 2 ^ 32))
 unfolding row_of action_of action_by instruction_of operand_for one_byte save_half load_of store_of after_action effect_of
-    compute_result destination first_operand last_operand operation_outcome result_or_nothing write_result rm_use rm_place
+    compute_result destination first_operand last_operand operation_outcome result_or_nothing write_result rm_use rm_location
     operand_address low register_after_write
 low_half_is Rcx regs = refl
 low_half_is Rdx regs = refl
@@ -322,7 +322,7 @@ high_half_is : (helper : Helper) (regs : Regs)
     ≡ store_row 0x70004014 Doubleword
     (λ loaded. with_store (regs_at_next (save_half helper upper_half) regs) (general regs (number_of helper) % 2 ^ 32))
 unfolding row_of action_of action_by instruction_of operand_for one_byte save_half load_of store_of after_action effect_of
-    compute_result destination first_operand last_operand operation_outcome result_or_nothing write_result rm_use rm_place
+    compute_result destination first_operand last_operand operation_outcome result_or_nothing write_result rm_use rm_location
     operand_address low register_after_write
 high_half_is Rcx regs = refl
 high_half_is Rdx regs = refl
@@ -354,14 +354,14 @@ pub jump_is : (from to : ℕ) (regs : Regs)
     (λ loaded. without_store
     (at_rip (((regs.rip + 5) % 2 ^ 64 + cast_unsigned w64 (pos to -ℤ pos (from + 5))) % 2 ^ 64 % 2 ^ 64) regs))
 unfolding row_of action_of action_by instruction_of operand_for one_byte jump_insn load_of store_of after_action effect_of
-    last_operand rm_use rm_place operand_address low
+    last_operand rm_use rm_location operand_address low
 jump_is from to regs = refl
 
 jump_through_is : (regs : Regs)
     → row_of (jump_through scratch_word) regs
     ≡ load_row 0x70004010 Quadword (λ loaded. without_store (at_rip (loaded % 2 ^ 64) regs))
 unfolding row_of action_of action_by instruction_of operand_for one_byte group_operand jump_through load_of store_of after_action
-    effect_of last_operand rm_use rm_place operand_address low
+    effect_of last_operand rm_use rm_location operand_address low
 jump_through_is regs = refl
 
 pub jump_through_does : {M A N : Type 0} (bus : Interface M A) (Holds : Words → M → N → Type 0) (state : Slotted)

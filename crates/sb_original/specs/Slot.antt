@@ -14,7 +14,7 @@ use Rattle.sb_exec.specs.declared.action.Store.TheVariants as store
 use Rattle.sb_exec.specs.Interface.{Interface}
 use Rattle.sb_exec.specs.Operand.{general}
 use Rattle.sb_exec.specs.WriteBack.{regs_at_next}
-use Rattle.sb_exec.specs.Row.{Row, MemoryAccess, Loads, LoadsToWrite, Stores, accesses}
+use Rattle.sb_exec.specs.Row.{Row, MemoryAccess, Loads, LoadsForWrite, Stores, accesses}
 use Rattle.sb_exec.specs.Rows.{row_of}
 use Rattle.sb_exec.specs.Execution.{execution_of}
 use Rattle.sb_forms.specs.declared.helper.Helper.{Helper}
@@ -44,7 +44,7 @@ word_at address words = if address == 0x70004000 then words.first else if addres
 abbrev pub loaded_word : Load → Words → ℕ
 loaded_word load.Nothing words = 0
 loaded_word (load.Read address size) words = word_at address.0 words
-loaded_word (load.ReadToWrite address size) words = word_at address.0 words
+loaded_word (load.ReadForWrite address size) words = word_at address.0 words
 
 -- the third word is stored whole or by halves
 abbrev pub third_stored : Size → ℕ → Words → Words
@@ -82,7 +82,7 @@ worked_through (insn ∷ insns) state = worked_through insns (worked insn state)
 -- the access is to the scratch page alone
 abbrev pub IsScratch : MemoryAccess → Type 0
 IsScratch (Loads address size) = (0x70004000 ≤ address) × (address + size ≤ 0x70005000)
-IsScratch (LoadsToWrite address size) = (0x70004000 ≤ address) × (address + size ≤ 0x70005000)
+IsScratch (LoadsForWrite address size) = (0x70004000 ≤ address) × (address + size ≤ 0x70005000)
 IsScratch (Stores address size value) = (0x70004000 ≤ address) × (address + size ≤ 0x70005000)
 
 -- The law of a piece: it goes on, changes registers and scratch words so, and accesses nothing but the scratch page.

@@ -8,7 +8,7 @@ use Rattle.sb_insn.specs.Grammar.{IsValid}
 use Rattle.sb_bus.specs.declared.stop.BusStop.{BusStop}
 use Rattle.sb_exec.specs.declared.action.Effect.{Effect}
 use Rattle.sb_exec.specs.Access.{store_answer, byte_for, where_stored}
-use Rattle.sb_exec.specs.Row.{Row, MemoryAccess, Loads, LoadsToWrite, Stores, accesses}
+use Rattle.sb_exec.specs.Row.{Row, MemoryAccess, Loads, LoadsForWrite, Stores, accesses}
 use Rattle.sb_exec.specs.Execution.{Run, run, run_on, access_answer, meaning_after, Execution, Executes, execution_by, execution_of}
 use Rattle.sb_exec.specs.Fetching.{FetchesOn}
 use Rattle.sb_state.specs.State.{State}
@@ -38,7 +38,7 @@ after_by : (thread view : ℕ) (access : MemoryAccess) (state : State) (loaded :
     → meaning_after thread_memory access (memory_of thread view state) loaded
     ≡ memory_of thread view (meaning_after (plain thread view) access state loaded)
 after_by thread view (Loads address size) state loaded = refl
-after_by thread view (LoadsToWrite address size) state loaded = refl
+after_by thread view (LoadsForWrite address size) state loaded = refl
 after_by thread view (Stores address size value) state loaded =
     stored_by thread view (store_answer (byte_for (plain_byte thread view state) Write) address size)
     (plain_stored thread view state address size (value loaded)) state
@@ -47,7 +47,7 @@ answer_by : (thread view : ℕ) (access : MemoryAccess) (state : State) (loaded 
     → access_answer thread_memory access (memory_of thread view state) loaded
     ≡ access_answer (plain thread view) access state loaded
 answer_by thread view (Loads address size) state loaded = refl
-answer_by thread view (LoadsToWrite address size) state loaded = refl
+answer_by thread view (LoadsForWrite address size) state loaded = refl
 answer_by thread view (Stores address size value) state loaded = refl
 
 on_by : (thread view : ℕ) (others : List MemoryAccess) (answer : Result ℕ BusStop) (state : State) (account : Unit {0})

@@ -21,10 +21,10 @@ const HEAP: u64 = 0xC0_0000;
 const TEXT: u64 = 0x40_0000;
 
 /// A page of these bytes with a filler behind them.
-fn page(alloc: Global, name: PageName, front: &[u8], filler: u8) -> Result<Page, Fail>
+fn page(alloc: Global, name: PageName, prefix: &[u8], filler: u8) -> Result<Page, Fail>
     ensures { IfOk result (λ page. length page.bytes ≡ 4096) }
 {
-    let mut bytes = Vec::from_slice(alloc, front)?;
+    let mut bytes = Vec::from_slice(alloc, prefix)?;
     bytes.resize(4096, filler)?;
     Ok(Page {
         name,

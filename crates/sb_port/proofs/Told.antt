@@ -44,8 +44,8 @@ took_more told before now bytes chunk n claim first more within is =
     (subst claim (sym count) is)
 
 -- what was copied from a place on, and what is left behind it
-pub copied_front : (bytes copied tail : List ℕ) (at n : ℕ) → length copied ≡ n → copied ≡ take n (drop at bytes)
+pub copied_prefix : (bytes copied tail : List ℕ) (at n : ℕ) → length copied ≡ n → copied ≡ take n (drop at bytes)
     → drop at bytes ≡ take n (copied ++ tail) ++ drop (at + n) bytes
-copied_front bytes copied tail at n len is =
-    let front : take n (copied ++ tail) ≡ take n (drop at bytes) = take_at copied tail n len ∙ is in
-    rw (front, ← drop-drop n at bytes) (sym (take-append-drop n (drop at bytes)))
+copied_prefix bytes copied tail at n len is =
+    let prefix : take n (copied ++ tail) ≡ take n (drop at bytes) = take_at copied tail n len ∙ is in
+    rw (prefix, ← drop-drop n at bytes) (sym (take-append-drop n (drop at bytes)))

@@ -8,13 +8,13 @@ use Rattle.sb_scan.specs.Pattern.{HasNoPattern}
 use Rattle.sb_forms.specs.declared.answer.Form.TheVariants as form
 use Rattle.sb_forms.specs.Places.{IsDirect, NotInJumps}
 use Rattle.sb_forms.specs.Table.{form_of}
-use Rattle.sb_rewrite.specs.declared.front.Front.{Front}
+use Rattle.sb_rewrite.specs.declared.text_insn.TextInsn.{TextInsn}
 use Rattle.sb_rewrite.specs.Listing.{text_address, spelled_bytes, IsListing}
 use Rattle.sb_rewrite.specs.Target.{direct_target, IsBadTarget}
-use Rattle.sb_rewrite.specs.Placing.{Place, is_after_0f, places_from, places, area_address}
+use Rattle.sb_rewrite.specs.Placing.{Placement, is_after_0f, places_from, places, area_address}
 use Rattle.sb_rewrite.specs.Output.{starts_of}
 use Rattle.sb_rewrite.specs.Rewriting.{HasBadTarget, IsUnmovable, NoneOf, IsFirstAt, ArePlaces, LeadsWell}
-use Rattle.sb_rewrite.specs.Turns.{IsFront, JumpsLeadWell, IsFirstOf}
+use Rattle.sb_rewrite.specs.Turns.{IsFirstInsn, JumpsLeadWell, IsFirstOf}
 use Rattle.sb_rewrite.proofs.FirstAt.{none_more, none_among}
 use Rattle.sb_rewrite.proofs.Placed.{starts_placed, slots_size, here, here_among, here_last}
 use Rattle.sb_rewrite.proofs.Reading.{Reads, nothing_read, placed, Turn, turn, all_read}
@@ -24,21 +24,21 @@ use Rattle.sb_rewrite.proofs.Unmovable.{unmovable_anywhere}
 -- ---- one turn
 
 -- the instruction stands among the text's, behind those that were read
-pub among : (text rest : List ℕ) (done more : List Insn) (front : Front) → Turn text rest done more front
-    → (behind : List Place) × (places text (done ++ more) ≡ places text done ++ here text done front.insn ∷ behind)
-among text rest done more front turned =
-    let found = here_among text done front.insn turned.others in
+pub among : (text rest : List ℕ) (done more : List Insn) (text_insn : TextInsn) → Turn text rest done more text_insn
+    → (behind : List Placement) × (places text (done ++ more) ≡ places text done ++ here text done text_insn.insn ∷ behind)
+among text rest done more text_insn turned =
+    let found = here_among text done text_insn.insn turned.others in
     (found.0, ap (λ (list : List Insn). places text (done ++ list)) turned.more_is ∙ found.1)
 
 -- what holds of it, and of none before it, holds of it first
-pub first_here : (Holds : Place → Type 0) (text rest : List ℕ) (done more : List Insn) (front : Front)
-    → Turn text rest done more front → NoneOf Holds (places text done)
-    → Holds (here text done front.insn) → IsFirstAt Holds (places text (done ++ more)) front.at
-first_here Holds text rest done more front turned none holds =
-    let found = among text rest done more front turned in
+pub first_here : (Holds : Placement → Type 0) (text rest : List ℕ) (done more : List Insn) (text_insn : TextInsn)
+    → Turn text rest done more text_insn → NoneOf Holds (places text done)
+    → Holds (here text done text_insn.insn) → IsFirstAt Holds (places text (done ++ more)) text_insn.at
+first_here Holds text rest done more text_insn turned none holds =
+    let found = among text rest done more text_insn turned in
     record {
       before = places text done;
-      first = here text done front.insn;
+      first = here text done text_insn.insn;
       behind = found.0;
       parts = found.1;
       none = none;
@@ -47,19 +47,19 @@ first_here Holds text rest done more front turned none holds =
     }
 
 -- what holds of none does not hold of it
-pub not_here : (Holds : Place → Type 0) (text rest : List ℕ) (done more : List Insn) (front : Front)
-    → Turn text rest done more front → NoneOf Holds (places text (done ++ more))
-    → ¬ Holds (here text done front.insn)
-not_here Holds text rest done more front turned none =
-    let found = among text rest done more front turned in
-    none_among Holds (places text done) (here text done front.insn) found.0
-    (subst (λ (list : List Place). NoneOf Holds list) found.1 none)
+pub not_here : (Holds : Placement → Type 0) (text rest : List ℕ) (done more : List Insn) (text_insn : TextInsn)
+    → Turn text rest done more text_insn → NoneOf Holds (places text (done ++ more))
+    → ¬ Holds (here text done text_insn.insn)
+not_here Holds text rest done more text_insn turned none =
+    let found = among text rest done more text_insn turned in
+    none_among Holds (places text done) (here text done text_insn.insn) found.0
+    (subst (λ (list : List Placement). NoneOf Holds list) found.1 none)
 
 -- and one more is read of which it does not hold
-pub none_read : (Holds : Place → Type 0) (text : List ℕ) (done : List Insn) (insn : Insn) → NoneOf Holds (places text done)
+pub none_read : (Holds : Placement → Type 0) (text : List ℕ) (done : List Insn) (insn : Insn) → NoneOf Holds (places text done)
     → ¬ Holds (here text done insn) → NoneOf Holds (places text (done ++ insn ∷ []))
 none_read Holds text done insn none not_it =
-    subst (λ (list : List Place). NoneOf Holds list) (sym (here_last text done insn))
+    subst (λ (list : List Placement). NoneOf Holds list) (sym (here_last text done insn))
     (none_more Holds (places text done) (here text done insn) none not_it)
 
 -- ---- jumps
@@ -81,33 +81,33 @@ no_target_checked text starts (insns, valid, whole, starts_are) = record {
   none = tt;
 }
 
-pub bad_target_here : (text rest starts : List ℕ) (front : Front) → TargetsChecked text rest starts → IsFront text rest front
-    → IsBadTarget starts (direct_target front.insn front.at)
-    → IsFirstOf (λ of_text. HasBadTarget (starts_of of_text)) text front.at
-bad_target_here text rest starts front checked is bad =
-    let turned = turn text rest checked.done checked.more front checked.reads is in
-    let bad_here : HasBadTarget starts (here text checked.done front.insn) =
-    subst (λ (at : ℕ). IsBadTarget starts (direct_target front.insn at)) turned.here bad in
-    let first = first_here (HasBadTarget starts) text rest checked.done checked.more front turned checked.none bad_here in (
+pub bad_target_here : (text rest starts : List ℕ) (text_insn : TextInsn) → TargetsChecked text rest starts → IsFirstInsn text rest text_insn
+    → IsBadTarget starts (direct_target text_insn.insn text_insn.at)
+    → IsFirstOf (λ of_text. HasBadTarget (starts_of of_text)) text text_insn.at
+bad_target_here text rest starts text_insn checked is bad =
+    let turned = turn text rest checked.done checked.more text_insn checked.reads is in
+    let bad_here : HasBadTarget starts (here text checked.done text_insn.insn) =
+    subst (λ (at : ℕ). IsBadTarget starts (direct_target text_insn.insn at)) turned.here bad in
+    let first = first_here (HasBadTarget starts) text rest checked.done checked.more text_insn turned checked.none bad_here in (
       places text (checked.done ++ checked.more),
       placed text rest checked.done checked.more checked.reads,
-      subst (λ (list : List ℕ). IsFirstAt (HasBadTarget list) (places text (checked.done ++ checked.more)) front.at)
+      subst (λ (list : List ℕ). IsFirstAt (HasBadTarget list) (places text (checked.done ++ checked.more)) text_insn.at)
           checked.starts_are first,
     )
 
-pub good_target_here : (text rest starts : List ℕ) (front : Front) → TargetsChecked text rest starts → IsFront text rest front
-    → ¬ IsBadTarget starts (direct_target front.insn front.at)
-    → TargetsChecked text front.rest.now starts
-good_target_here text rest starts front checked is good =
-    let turned = turn text rest checked.done checked.more front checked.reads is in
-    let good_here : ¬ HasBadTarget starts (here text checked.done front.insn) =
-    subst (λ (at : ℕ). ¬ IsBadTarget starts (direct_target front.insn at)) turned.here good in
+pub good_target_here : (text rest starts : List ℕ) (text_insn : TextInsn) → TargetsChecked text rest starts → IsFirstInsn text rest text_insn
+    → ¬ IsBadTarget starts (direct_target text_insn.insn text_insn.at)
+    → TargetsChecked text text_insn.rest.now starts
+good_target_here text rest starts text_insn checked is good =
+    let turned = turn text rest checked.done checked.more text_insn checked.reads is in
+    let good_here : ¬ HasBadTarget starts (here text checked.done text_insn.insn) =
+    subst (λ (at : ℕ). ¬ IsBadTarget starts (direct_target text_insn.insn at)) turned.here good in
     record {
-      done = checked.done ++ front.insn ∷ [];
+      done = checked.done ++ text_insn.insn ∷ [];
       more = turned.others;
       reads = turned.reads;
       starts_are = checked.starts_are ∙ ap (λ (list : List Insn). starts_of (places text list)) (sym turned.all);
-      none = none_read (HasBadTarget starts) text checked.done front.insn checked.none good_here;
+      none = none_read (HasBadTarget starts) text checked.done text_insn.insn checked.none good_here;
     }
 
 pub targets_checked : (text rest starts : List ℕ) → TargetsChecked text rest starts → length rest ≡ 0 → JumpsLeadWell text
@@ -140,19 +140,19 @@ pub record JumpsKnown (text : List ℕ) (insns : List Insn) : Type 0 where
   pub whole : text ≡ spelled_bytes insns
   pub well : LeadsWell (places text insns)
 
-pub form_asks : NotInJumps → (text rest : List ℕ) (done more : List Insn) (front : Front) → Reads text rest done more
-    → JumpsKnown text (done ++ more) → IsFront text rest front → 0 < length rest
-    → IsDirect front.insn → HasNoPattern (spelling front.insn)
-form_asks law text rest done more front reads known is some =
-    let turned = turn text rest done more front reads is in
+pub form_asks : NotInJumps → (text rest : List ℕ) (done more : List Insn) (text_insn : TextInsn) → Reads text rest done more
+    → JumpsKnown text (done ++ more) → IsFirstInsn text rest text_insn → 0 < length rest
+    → IsDirect text_insn.insn → HasNoPattern (spelling text_insn.insn)
+form_asks law text rest done more text_insn reads known is some =
+    let turned = turn text rest done more text_insn reads is in
     let starts : List ℕ = starts_of (places text (done ++ more)) in
-    let good : ¬ HasBadTarget starts (here text done front.insn) =
-    not_here (HasBadTarget starts) text rest done more front turned known.well in
-    let good_here : ¬ IsBadTarget starts (direct_target front.insn front.at) =
-    subst (λ (at : ℕ). ¬ IsBadTarget starts (direct_target front.insn at)) (sym turned.here) good in
-    let low : 0x400000 ≤ front.at = omega (arith, is.here) in
-    let high : front.at < 0x600000 = omega (arith, is.here, known.size) in
-    jump_free law front.insn front.at starts is.valid low high (in_text text (done ++ more) known.size known.whole) good_here
+    let good : ¬ HasBadTarget starts (here text done text_insn.insn) =
+    not_here (HasBadTarget starts) text rest done more text_insn turned known.well in
+    let good_here : ¬ IsBadTarget starts (direct_target text_insn.insn text_insn.at) =
+    subst (λ (at : ℕ). ¬ IsBadTarget starts (direct_target text_insn.insn at)) (sym turned.here) good in
+    let low : 0x400000 ≤ text_insn.at = omega (arith, is.here) in
+    let high : text_insn.at < 0x600000 = omega (arith, is.here, known.size) in
+    jump_free law text_insn.insn text_insn.at starts is.valid low high (in_text text (done ++ more) known.size known.whole) good_here
 
 -- ---- what can be moved
 
@@ -168,7 +168,7 @@ pub jumps_known : (text : List ℕ) → length text ≤ 2097152 → JumpsLeadWel
 jumps_known text size (of_text, are, well) = (
   are.insns,
   nothing_read text are.insns are.valid are.whole,
-  record { size = size; whole = are.whole; well = subst (λ (list : List Place). LeadsWell list) are.places_are well },
+  record { size = size; whole = are.whole; well = subst (λ (list : List Placement). LeadsWell list) are.places_are well },
 )
 
 pub nothing_checked : (text : List ℕ) → length text ≤ 2097152 → JumpsLeadWell text → MovableChecked text text
@@ -178,50 +178,50 @@ nothing_checked text size well =
     record { done = []; more = known.0; reads = known.1; known = known.2; none = tt }
 
 -- a form with another slot says whether it can be moved
-pub unmovable_here : (text rest : List ℕ) (done more : List Insn) (front : Front) (slot : ℕ) → Turn text rest done more front
-    → form_of front.insn front.at slot (is_after_0f text front.at) ≡ form.Unmovable → IsUnmovable (here text done front.insn)
-unmovable_here text rest done more front slot turned is =
-    subst (λ (at : ℕ). form_of front.insn at (area_address + slots_size (places text done)) (is_after_0f text at)
+pub unmovable_here : (text rest : List ℕ) (done more : List Insn) (text_insn : TextInsn) (slot : ℕ) → Turn text rest done more text_insn
+    → form_of text_insn.insn text_insn.at slot (is_after_0f text text_insn.at) ≡ form.Unmovable → IsUnmovable (here text done text_insn.insn)
+unmovable_here text rest done more text_insn slot turned is =
+    subst (λ (at : ℕ). form_of text_insn.insn at (area_address + slots_size (places text done)) (is_after_0f text at)
     ≡ form.Unmovable) turned.here
-    (unmovable_anywhere front.insn front.at slot (area_address + slots_size (places text done)) (is_after_0f text front.at) is)
+    (unmovable_anywhere text_insn.insn text_insn.at slot (area_address + slots_size (places text done)) (is_after_0f text text_insn.at) is)
 
-pub movable_here : (text rest : List ℕ) (done more : List Insn) (front : Front) (slot : ℕ) → Turn text rest done more front
-    → ¬ (form_of front.insn front.at slot (is_after_0f text front.at) ≡ form.Unmovable)
-    → ¬ IsUnmovable (here text done front.insn)
-movable_here text rest done more front slot turned can is =
-    let back : form_of front.insn front.at (area_address + slots_size (places text done)) (is_after_0f text front.at)
+pub movable_here : (text rest : List ℕ) (done more : List Insn) (text_insn : TextInsn) (slot : ℕ) → Turn text rest done more text_insn
+    → ¬ (form_of text_insn.insn text_insn.at slot (is_after_0f text text_insn.at) ≡ form.Unmovable)
+    → ¬ IsUnmovable (here text done text_insn.insn)
+movable_here text rest done more text_insn slot turned can is =
+    let back : form_of text_insn.insn text_insn.at (area_address + slots_size (places text done)) (is_after_0f text text_insn.at)
     ≡ form.Unmovable =
-    subst (λ (at : ℕ). form_of front.insn at (area_address + slots_size (places text done)) (is_after_0f text at)
+    subst (λ (at : ℕ). form_of text_insn.insn at (area_address + slots_size (places text done)) (is_after_0f text at)
     ≡ form.Unmovable) (sym turned.here) is in
-    can (unmovable_anywhere front.insn front.at (area_address + slots_size (places text done)) slot
-    (is_after_0f text front.at) back)
+    can (unmovable_anywhere text_insn.insn text_insn.at (area_address + slots_size (places text done)) slot
+    (is_after_0f text text_insn.at) back)
 
-pub first_unmovable : (text rest : List ℕ) (front : Front) (slot : ℕ) → MovableChecked text rest → IsFront text rest front
-    → form_of front.insn front.at slot (is_after_0f text front.at) ≡ form.Unmovable
-    → IsFirstOf (λ of_text. IsUnmovable) text front.at
-first_unmovable text rest front slot checked is cannot =
-    let turned = turn text rest checked.done checked.more front checked.reads is in (
+pub first_unmovable : (text rest : List ℕ) (text_insn : TextInsn) (slot : ℕ) → MovableChecked text rest → IsFirstInsn text rest text_insn
+    → form_of text_insn.insn text_insn.at slot (is_after_0f text text_insn.at) ≡ form.Unmovable
+    → IsFirstOf (λ of_text. IsUnmovable) text text_insn.at
+first_unmovable text rest text_insn slot checked is cannot =
+    let turned = turn text rest checked.done checked.more text_insn checked.reads is in (
       places text (checked.done ++ checked.more),
       placed text rest checked.done checked.more checked.reads,
-      first_here IsUnmovable text rest checked.done checked.more front turned checked.none
-          (unmovable_here text rest checked.done checked.more front slot turned cannot),
+      first_here IsUnmovable text rest checked.done checked.more text_insn turned checked.none
+          (unmovable_here text rest checked.done checked.more text_insn slot turned cannot),
     )
 
-pub one_movable : (text rest : List ℕ) (front : Front) (slot : ℕ) → MovableChecked text rest → IsFront text rest front
-    → ¬ (form_of front.insn front.at slot (is_after_0f text front.at) ≡ form.Unmovable) → MovableChecked text front.rest.now
-one_movable text rest front slot checked is can =
-    let turned = turn text rest checked.done checked.more front checked.reads is in
+pub one_movable : (text rest : List ℕ) (text_insn : TextInsn) (slot : ℕ) → MovableChecked text rest → IsFirstInsn text rest text_insn
+    → ¬ (form_of text_insn.insn text_insn.at slot (is_after_0f text text_insn.at) ≡ form.Unmovable) → MovableChecked text text_insn.rest.now
+one_movable text rest text_insn slot checked is can =
+    let turned = turn text rest checked.done checked.more text_insn checked.reads is in
     record {
-      done = checked.done ++ front.insn ∷ [];
+      done = checked.done ++ text_insn.insn ∷ [];
       more = turned.others;
       reads = turned.reads;
       known = subst (λ (list : List Insn). JumpsKnown text list) (sym turned.all) checked.known;
-      none = none_read IsUnmovable text checked.done front.insn checked.none
-          (movable_here text rest checked.done checked.more front slot turned can);
+      none = none_read IsUnmovable text checked.done text_insn.insn checked.none
+          (movable_here text rest checked.done checked.more text_insn slot turned can);
     }
 
 pub all_movable : (text rest : List ℕ) → MovableChecked text rest → length rest ≡ 0
-    → (of_text : List Place) × ArePlaces text of_text × NoneOf IsUnmovable of_text
+    → (of_text : List Placement) × ArePlaces text of_text × NoneOf IsUnmovable of_text
 all_movable text rest checked none =
     let all : checked.done ≡ checked.done ++ checked.more =
     sym (append-nil checked.done)

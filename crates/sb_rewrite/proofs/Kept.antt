@@ -11,7 +11,7 @@ use Rattle.sb_insn.specs.declared.insn.Insn.{Insn}
 use Rattle.sb_insn.specs.declared.insn.Op.{Op}
 use Rattle.sb_insn.specs.declared.insn.Op.TheVariants.{One, Two, Endbr, Vmfunc}
 use Rattle.sb_insn.specs.Fields.{is_none}
-use Rattle.sb_insn.specs.Spelling.{lock_bytes, op_bytes, front_bytes, spelling}
+use Rattle.sb_insn.specs.Spelling.{lock_bytes, op_bytes, lead_bytes, spelling}
 use Rattle.sb_scan.specs.Pattern.{HasNoPattern}
 use Rattle.sb_forms.specs.declared.answer.Form.TheVariants as form
 use Rattle.sb_forms.specs.Table.{is_vmfunc, is_one_byte, is_modrm, completes_pattern, replacement, form_of}
@@ -34,7 +34,7 @@ module _ (insn : Insn) (none : ¬ Contains (spelling insn) 0xD4) where
 
   no_vmfunc : is_vmfunc insn.op ≡ false
   no_vmfunc = by_op insn.op (λ held.
-      none (Contains-append_left (front_bytes insn.lock insn.rex insn.op) _ 0xD4
+      none (Contains-append_left (lead_bytes insn.lock insn.rex insn.op) _ 0xD4
       (Contains-append_right (lock_bytes insn.lock) _ 0xD4
       (Contains-append_right (option_to_list insn.rex) (op_bytes insn.op) 0xD4 held))))
 
@@ -45,7 +45,7 @@ module _ (insn : Insn) (none : ¬ Contains (spelling insn) 0xD4) where
 
   no_modrm : is_modrm 0xD4 insn.modrm ≡ false
   no_modrm = by_modrm insn.modrm (λ held.
-      none (Contains-append_right (front_bytes insn.lock insn.rex insn.op) _ 0xD4
+      none (Contains-append_right (lead_bytes insn.lock insn.rex insn.op) _ 0xD4
       (Contains-append_left (option_to_list insn.modrm) _ 0xD4 held)))
 
   completes_nothing : (after_0f : Bool) → completes_pattern insn after_0f ≡ false

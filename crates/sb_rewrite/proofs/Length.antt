@@ -12,7 +12,7 @@ use Rattle.sb_forms.specs.Table.{form_of}
 use Rattle.sb_forms.proofs.Room.{form_roomy}
 use Rattle.sb_forms.proofs.Small.{jump_5}
 use Rattle.sb_rewrite.specs.Listing.{text_address, spelled_bytes, AllValid}
-use Rattle.sb_rewrite.specs.Placing.{Place, slot_bytes, is_after_0f, place, places_from, area_address}
+use Rattle.sb_rewrite.specs.Placing.{Placement, slot_bytes, is_after_0f, place, places_from, area_address}
 use Rattle.sb_rewrite.specs.Output.{Output, text_bytes, text_bytes_by}
 use Rattle.sb_rewrite.specs.Rewriting.{KeepsLength}
 use Rattle.sb_rewrite.specs.Turns.{IsAllPut}
@@ -39,9 +39,9 @@ unfolding places_from
 text_size text at slot [] valid = refl
 text_size text at slot (insn ∷ insns) valid =
     let made : Form = form_of insn at slot (is_after_0f text at) in
-    let first : Place = place text at slot insn in
+    let first : Placement = place text at slot insn in
     let next : ℕ = slot + length (slot_bytes made) in
-    let later : List Place = places_from text (at + length (spelling insn)) next insns in
+    let later : List Placement = places_from text (at + length (spelling insn)) next insns in
     let room : HasRoom insn made = form_roomy insn at slot (is_after_0f text at) made valid.0 refl in
     let one : length (text_bytes first) ≡ length (spelling insn) = bytes_size made insn at slot room in
     let others = text_size text (at + length (spelling insn)) next insns valid.1 in
@@ -57,7 +57,7 @@ text_size text at slot (insn ∷ insns) valid =
 pub made_length : (text : List ℕ) (draft : Output) → IsAllPut text draft → length draft.text ≡ length text
 made_length text draft (of_text, are, fits, is) =
     ap (λ (one : Output). length one.text) is
-    ∙ ap (λ (list : List Place). length (flat_map text_bytes list)) are.places_are
+    ∙ ap (λ (list : List Placement). length (flat_map text_bytes list)) are.places_are
     ∙ text_size text text_address area_address are.insns are.valid
     ∙ sym (ap length are.whole)
 

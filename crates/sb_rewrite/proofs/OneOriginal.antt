@@ -8,7 +8,7 @@ use Rattle.sb_forms.specs.declared.answer.Form.{Form}
 use Rattle.sb_forms.specs.declared.answer.Form.TheVariants as form
 use Rattle.sb_rewrite.specs.declared.edit.Move.{Move}
 use Rattle.sb_rewrite.specs.Listing.{text_address}
-use Rattle.sb_rewrite.specs.Placing.{Place, slot_bytes, area_address, area_end}
+use Rattle.sb_rewrite.specs.Placing.{Placement, slot_bytes, area_address, area_end}
 use Rattle.sb_rewrite.specs.Output.{Output, output, starts_of, moves_of, moves_by, IsOrdered, IsMain, RunsAt}
 use Rattle.sb_rewrite.specs.Rewriting.{EndsBehindArea, NoneOf, ArePlaces, OneOriginal}
 use Rattle.sb_list.proofs.Search.{in_order}
@@ -22,7 +22,7 @@ use Rattle.sb_rewrite.proofs.Originals.{main_of, move_at, nowhere, place_of}
 IsInArea : Move → Type 0
 IsInArea one = one.main ≤ area_end
 
-one_in_area : (made : Form) (place : Place) → ¬ (area_end < place.slot + length (slot_bytes made))
+one_in_area : (made : Form) (place : Placement) → ¬ (area_end < place.slot + length (slot_bytes made))
     → AllByRecursion IsInArea (moves_by made place)
 unfolding IsInArea
 one_in_area form.Keep place fits = tt
@@ -35,7 +35,7 @@ both_in_area : (some others : List Move) → AllByRecursion IsInArea some → Al
 both_in_area [] others a b = b
 both_in_area (first ∷ some) others a b = (a.0, both_in_area some others a.1 b)
 
-all_in_area : (of_text : List Place) → NoneOf EndsBehindArea of_text → AllByRecursion IsInArea (flat_map moves_of of_text)
+all_in_area : (of_text : List Placement) → NoneOf EndsBehindArea of_text → AllByRecursion IsInArea (flat_map moves_of of_text)
 all_in_area [] fits = tt
 all_in_area (place ∷ of_text) fits =
     both_in_area (moves_of place) (flat_map moves_of of_text) (one_in_area place.form place fits.0) (all_in_area of_text fits.1)
@@ -79,11 +79,11 @@ one_main made at first second order one other =
     ∙ ap (λ (move : Move). move.start) there
 
 -- the area stands before the text
-apart : (text : List ℕ) (of_text : List Place) (at start : ℕ) → ArePlaces text of_text → NoneOf EndsBehindArea of_text
+apart : (text : List ℕ) (of_text : List Placement) (at start : ℕ) → ArePlaces text of_text → NoneOf EndsBehindArea of_text
     → Contains (starts_of of_text) at → IsMain (output of_text) at start → ⊥
 apart text of_text at start are fits held main =
     let listed =
-    subst (λ (list : List ℕ). Contains list at) (ap (λ (list : List Place). starts_of list) are.places_are
+    subst (λ (list : List ℕ). Contains list at) (ap (λ (list : List Placement). starts_of list) are.places_are
     ∙ starts_placed text text_address area_address are.insns) held in
     let low : text_address ≤ at = (starts_within text_address are.insns at listed).0 in
     let here : move_at (output of_text).moves main.0 ≡ record { start = start; main = at } =
@@ -92,7 +92,7 @@ apart text of_text at start are fits held main =
     in_area_at (output of_text).moves main.0 (all_in_area of_text fits) main.1 in
     omega (arith, ap main_of here)
 
-one_of_places : (text : List ℕ) (of_text : List Place) (at first second : ℕ) → ArePlaces text of_text
+one_of_places : (text : List ℕ) (of_text : List Placement) (at first second : ℕ) → ArePlaces text of_text
     → NoneOf EndsBehindArea of_text → RunsAt (output of_text) at first → RunsAt (output of_text) at second → first ≡ second
 one_of_places text of_text at first second are fits (inl (is, here)) (inl (is', here')) = is ∙ sym is'
 one_of_places text of_text at first second are fits (inl (is, here)) (inr main) =

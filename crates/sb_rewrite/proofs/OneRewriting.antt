@@ -6,13 +6,13 @@ use Rattle.sb_scan.specs.Pattern.{HasFirstPatternAt}
 use Rattle.sb_rewrite.specs.declared.refusal.RewriteRefusal.{RewriteRefusal}
 use Rattle.sb_rewrite.specs.declared.refusal.RewriteRefusal.TheVariants.{Undecoded, BadTarget, Unmovable, AreaFull, Left, Memory}
 use Rattle.sb_rewrite.specs.Listing.{text_address, spelled_bytes, starts_from, IsUndecodedAt}
-use Rattle.sb_rewrite.specs.Placing.{Place, places, area_address}
+use Rattle.sb_rewrite.specs.Placing.{Placement, places, area_address}
 use Rattle.sb_rewrite.specs.Output.{Output, output, starts_of}
 use Rattle.sb_rewrite.specs.Rewriting.{HasBadTarget, IsUnmovable, EndsBehindArea, NoneOf, IsFirstAt, ArePlaces, IsFree, IsLeftAt, Rewrites, OneRewriting}
 use Rattle.sb_rewrite.proofs.OneListing.{same_insns, nothing_begins, one_place, listed_apart}
 use Rattle.sb_rewrite.proofs.FirstAt.{not_first, one_first}
 
-pub one_places : (text : List ℕ) (first second : List Place) → ArePlaces text first → ArePlaces text second → first ≡ second
+pub one_places : (text : List ℕ) (first second : List Placement) → ArePlaces text first → ArePlaces text second → first ≡ second
 one_places text first second one other =
     let fronts : spelled_bytes one.insns ++ [] ≡ spelled_bytes other.insns ++ [] =
     append-nil (spelled_bytes one.insns) ∙ sym one.whole ∙ other.whole ∙ sym (append-nil (spelled_bytes other.insns)) in
@@ -27,12 +27,12 @@ abbrev IsOne : (Result Output RewriteRefusal → Type 0) → Type 0
 IsOne Answers = (first second : Result Output RewriteRefusal) → Answers first → Answers second → first ≡ second
 
 -- a refusal at the first place of which something holds, and where there is none another answer
-abbrev Unless : (Place → Type 0) → List Place → (ℕ → RewriteRefusal) → (Result Output RewriteRefusal → Type 0)
+abbrev Unless : (Placement → Type 0) → List Placement → (ℕ → RewriteRefusal) → (Result Output RewriteRefusal → Type 0)
     → Result Output RewriteRefusal → Type 0
 Unless Holds of_text refusal Next answer =
     ((at : ℕ) × IsFirstAt Holds of_text at × (answer ≡ Err (refusal at))) ⊎ (NoneOf Holds of_text × Next answer)
 
-one_unless : (Holds : Place → Type 0) (of_text : List Place) (refusal : ℕ → RewriteRefusal) (Next : Result Output RewriteRefusal
+one_unless : (Holds : Placement → Type 0) (of_text : List Placement) (refusal : ℕ → RewriteRefusal) (Next : Result Output RewriteRefusal
     → Type 0)
     → IsOne Next → IsOne (Unless Holds of_text refusal Next)
 one_unless Holds of_text refusal Next one_next first second (inl (at, here, is)) (inl (at', here', is')) =
@@ -46,7 +46,7 @@ one_unless Holds of_text refusal Next one_next first second (inr (none, next)) (
 
 -- ---- what is left at last
 
-Last : List Place → Result Output RewriteRefusal → Type 0
+Last : List Placement → Result Output RewriteRefusal → Type 0
 Last of_text answer =
     ((at : ℕ) × IsLeftAt (output of_text) at × (answer ≡ Err (Left at)))
     ⊎ (IsFree (output of_text) × (answer ≡ Ok (output of_text)))
@@ -70,7 +70,7 @@ not_left : (made : Output) (at : ℕ) → IsFree made → IsLeftAt made at → �
 not_left made at free (inl (place, stands, is)) = free.0 place stands.0
 not_left made at free (inr (none, (place, stands, is))) = free.1 place stands.0
 
-one_last : (of_text : List Place) → IsOne (Last of_text)
+one_last : (of_text : List Placement) → IsOne (Last of_text)
 unfolding Last
 one_last of_text first second (inl (at, left, is)) (inl (at', left', is')) =
     is ∙ ap (λ (place : ℕ). Err (Left place)) (one_left (output of_text) at at' left left') ∙ sym is'
@@ -81,12 +81,12 @@ one_last of_text first second (inr (free, made)) (inr (free', made')) = made ∙
 -- ---- the whole
 
 -- jumps first, then what can be moved, then room, then the pattern
-Answer : List Place → Result Output RewriteRefusal → Type 0
+Answer : List Placement → Result Output RewriteRefusal → Type 0
 Answer of_text =
     Unless (HasBadTarget (starts_of of_text)) of_text (λ at. BadTarget at)
     (Unless IsUnmovable of_text (λ at. Unmovable at) (Unless EndsBehindArea of_text (λ at. AreaFull at) (Last of_text)))
 
-one_of_places : (of_text : List Place) → IsOne (Answer of_text)
+one_of_places : (of_text : List Placement) → IsOne (Answer of_text)
 unfolding Answer
 one_of_places of_text =
     one_unless (HasBadTarget (starts_of of_text)) of_text (λ at. BadTarget at) _
@@ -97,7 +97,7 @@ one_of_places of_text =
 Told : List ℕ → Result Output RewriteRefusal → Type 0
 Told text answer =
     ((at : ℕ) × IsUndecodedAt text at × (answer ≡ Err (Undecoded at)))
-    ⊎ ((of_text : List Place) × ArePlaces text of_text × Answer of_text answer)
+    ⊎ ((of_text : List Placement) × ArePlaces text of_text × Answer of_text answer)
 
 told : (text : List ℕ) (answer : Result Output RewriteRefusal) → answer ≢ Err Memory → Rewrites text answer → Told text answer
 unfolding Told Answer Last
@@ -120,7 +120,7 @@ told text (Err (Left at)) not_memory (of_text, are, fits, left) =
 told text (Err Memory) not_memory any = absurd (not_memory refl)
 
 -- a text that has places has a listing
-no_place_undecoded : (text : List ℕ) (of_text : List Place) (at : ℕ) → ArePlaces text of_text → IsUndecodedAt text at → ⊥
+no_place_undecoded : (text : List ℕ) (of_text : List Placement) (at : ℕ) → ArePlaces text of_text → IsUndecodedAt text at → ⊥
 no_place_undecoded text of_text at are undecoded =
     listed_apart text (starts_from text_address are.insns) at (are.insns, are.valid, are.whole, refl) undecoded
 
@@ -134,7 +134,7 @@ one_told text first second (inr (of_text, are, answer)) (inl (at, undecoded, is)
     absurd (no_place_undecoded text of_text at are undecoded)
 one_told text first second (inr (of_text, are, answer)) (inr (of_text', are', answer')) =
     one_of_places of_text first second answer
-    (subst (λ (list : List Place). Answer list second) (sym (one_places text of_text of_text' are are')) answer')
+    (subst (λ (list : List Placement). Answer list second) (sym (one_places text of_text of_text' are are')) answer')
 
 pub one_rewritten : OneRewriting
 one_rewritten text first second one other a b = one_told text first second (told text first one a) (told text second other b)

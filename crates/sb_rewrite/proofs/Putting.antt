@@ -9,14 +9,14 @@ use Rattle.sb_insn.specs.declared.insn.Insn.{Insn}
 use Rattle.sb_forms.specs.Places.{HasForm, NotInJumps}
 use Rattle.sb_rewrite.specs.declared.edit.Edit.{Edit}
 use Rattle.sb_rewrite.specs.declared.edit.Move.{Move}
-use Rattle.sb_rewrite.specs.declared.front.Front.{Front}
+use Rattle.sb_rewrite.specs.declared.text_insn.TextInsn.{TextInsn}
 use Rattle.sb_rewrite.specs.declared.target.Jump.{Jump}
 use Rattle.sb_rewrite.specs.Listing.{text_address, spelled_bytes, starts_from}
 use Rattle.sb_rewrite.specs.Target.{direct_target}
-use Rattle.sb_rewrite.specs.Placing.{Place, place, places_from, places, area_address}
+use Rattle.sb_rewrite.specs.Placing.{Placement, place, places_from, places, area_address}
 use Rattle.sb_rewrite.specs.Output.{Output, starts_of, text_bytes, area_bytes, edits_of, moves_of}
 use Rattle.sb_rewrite.specs.Rewriting.{HasBadTarget, IsUnmovable, EndsBehindArea, NoneOf, IsFirstAt, ArePlaces}
-use Rattle.sb_rewrite.specs.Turns.{IsFront, IsFar, jumps_to, started, with_start, with_place, Puts, IsAllPut}
+use Rattle.sb_rewrite.specs.Turns.{IsFirstInsn, IsFar, jumps_to, started, with_start, with_place, Puts, IsAllPut}
 use Rattle.sb_rewrite.proofs.OneListing.{rising_starts}
 use Rattle.sb_rewrite.proofs.Listed.{Partway, place_of, more_of, all_spelled, all_listed}
 use Rattle.sb_rewrite.proofs.Placed.{starts_placed, slots_size, here, here_last}
@@ -26,7 +26,7 @@ use Rattle.sb_rewrite.proofs.Checked.{first_here, not_here, none_read}
 use Rattle.sb_rewrite.proofs.Remembered.{jumps_of, HasFarTarget, all_lead}
 
 -- the draft has what stands in place of these instructions
-pub record IsMade (draft : Output) (of_text : List Place) : Type 0 where
+pub record IsMade (draft : Output) (of_text : List Placement) : Type 0 where
   pub text : draft.text ≡ flat_map text_bytes of_text
   pub area : draft.area ≡ flat_map area_bytes of_text
   pub edits : draft.edits ≡ flat_map edits_of of_text
@@ -55,49 +55,49 @@ nothing_put text jumps none = record {
 -- ---- one more instruction
 
 -- an instruction that does not lead far away has a form
-pub form_asks_here : NotInJumps → (text rest : List ℕ) (front : Front) → length text ≤ 2097152 → IsFront text rest front
+pub form_asks_here : NotInJumps → (text rest : List ℕ) (text_insn : TextInsn) → length text ≤ 2097152 → IsFirstInsn text rest text_insn
     → 0 < length rest
-    → ¬ IsFar (direct_target front.insn front.at) → HasForm front.insn
-form_asks_here law text rest front size is some near =
-    let low : 0x400000 ≤ front.at = omega (arith, is.here) in
-    let high : front.at < 0x600000 = omega (arith, is.here) in
-    near_free law front.insn front.at is.valid low high near
+    → ¬ IsFar (direct_target text_insn.insn text_insn.at) → HasForm text_insn.insn
+form_asks_here law text rest text_insn size is some near =
+    let low : 0x400000 ≤ text_insn.at = omega (arith, is.here) in
+    let high : text_insn.at < 0x600000 = omega (arith, is.here) in
+    near_free law text_insn.insn text_insn.at is.valid low high near
 
-module _ (text rest starts : List ℕ) (partway : Partway text rest starts) (front : Front) (is : IsFront text rest front) where
-  pub stands_here : front.at ≡ text_address + length (spelled_bytes partway.insns)
+module _ (text rest starts : List ℕ) (partway : Partway text rest starts) (text_insn : TextInsn) (is : IsFirstInsn text rest text_insn) where
+  pub stands_here : text_insn.at ≡ text_address + length (spelled_bytes partway.insns)
   stands_here = is.here ∙ ap (λ (size : ℕ). text_address + size) (place_of text rest partway.insns partway.whole)
 
   -- what holds of it, and of none before it, holds of it first
-  pub first_so_far : (Holds : Place → Type 0) → NoneOf Holds (places text partway.insns)
-      → Holds (here text partway.insns front.insn)
-      → (of_text : List Place) → ArePlaces text of_text → IsFirstAt Holds of_text front.at
+  pub first_so_far : (Holds : Placement → Type 0) → NoneOf Holds (places text partway.insns)
+      → Holds (here text partway.insns text_insn.insn)
+      → (of_text : List Placement) → ArePlaces text of_text → IsFirstAt Holds of_text text_insn.at
   first_so_far Holds none holds of_text are =
       let read = read_so_far text rest partway.insns of_text partway.valid partway.whole are in
-      let turned = turn text rest partway.insns read.0 front read.1 is in
-      subst (λ (list : List Place). IsFirstAt Holds list front.at) (sym read.2)
-      (first_here Holds text rest partway.insns read.0 front turned none holds)
+      let turned = turn text rest partway.insns read.0 text_insn read.1 is in
+      subst (λ (list : List Placement). IsFirstAt Holds list text_insn.at) (sym read.2)
+      (first_here Holds text rest partway.insns read.0 text_insn turned none holds)
 
   -- what holds of none of the text's does not hold of it
-  pub not_so_far : (Holds : Place → Type 0) (of_text : List Place) → ArePlaces text of_text → NoneOf Holds of_text
-      → ¬ Holds (here text partway.insns front.insn)
+  pub not_so_far : (Holds : Placement → Type 0) (of_text : List Placement) → ArePlaces text of_text → NoneOf Holds of_text
+      → ¬ Holds (here text partway.insns text_insn.insn)
   not_so_far Holds of_text are none =
       let read = read_so_far text rest partway.insns of_text partway.valid partway.whole are in
-      let turned = turn text rest partway.insns read.0 front read.1 is in
-      not_here Holds text rest partway.insns read.0 front turned (subst (λ (list : List Place). NoneOf Holds list) read.2 none)
+      let turned = turn text rest partway.insns read.0 text_insn read.1 is in
+      not_here Holds text rest partway.insns read.0 text_insn turned (subst (λ (list : List Placement). NoneOf Holds list) read.2 none)
 
 -- what is put is the instruction's place
-pub next_is : (text rest : List ℕ) (draft : Output) (jumps : List Jump) (front : Front) (so_far : PutSoFar text rest draft jumps)
-    → IsFront text rest front
-    → place text front.at (area_address + length draft.area) front.insn ≡ here text so_far.partway.insns front.insn
-next_is text rest draft jumps front so_far is i =
-    let at : front.at ≡ text_address + length (spelled_bytes so_far.partway.insns) =
-    stands_here text rest draft.starts so_far.partway front is in
+pub next_is : (text rest : List ℕ) (draft : Output) (jumps : List Jump) (text_insn : TextInsn) (so_far : PutSoFar text rest draft jumps)
+    → IsFirstInsn text rest text_insn
+    → place text text_insn.at (area_address + length draft.area) text_insn.insn ≡ here text so_far.partway.insns text_insn.insn
+next_is text rest draft jumps text_insn so_far is i =
+    let at : text_insn.at ≡ text_address + length (spelled_bytes so_far.partway.insns) =
+    stands_here text rest draft.starts so_far.partway text_insn is in
     let slot : area_address + length draft.area ≡ area_address + slots_size (places text so_far.partway.insns) =
     ap (λ (area : List ℕ). area_address + length area) so_far.made.area in
-    place text (at i) (slot i) front.insn
+    place text (at i) (slot i) text_insn.insn
 
 -- one more place is put
-made_more : (draft : Output) (at : ℕ) (of_text : List Place) (one : Place) → IsMade draft of_text
+made_more : (draft : Output) (at : ℕ) (of_text : List Placement) (one : Placement) → IsMade draft of_text
     → IsMade (with_place (with_start draft at) one) (of_text ++ one ∷ [])
 made_more draft at of_text one made = record {
   text = ap (λ (bytes : List ℕ). bytes ++ text_bytes one) made.text ∙ flat_map_more text_bytes [] of_text one;
@@ -106,48 +106,48 @@ made_more draft at of_text one made = record {
   moves = ap (λ (moves : List Move). moves ++ moves_of one) made.moves ∙ flat_map_more moves_of [] of_text one;
 }
 
-pub one_put : (text rest : List ℕ) (draft new : Output) (jumps more_jumps : List Jump) (front : Front)
-    → PutSoFar text rest draft jumps → IsFront text rest front
-    → ¬ IsFar (direct_target front.insn front.at) → more_jumps ≡ jumps ++ jumps_to front.at (direct_target front.insn front.at)
-    → Puts (with_start draft front.at) new (place text front.at (area_address + length draft.area) front.insn) (Ok tt)
-    → PutSoFar text front.rest.now new more_jumps
+pub one_put : (text rest : List ℕ) (draft new : Output) (jumps more_jumps : List Jump) (text_insn : TextInsn)
+    → PutSoFar text rest draft jumps → IsFirstInsn text rest text_insn
+    → ¬ IsFar (direct_target text_insn.insn text_insn.at) → more_jumps ≡ jumps ++ jumps_to text_insn.at (direct_target text_insn.insn text_insn.at)
+    → Puts (with_start draft text_insn.at) new (place text text_insn.at (area_address + length draft.area) text_insn.insn) (Ok tt)
+    → PutSoFar text text_insn.rest.now new more_jumps
 unfolding more_of
-one_put text rest draft new jumps more_jumps front so_far is near more_are (movable, fits, new_is) =
+one_put text rest draft new jumps more_jumps text_insn so_far is near more_are (movable, fits, new_is) =
     let done : List Insn = so_far.partway.insns in
-    let one : Place = here text done front.insn in
-    let at : front.at ≡ one.at = stands_here text rest draft.starts so_far.partway front is in
-    let next : place text front.at (area_address + length draft.area) front.insn ≡ one =
-    next_is text rest draft jumps front so_far is in
-    let last : places text (done ++ front.insn ∷ []) ≡ places text done ++ one ∷ [] = here_last text done front.insn in
-    let new_here : new ≡ with_place (with_start draft front.at) one =
-    new_is ∙ ap (λ (put : Place). with_place (with_start draft front.at) put) next in
+    let one : Placement = here text done text_insn.insn in
+    let at : text_insn.at ≡ one.at = stands_here text rest draft.starts so_far.partway text_insn is in
+    let next : place text text_insn.at (area_address + length draft.area) text_insn.insn ≡ one =
+    next_is text rest draft jumps text_insn so_far is in
+    let last : places text (done ++ text_insn.insn ∷ []) ≡ places text done ++ one ∷ [] = here_last text done text_insn.insn in
+    let new_here : new ≡ with_place (with_start draft text_insn.at) one =
+    new_is ∙ ap (λ (put : Placement). with_place (with_start draft text_insn.at) put) next in
     let new_starts : draft.starts ++ (text_address + (length text - length rest)) ∷ [] ≡ new.starts =
     ap (λ (start : ℕ). draft.starts ++ start ∷ []) (sym is.here) ∙ ap (λ (made : Output). made.starts) (sym new_here) in
-    let partway : Partway text front.rest.now (draft.starts ++ (text_address + (length text - length rest)) ∷ []) =
-    more_of text rest front.rest.now draft.starts front.insn so_far.partway (is.valid, tt) is.parts in
+    let partway : Partway text text_insn.rest.now (draft.starts ++ (text_address + (length text - length rest)) ∷ []) =
+    more_of text rest text_insn.rest.now draft.starts text_insn.insn so_far.partway (is.valid, tt) is.parts in
     record {
       partway =
           record {
-            insns = done ++ front.insn ∷ [];
+            insns = done ++ text_insn.insn ∷ [];
             valid = partway.valid;
             whole = partway.whole;
             starts_are = sym new_starts
                 ∙ partway.starts_are;
           };
       made =
-          subst (λ (made : Output). IsMade made (places text (done ++ front.insn ∷ []))) (sym new_here)
-          (subst (λ (of_text : List Place). IsMade (with_place (with_start draft front.at) one) of_text) (sym last)
-          (made_more draft front.at (places text done) one so_far.made));
+          subst (λ (made : Output). IsMade made (places text (done ++ text_insn.insn ∷ []))) (sym new_here)
+          (subst (λ (of_text : List Placement). IsMade (with_place (with_start draft text_insn.at) one) of_text) (sym last)
+          (made_more draft text_insn.at (places text done) one so_far.made));
       jumps_are =
           more_are
-          ∙ (λ i. so_far.jumps_are i ++ jumps_to (at i) (direct_target front.insn (at i)))
+          ∙ (λ i. so_far.jumps_are i ++ jumps_to (at i) (direct_target text_insn.insn (at i)))
           ∙ flat_map_more jumps_of [] (places text done) one
-          ∙ ap (λ (of_text : List Place). flat_map jumps_of of_text) (sym last);
-      near = none_read HasFarTarget text done front.insn so_far.near
-          (subst (λ (place : ℕ). ¬ IsFar (direct_target front.insn place)) at near);
+          ∙ ap (λ (of_text : List Placement). flat_map jumps_of of_text) (sym last);
+      near = none_read HasFarTarget text done text_insn.insn so_far.near
+          (subst (λ (place : ℕ). ¬ IsFar (direct_target text_insn.insn place)) at near);
       movable =
-          none_read IsUnmovable text done front.insn so_far.movable (subst (λ (put : Place). ¬ IsUnmovable put) next movable);
-      fits = none_read EndsBehindArea text done front.insn so_far.fits (subst (λ (put : Place). ¬ EndsBehindArea put) next fits);
+          none_read IsUnmovable text done text_insn.insn so_far.movable (subst (λ (put : Placement). ¬ IsUnmovable put) next movable);
+      fits = none_read EndsBehindArea text done text_insn.insn so_far.fits (subst (λ (put : Placement). ¬ EndsBehindArea put) next fits);
     }
 
 -- ---- all instructions
@@ -172,7 +172,7 @@ module _ (text rest : List ℕ) (draft : Output) (jumps : List Jump) (so_far : P
 
   pub all_put : All (λ jump. Contains draft.starts jump.target) jumps → IsAllPut text draft
   all_put checked =
-      let of_text : List Place = places text so_far.partway.insns in
+      let of_text : List Placement = places text so_far.partway.insns in
       let lead : NoneOf (HasBadTarget draft.starts) of_text =
       all_lead draft.starts of_text so_far.near
       (λ jump held. All-contains (λ (one : Jump). Contains draft.starts one.target) jumps jump checked

@@ -6,11 +6,11 @@ use Rattle.sb_insn.specs.declared.insn.Insn.{Insn}
 use Rattle.sb_insn.specs.Spelling.{spelling}
 use Rattle.sb_insn.specs.Grammar.{IsValid, BeginsWith}
 use Rattle.sb_decode.proofs.Exact.{one_begins}
-use Rattle.sb_rewrite.specs.declared.front.Front.{Front}
+use Rattle.sb_rewrite.specs.declared.text_insn.TextInsn.{TextInsn}
 use Rattle.sb_rewrite.specs.Listing.{text_address, spelled_bytes, AllValid}
-use Rattle.sb_rewrite.specs.Placing.{Place, places}
+use Rattle.sb_rewrite.specs.Placing.{Placement, places}
 use Rattle.sb_rewrite.specs.Rewriting.{ArePlaces}
-use Rattle.sb_rewrite.specs.Turns.{IsFront}
+use Rattle.sb_rewrite.specs.Turns.{IsFirstInsn}
 use Rattle.sb_rewrite.proofs.OneListing.{some_spelling}
 
 -- the text's instructions are these and more, which spell its rest
@@ -48,12 +48,12 @@ never_stuck text rest done (insn ∷ others) reads some none =
     none insn (valid, (spelled_bytes others, reads.rest_is))
 
 -- what reading one more instruction gives
-pub record Turn (text rest : List ℕ) (done more : List Insn) (front : Front) : Type 0 where
+pub record Turn (text rest : List ℕ) (done more : List Insn) (text_insn : TextInsn) : Type 0 where
   pub others : List Insn
-  pub more_is : more ≡ front.insn ∷ others
-  pub reads : Reads text front.rest.now (done ++ front.insn ∷ []) others
-  pub all : (done ++ front.insn ∷ []) ++ others ≡ done ++ more
-  pub here : front.at ≡ text_address + length (spelled_bytes done)
+  pub more_is : more ≡ text_insn.insn ∷ others
+  pub reads : Reads text text_insn.rest.now (done ++ text_insn.insn ∷ []) others
+  pub all : (done ++ text_insn.insn ∷ []) ++ others ≡ done ++ more
+  pub here : text_insn.at ≡ text_address + length (spelled_bytes done)
 
 next_read : (text rest behind : List ℕ) (done : List Insn) (insn : Insn) (others : List Insn)
     → Reads text rest done (insn ∷ others) → rest ≡ spelling insn ++ behind → Reads text behind (done ++ insn ∷ []) others
@@ -65,26 +65,26 @@ next_read text rest behind done insn others reads parts =
       rest_is = append_cancel_left (spelling insn) behind (spelled_bytes others) (sym parts ∙ reads.rest_is);
     }
 
-pub turn : (text rest : List ℕ) (done more : List Insn) (front : Front) → Reads text rest done more → IsFront text rest front
-    → Turn text rest done more front
-turn text rest done [] front reads is =
+pub turn : (text rest : List ℕ) (done more : List Insn) (text_insn : TextInsn) → Reads text rest done more → IsFirstInsn text rest text_insn
+    → Turn text rest done more text_insn
+turn text rest done [] text_insn reads is =
     absurd (omega (
       arith,
-      some_spelling front.insn,
+      some_spelling text_insn.insn,
       ap length (sym reads.rest_is ∙ is.parts)
-          ∙ length-append (spelling front.insn) front.rest.now,
+          ∙ length-append (spelling text_insn.insn) text_insn.rest.now,
     ))
-turn text rest done (first ∷ others) front reads is =
+turn text rest done (first ∷ others) text_insn reads is =
     let valid : IsValid first = valid_first done first others reads.valid in
-    let same : first ≡ front.insn =
-    one_begins rest first front.insn (valid, (spelled_bytes others, reads.rest_is)) (is.valid, (front.rest.now, is.parts)) in
-    let reads_it : Reads text rest done (front.insn ∷ others) =
+    let same : first ≡ text_insn.insn =
+    one_begins rest first text_insn.insn (valid, (spelled_bytes others, reads.rest_is)) (is.valid, (text_insn.rest.now, is.parts)) in
+    let reads_it : Reads text rest done (text_insn.insn ∷ others) =
     subst (λ (insn : Insn). Reads text rest done (insn ∷ others)) same reads in
     record {
       others = others;
       more_is = ap (λ (insn : Insn). insn ∷ others) same;
-      reads = next_read text rest front.rest.now done front.insn others reads_it is.parts;
-      all = append_assoc done (front.insn ∷ []) others ∙ ap (λ (insn : Insn). done ++ insn ∷ others) (sym same);
+      reads = next_read text rest text_insn.rest.now done text_insn.insn others reads_it is.parts;
+      all = append_assoc done (text_insn.insn ∷ []) others ∙ ap (λ (insn : Insn). done ++ insn ∷ others) (sym same);
       here = is.here ∙ ap (λ (size : ℕ). text_address + size) (rest_begins text rest done (first ∷ others) reads);
     }
 
@@ -94,9 +94,9 @@ all_read text rest done [] reads none = refl
 all_read text rest done (insn ∷ others) reads none =
     absurd (omega (arith, some_spelling insn, ap length reads.rest_is ∙ length-append (spelling insn) (spelled_bytes others)))
 
--- ---- a front of a text
+-- ---- a text_insn of a text
 
--- the instructions of a text begin with those that spell a front of it
+-- the instructions of a text begin with those that spell a text_insn of it
 goes_on : (done insns : List Insn) (rest : List ℕ) → AllValid done → AllValid insns
     → spelled_bytes insns ≡ spelled_bytes done ++ rest
     → (more : List Insn) × (insns ≡ done ++ more)
@@ -124,19 +124,19 @@ goes_on (first ∷ done) (insn ∷ insns) rest valid valid' same =
     (later.0, λ i. is i ∷ later.1 i)
 
 -- so a text that is listed is read so far
-pub read_so_far : (text rest : List ℕ) (done : List Insn) (of_text : List Place) → AllValid done
+pub read_so_far : (text rest : List ℕ) (done : List Insn) (of_text : List Placement) → AllValid done
     → text ≡ spelled_bytes done ++ rest
     → ArePlaces text of_text
     → (more : List Insn) × Reads text rest done more × (of_text ≡ places text (done ++ more))
-read_so_far text rest done of_text valid front are =
-    let found = goes_on done are.insns rest valid are.valid (sym are.whole ∙ front) in
+read_so_far text rest done of_text valid text_insn are =
+    let found = goes_on done are.insns rest valid are.valid (sym are.whole ∙ text_insn) in
     let whole : text ≡ spelled_bytes (done ++ found.0) = are.whole ∙ ap (λ (list : List Insn). spelled_bytes list) found.1 in (
       found.0,
       record {
         valid = subst (λ (list : List Insn). AllValid list) found.1 are.valid;
         whole = whole;
         rest_is =
-            append_cancel_left (spelled_bytes done) rest (spelled_bytes found.0) (sym front ∙ whole
+            append_cancel_left (spelled_bytes done) rest (spelled_bytes found.0) (sym text_insn ∙ whole
             ∙ flat_map-append spelling done found.0);
       },
       are.places_are ∙ ap (λ (list : List Insn). places text list) found.1,

@@ -8,16 +8,16 @@ use Rattle.std.proofs.lemmas.List.Elements.{Contains-append_left, Contains-appen
 use Rattle.sb_rewrite.specs.declared.target.Jump.{Jump}
 use Rattle.sb_forms.specs.Places.{IsPermitted}
 use Rattle.sb_rewrite.specs.Target.{direct_target, MayLeadTo, IsBadTarget}
-use Rattle.sb_rewrite.specs.Placing.{Place}
+use Rattle.sb_rewrite.specs.Placing.{Placement}
 use Rattle.sb_rewrite.specs.Rewriting.{HasBadTarget, NoneOf}
 use Rattle.sb_rewrite.specs.Turns.{is_in_text, IsFar, jumps_to}
 
 -- the jump of an instruction that is to be remembered
-abbrev pub jumps_of : Place → List Jump
+abbrev pub jumps_of : Placement → List Jump
 jumps_of place = jumps_to place.at (direct_target place.insn place.at)
 
 -- it leads far away
-abbrev pub HasFarTarget : Place → Type 0
+abbrev pub HasFarTarget : Placement → Type 0
 HasFarTarget place = IsFar (direct_target place.insn place.at)
 
 -- jumps that lead to starts
@@ -61,7 +61,7 @@ astray starts at None jump held no_start = omega (arith, held.1)
 astray starts at (Some target) jump held no_start = astray_by starts at target (is_in_text target) refl jump held no_start
 
 -- where no jump leads far away and all that were remembered lead to starts, all lead well
-pub all_lead : (starts : List ℕ) (of_text : List Place) → NoneOf HasFarTarget of_text
+pub all_lead : (starts : List ℕ) (of_text : List Placement) → NoneOf HasFarTarget of_text
     → LeadToStarts starts (flat_map jumps_of of_text) → NoneOf (HasBadTarget starts) of_text
 all_lead starts [] near lead = tt
 all_lead starts (place ∷ others) near lead = (
@@ -72,7 +72,7 @@ all_lead starts (place ∷ others) near lead = (
 )
 
 -- where one that was remembered leads to no start, not all lead well
-pub one_astray : (starts : List ℕ) (of_text : List Place) (jump : Jump) → Contains (flat_map jumps_of of_text) jump
+pub one_astray : (starts : List ℕ) (of_text : List Placement) (jump : Jump) → Contains (flat_map jumps_of of_text) jump
     → ¬ Contains starts jump.target → ¬ NoneOf (HasBadTarget starts) of_text
 one_astray starts [] jump held no_start none = omega (arith, held.1)
 one_astray starts (place ∷ others) jump held no_start none =

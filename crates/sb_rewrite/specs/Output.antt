@@ -7,28 +7,28 @@ use Rattle.sb_forms.specs.declared.answer.Form.TheVariants as form
 use Rattle.sb_forms.specs.Pieces.{jump_insn}
 use Rattle.sb_rewrite.specs.declared.edit.Edit.{Edit}
 use Rattle.sb_rewrite.specs.declared.edit.Move.{Move}
-use Rattle.sb_rewrite.specs.Placing.{Place, slot_bytes}
+use Rattle.sb_rewrite.specs.Placing.{Placement, slot_bytes}
 
 -- a jump to the slot, and NOPs for the further bytes of the instruction
-abbrev pub jump_bytes : Place → List ℕ
+abbrev pub jump_bytes : Placement → List ℕ
 jump_bytes place = spelling (jump_insn place.at place.slot) ++ replicate (length (spelling place.insn) - 5) 0x90
 
 -- what stands in the text where the instruction stood
-abbrev pub text_bytes_by : Form → Place → List ℕ
+abbrev pub text_bytes_by : Form → Placement → List ℕ
 text_bytes_by form.Keep place = spelling place.insn
 text_bytes_by (form.InPlace bytes) place = bytes
 text_bytes_by (form.Moved pre main post) place = jump_bytes place
 text_bytes_by form.Unmovable place = spelling place.insn
 
-abbrev pub text_bytes : Place → List ℕ
+abbrev pub text_bytes : Placement → List ℕ
 text_bytes place = text_bytes_by place.form place
 
 -- what stands in the area
-abbrev pub area_bytes : Place → List ℕ
+abbrev pub area_bytes : Placement → List ℕ
 area_bytes place = slot_bytes place.form
 
 -- the start's edit, if its bytes were not kept
-abbrev pub edits_by : Form → Place → List Edit
+abbrev pub edits_by : Form → Placement → List Edit
 edits_by (form.InPlace bytes) place = record { at = place.at; old_len = length (spelling place.insn); slot = None } ∷ []
 edits_by (form.Moved pre main post) place =
     record {
@@ -38,15 +38,15 @@ edits_by (form.Moved pre main post) place =
     } ∷ []
 edits_by _ place = []
 
-abbrev pub edits_of : Place → List Edit
+abbrev pub edits_of : Placement → List Edit
 edits_of place = edits_by place.form place
 
 -- where the main of a moved instruction stands
-abbrev pub moves_by : Form → Place → List Move
+abbrev pub moves_by : Form → Placement → List Move
 moves_by (form.Moved pre main post) place = record { start = place.at; main = place.slot + length pre } ∷ []
 moves_by _ place = []
 
-abbrev pub moves_of : Place → List Move
+abbrev pub moves_of : Placement → List Move
 moves_of place = moves_by place.form place
 
 pub record Output : Type 0 where
@@ -56,11 +56,11 @@ pub record Output : Type 0 where
   pub edits : List Edit
   pub moves : List Move
 
-abbrev pub starts_of : List Place → List ℕ
+abbrev pub starts_of : List Placement → List ℕ
 starts_of places = map (λ place. place.at) places
 
 -- what instructions in their places give
-abbrev pub output : List Place → Output
+abbrev pub output : List Placement → Output
 output places = record {
   text = flat_map text_bytes places;
   area = flat_map area_bytes places;

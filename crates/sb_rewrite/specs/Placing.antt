@@ -18,7 +18,7 @@ abbrev pub area_end : ℕ
 area_end = AREA_ADDRESS + AREA_PAGES * PAGE_SIZE
 
 -- an instruction of a text, its address, where the next slot begins, and what stands in its place
-pub record Place : Type 0 where
+pub record Placement : Type 0 where
   pub insn : Insn
   pub at : ℕ
   pub slot : ℕ
@@ -34,16 +34,16 @@ abbrev pub is_after_0f : List ℕ → ℕ → Bool
 is_after_0f text at = nat_lt text_address at && (slice_index text (at - text_address - 1) == 0x0F)
 
 -- an instruction of the text at an address, with the next slot
-abbrev pub place : List ℕ → ℕ → ℕ → Insn → Place
+abbrev pub place : List ℕ → ℕ → ℕ → Insn → Placement
 place text at slot insn = record { insn = insn; at = at; slot = slot; form = form_of insn at slot (is_after_0f text at) }
 
 -- Instructions of the text stand one after another from an address on, and so do their slots.
-unfoldable pub places_from : List ℕ → ℕ → ℕ → List Insn → List Place
+unfoldable pub places_from : List ℕ → ℕ → ℕ → List Insn → List Placement
 places_from text at slot [] = []
 places_from text at slot (insn ∷ insns) =
     place text at slot insn ∷ places_from text (at + length (spelling insn))
     (slot + length (slot_bytes (place text at slot insn).form)) insns
 
 -- all instructions of the text
-abbrev pub places : List ℕ → List Insn → List Place
+abbrev pub places : List ℕ → List Insn → List Placement
 places text insns = places_from text text_address area_address insns

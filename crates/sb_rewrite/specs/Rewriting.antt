@@ -8,34 +8,34 @@ use Rattle.sb_rewrite.specs.declared.refusal.RewriteRefusal.{RewriteRefusal}
 use Rattle.sb_rewrite.specs.declared.refusal.RewriteRefusal.TheVariants.{Undecoded, BadTarget, Unmovable, AreaFull, Left, Memory}
 use Rattle.sb_rewrite.specs.Listing.{text_address, spelled_bytes, AllValid, IsUndecodedAt}
 use Rattle.sb_rewrite.specs.Target.{direct_target, IsBadTarget}
-use Rattle.sb_rewrite.specs.Placing.{Place, slot_bytes, places, area_address, area_end}
+use Rattle.sb_rewrite.specs.Placing.{Placement, slot_bytes, places, area_address, area_end}
 use Rattle.sb_rewrite.specs.Output.{Output, output, starts_of, RunsAt}
 
 -- ---- what is wrong with an instruction
 
 -- it is a direct jump or call that leads neither to a start of the text nor into the trampoline
-abbrev pub HasBadTarget : List ℕ → Place → Type 0
+abbrev pub HasBadTarget : List ℕ → Placement → Type 0
 HasBadTarget starts place = IsBadTarget starts (direct_target place.insn place.at)
 
 -- nothing can stand in its place
-abbrev pub IsUnmovable : Place → Type 0
+abbrev pub IsUnmovable : Placement → Type 0
 IsUnmovable place = place.form ≡ form.Unmovable
 
 -- its slot would end behind the area
-abbrev pub EndsBehindArea : Place → Type 0
+abbrev pub EndsBehindArea : Placement → Type 0
 EndsBehindArea place = area_end < place.slot + length (slot_bytes place.form)
 
 -- ---- the first one, or none
 
 -- of none of these it holds
-abbrev pub NoneOf : (Place → Type 0) → List Place → Type 0
+abbrev pub NoneOf : (Placement → Type 0) → List Placement → Type 0
 NoneOf Holds places = AllByRecursion (λ place. ¬ Holds place) places
 
 -- the first of these of which it holds stands at this address
-pub record IsFirstAt (Holds : Place → Type 0) (places : List Place) (at : ℕ) : Type 0 where
-  pub before : List Place
-  pub first : Place
-  pub behind : List Place
+pub record IsFirstAt (Holds : Placement → Type 0) (places : List Placement) (at : ℕ) : Type 0 where
+  pub before : List Placement
+  pub first : Placement
+  pub behind : List Placement
   pub parts : places ≡ before ++ first ∷ behind
   pub none : NoneOf Holds before
   pub holds : Holds first
@@ -44,22 +44,22 @@ pub record IsFirstAt (Holds : Place → Type 0) (places : List Place) (at : ℕ)
 -- ---- texts
 
 -- instructions spell the text from its first byte to its last, and these are their places
-pub record ArePlaces (text : List ℕ) (of_text : List Place) : Type 0 where
+pub record ArePlaces (text : List ℕ) (of_text : List Placement) : Type 0 where
   pub insns : List Insn
   pub valid : AllValid insns
   pub whole : text ≡ spelled_bytes insns
   pub places_are : of_text ≡ places text insns
 
 -- each direct jump and call leads where it may
-abbrev pub LeadsWell : List Place → Type 0
+abbrev pub LeadsWell : List Placement → Type 0
 LeadsWell places = NoneOf (HasBadTarget (starts_of places)) places
 
 -- and each instruction can be replaced
-abbrev pub IsMovable : List Place → Type 0
+abbrev pub IsMovable : List Placement → Type 0
 IsMovable places = LeadsWell places × NoneOf IsUnmovable places
 
 -- and the slots have room in the area
-abbrev pub FitsArea : List Place → Type 0
+abbrev pub FitsArea : List Placement → Type 0
 FitsArea places = IsMovable places × NoneOf EndsBehindArea places
 
 -- the bytes of VMFUNC stand nowhere in what was made
@@ -74,16 +74,16 @@ IsLeftAt made at =
 
 -- What rewriting answers. The cases exclude each other, but for want of memory.
 abbrev pub Rewrites : List ℕ → Result Output RewriteRefusal → Type 0
-Rewrites text (Ok made) = (of_text : List Place) × ArePlaces text of_text × FitsArea of_text × (made ≡ output of_text)
+Rewrites text (Ok made) = (of_text : List Placement) × ArePlaces text of_text × FitsArea of_text × (made ≡ output of_text)
     × IsFree made
 Rewrites text (Err (Undecoded at)) = IsUndecodedAt text at
 Rewrites text (Err (BadTarget at)) =
-    (of_text : List Place) × ArePlaces text of_text × IsFirstAt (HasBadTarget (starts_of of_text)) of_text at
+    (of_text : List Placement) × ArePlaces text of_text × IsFirstAt (HasBadTarget (starts_of of_text)) of_text at
 Rewrites text (Err (Unmovable at)) =
-    (of_text : List Place) × ArePlaces text of_text × LeadsWell of_text × IsFirstAt IsUnmovable of_text at
+    (of_text : List Placement) × ArePlaces text of_text × LeadsWell of_text × IsFirstAt IsUnmovable of_text at
 Rewrites text (Err (AreaFull at)) =
-    (of_text : List Place) × ArePlaces text of_text × IsMovable of_text × IsFirstAt EndsBehindArea of_text at
-Rewrites text (Err (Left at)) = (of_text : List Place) × ArePlaces text of_text × FitsArea of_text × IsLeftAt (output of_text) at
+    (of_text : List Placement) × ArePlaces text of_text × IsMovable of_text × IsFirstAt EndsBehindArea of_text at
+Rewrites text (Err (Left at)) = (of_text : List Placement) × ArePlaces text of_text × FitsArea of_text × IsLeftAt (output of_text) at
 Rewrites text (Err Memory) = Unit {0}
 
 -- ---- how long what is made is

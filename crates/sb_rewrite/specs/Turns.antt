@@ -3,7 +3,7 @@ use Rattle.std.specs.Prelude.{◌≡◌, ℕ, ◌+◌, ◌-◌, ◌*◌, ◌≤�
 use Rattle.sb_insn.specs.declared.insn.Insn.{Insn}
 use Rattle.sb_insn.specs.Spelling.{spelling}
 use Rattle.sb_insn.specs.Grammar.{IsValid, BeginsWith}
-use Rattle.sb_rewrite.specs.declared.front.Front.{Front}
+use Rattle.sb_rewrite.specs.declared.text_insn.TextInsn.{TextInsn}
 use Rattle.sb_rewrite.specs.declared.refusal.RewriteRefusal.{RewriteRefusal}
 use Rattle.sb_rewrite.specs.declared.refusal.RewriteRefusal.TheVariants.{Undecoded, BadTarget, Unmovable, AreaFull, Left, Memory}
 use Rattle.sb_rewrite.specs.declared.target.Jump.{Jump}
@@ -14,29 +14,29 @@ use Rattle.sb_memory.specs.declared.page.TheConstants.{PAGE_SIZE}
 use Rattle.sb_forms.specs.Places.{IsPermitted}
 use Rattle.sb_forms.specs.declared.answer.Form.{Form}
 use Rattle.sb_forms.specs.declared.answer.Form.TheVariants as form
-use Rattle.sb_rewrite.specs.Placing.{Place, area_address}
+use Rattle.sb_rewrite.specs.Placing.{Placement, area_address}
 use Rattle.sb_rewrite.specs.Output.{Output, output, starts_of, text_bytes, area_bytes, edits_of, moves_of}
 use Rattle.sb_rewrite.specs.Rewriting.{HasBadTarget, IsUnmovable, EndsBehindArea, NoneOf, IsFirstAt, ArePlaces, LeadsWell, FitsArea, IsFree, IsLeftAt}
 
 -- ---- an instruction
 
 -- the first instruction of the rest of a text
-pub record IsFront (text rest : List ℕ) (front : Front) : Type 0 where
-  pub valid : IsValid front.insn
-  pub bytes : front.bytes.now ≡ spelling front.insn
-  pub parts : rest ≡ spelling front.insn ++ front.rest.now
-  pub here : front.at ≡ text_address + (length text - length rest)
+pub record IsFirstInsn (text rest : List ℕ) (text_insn : TextInsn) : Type 0 where
+  pub valid : IsValid text_insn.insn
+  pub bytes : text_insn.bytes.now ≡ spelling text_insn.insn
+  pub parts : rest ≡ spelling text_insn.insn ++ text_insn.rest.now
+  pub here : text_insn.at ≡ text_address + (length text - length rest)
 
-abbrev pub DecodesFront : List ℕ → List ℕ → Result Front RewriteRefusal → Type 0
-DecodesFront text rest (Ok front) = IsFront text rest front
-DecodesFront text rest (Err refusal) =
+abbrev pub DecodesFirst : List ℕ → List ℕ → Result TextInsn RewriteRefusal → Type 0
+DecodesFirst text rest (Ok text_insn) = IsFirstInsn text rest text_insn
+DecodesFirst text rest (Err refusal) =
     (refusal ≡ Undecoded (text_address + (length text - length rest))) × ((insn : Insn) → ¬ BeginsWith rest insn)
 
 -- a whole instruction of a text
-pub record IsFrontOfText (front : Front) : Type 0 where
-  pub valid : IsValid front.insn
-  pub bytes : front.bytes.now ≡ spelling front.insn
-  pub here : front.at ≤ 0x600000
+pub record IsTextInsn (text_insn : TextInsn) : Type 0 where
+  pub valid : IsValid text_insn.insn
+  pub bytes : text_insn.bytes.now ≡ spelling text_insn.insn
+  pub here : text_insn.at ≤ 0x600000
 
 -- ---- what stands in its place
 
@@ -54,7 +54,7 @@ abbrev pub started : Output
 started = record { text = []; area = []; starts = []; edits = []; moves = [] }
 
 -- an instruction with this in its place, and the slot that comes next
-abbrev pub next_place : Output → Insn → ℕ → Form → Place
+abbrev pub next_place : Output → Insn → ℕ → Form → Placement
 next_place old insn at form = record { insn = insn; at = at; slot = area_address + length old.area; form = form }
 
 -- one more instruction starts
@@ -63,7 +63,7 @@ with_start old at =
     record { text = old.text; area = old.area; starts = old.starts ++ at ∷ []; edits = old.edits; moves = old.moves }
 
 -- what stands in its place is put
-abbrev pub with_place : Output → Place → Output
+abbrev pub with_place : Output → Placement → Output
 with_place old place = record {
   text = old.text ++ text_bytes place;
   area = old.area ++ area_bytes place;
@@ -72,7 +72,7 @@ with_place old place = record {
   moves = old.moves ++ moves_of place;
 }
 
-abbrev pub Puts : Output → Output → Place → Result (Unit {0}) RewriteRefusal → Type 0
+abbrev pub Puts : Output → Output → Placement → Result (Unit {0}) RewriteRefusal → Type 0
 Puts old new place (Ok done) = ¬ IsUnmovable place × ¬ EndsBehindArea place × (new ≡ with_place old place)
 Puts old new place (Err (Undecoded at)) = ⊥
 Puts old new place (Err (BadTarget at)) = ⊥
@@ -98,12 +98,12 @@ jumps_to at None = []
 jumps_to at (Some target) = if is_in_text target then record { at = at; target = target } ∷ [] else []
 
 -- a jump that leads into the text is remembered, and one that leads far away is refused
-abbrev pub Remembers : List Jump → List Jump → Front → Result (Unit {0}) RewriteRefusal → Type 0
-Remembers old new front (Ok done) =
-    ¬ IsFar (direct_target front.insn front.at) × (new ≡ old ++ jumps_to front.at (direct_target front.insn front.at))
-Remembers old new front (Err (BadTarget at)) = IsFar (direct_target front.insn front.at)
-Remembers old new front (Err Memory) = Unit {0}
-Remembers old new front (Err _) = ⊥
+abbrev pub Remembers : List Jump → List Jump → TextInsn → Result (Unit {0}) RewriteRefusal → Type 0
+Remembers old new text_insn (Ok done) =
+    ¬ IsFar (direct_target text_insn.insn text_insn.at) × (new ≡ old ++ jumps_to text_insn.at (direct_target text_insn.insn text_insn.at))
+Remembers old new text_insn (Err (BadTarget at)) = IsFar (direct_target text_insn.insn text_insn.at)
+Remembers old new text_insn (Err Memory) = Unit {0}
+Remembers old new text_insn (Err _) = ⊥
 
 -- all remembered jumps lead to starts, or one does not
 abbrev pub ChecksJumps : List Jump → List ℕ → Result (Unit {0}) RewriteRefusal → Type 0
@@ -115,11 +115,11 @@ ChecksJumps jumps starts (Err _) = ⊥
 
 -- each direct jump and call of the text leads where it may
 abbrev pub JumpsLeadWell : List ℕ → Type 0
-JumpsLeadWell text = (of_text : List Place) × ArePlaces text of_text × LeadsWell of_text
+JumpsLeadWell text = (of_text : List Placement) × ArePlaces text of_text × LeadsWell of_text
 
 -- the first of the text's instructions of which it holds stands at this address
-abbrev pub IsFirstOf : (List Place → Place → Type 0) → List ℕ → ℕ → Type 0
-IsFirstOf Holds text at = (of_text : List Place) × ArePlaces text of_text × IsFirstAt (Holds of_text) of_text at
+abbrev pub IsFirstOf : (List Placement → Placement → Type 0) → List ℕ → ℕ → Type 0
+IsFirstOf Holds text at = (of_text : List Placement) × ArePlaces text of_text × IsFirstAt (Holds of_text) of_text at
 
 abbrev pub ChecksTargets : List ℕ → Result (Unit {0}) RewriteRefusal → Type 0
 ChecksTargets text (Ok done) = JumpsLeadWell text
@@ -128,7 +128,7 @@ ChecksTargets text (Err _) = ⊥
 
 -- something can stand in place of each instruction of the text
 abbrev pub AllMovable : List ℕ → Type 0
-AllMovable text = (of_text : List Place) × ArePlaces text of_text × NoneOf IsUnmovable of_text
+AllMovable text = (of_text : List Placement) × ArePlaces text of_text × NoneOf IsUnmovable of_text
 
 abbrev pub ChecksMovable : List ℕ → Result (Unit {0}) RewriteRefusal → Type 0
 ChecksMovable text (Ok done) = AllMovable text
@@ -137,14 +137,14 @@ ChecksMovable text (Err _) = ⊥
 
 -- What stands in place of the instructions, where it all can be put.
 abbrev pub IsAllPut : List ℕ → Output → Type 0
-IsAllPut text draft = (of_text : List Place) × ArePlaces text of_text × FitsArea of_text × (draft ≡ output of_text)
+IsAllPut text draft = (of_text : List Placement) × ArePlaces text of_text × FitsArea of_text × (draft ≡ output of_text)
 
 -- Why it cannot. Another cause may come first: what stands behind the address was not looked at.
 abbrev pub IsPutRefusal : List ℕ → RewriteRefusal → Type 0
 IsPutRefusal text (Undecoded at) = IsUndecodedAt text at
 IsPutRefusal text (BadTarget at) = ¬ JumpsLeadWell text
 IsPutRefusal text (Unmovable at) = ¬ AllMovable text
-IsPutRefusal text (AreaFull at) = (of_text : List Place) → ArePlaces text of_text → IsFirstAt EndsBehindArea of_text at
+IsPutRefusal text (AreaFull at) = (of_text : List Placement) → ArePlaces text of_text → IsFirstAt EndsBehindArea of_text at
 IsPutRefusal text (Left at) = ⊥
 IsPutRefusal text Memory = Unit {0}
 

@@ -6,10 +6,10 @@ ghost use Rattle.sb_forms.specs.Pieces.{jump_insn};
 ghost use Rattle.sb_forms.specs.Answers.{HasRoom, FitsSlot};
 ghost use Rattle.sb_rewrite.specs.Placing.{area_address, area_end};
 ghost use Rattle.sb_rewrite.specs.Output.{IsOrdered};
-ghost use Rattle.sb_rewrite.specs.Turns.{IsFrontOfText, started, keep, moved, in_place, next_place, with_start, Puts, IsFirstLeft};
+ghost use Rattle.sb_rewrite.specs.Turns.{IsTextInsn, started, keep, moved, in_place, next_place, with_start, Puts, IsFirstLeft};
 
 use crate::edit::{Edit, Move};
-use crate::front::Front;
+use crate::text_insn::TextInsn;
 use crate::listing::Starts;
 use crate::refusal::RewriteRefusal;
 use crate::rewritten::Rewritten;
@@ -109,58 +109,58 @@ impl Draft {
     /// Puts a slot into the area, and a jump to it into the text.
     fn put_slot(
         &mut self,
-        front: &Front,
+        text_insn: &TextInsn,
         pre: &Code,
         main: &Code,
         post: &Code,
     ) -> Result<(), RewriteRefusal>
-        requires front { IsFrontOfText front.now }
-        requires jump { 5 ≤ length front.now.bytes.now }
+        requires text_insn { IsTextInsn text_insn.now }
+        requires jump { 5 ≤ length text_insn.now.bytes.now }
         requires slot { FitsSlot pre.now main.now post.now }
-        ensures { Puts self.old self.new (next_place self.old front.now.insn front.now.at (moved pre.now main.now post.now)) result }
+        ensures { Puts self.old self.new (next_place self.old text_insn.now.insn text_insn.now.at (moved pre.now main.now post.now)) result }
     {
         let slot = self.next_slot();
         let before = pre.bytes().len();
         let size = before + main.bytes().len() + post.bytes().len();
         if AREA_SIZE - self.area.len() < size {
-            return Err(RewriteRefusal::AreaFull { at: front.at });
+            return Err(RewriteRefusal::AreaFull { at: text_insn.at });
         }
-        put_jump(&mut self.text, front.at, slot, front.bytes.len())?;
+        put_jump(&mut self.text, text_insn.at, slot, text_insn.bytes.len())?;
         self.area.extend_from_slice(pre.bytes())?;
         self.area.extend_from_slice(main.bytes())?;
         self.area.extend_from_slice(post.bytes())?;
         self.edits.push(Edit {
-            at: front.at,
-            old_len: front.bytes.len() as u8,
+            at: text_insn.at,
+            old_len: text_insn.bytes.len() as u8,
             slot: Some((slot, size as u8)),
         })?;
         self.moves.push(Move {
-            start: front.at,
+            start: text_insn.at,
             main: slot + before as u64,
         })?;
         Ok(())
     }
 
     /// Puts bytes in place of an instruction that has as many.
-    fn put_in_place(&mut self, front: &Front, code: &Code) -> Result<(), RewriteRefusal>
-        requires { IsFrontOfText front.now }
-        ensures { Puts self.old self.new (next_place self.old front.now.insn front.now.at (in_place code.now)) result }
+    fn put_in_place(&mut self, text_insn: &TextInsn, code: &Code) -> Result<(), RewriteRefusal>
+        requires { IsTextInsn text_insn.now }
+        ensures { Puts self.old self.new (next_place self.old text_insn.now.insn text_insn.now.at (in_place code.now)) result }
     {
         self.text.extend_from_slice(code.bytes())?;
         self.edits.push(Edit {
-            at: front.at,
-            old_len: front.bytes.len() as u8,
+            at: text_insn.at,
+            old_len: text_insn.bytes.len() as u8,
             slot: None,
         })?;
         Ok(())
     }
 
     /// Puts an instruction itself.
-    pub fn keep(&mut self, front: &Front) -> Result<(), RewriteRefusal>
-        requires { IsFrontOfText front.now }
-        ensures { Puts self.old self.new (next_place self.old front.now.insn front.now.at keep) result }
+    pub fn keep(&mut self, text_insn: &TextInsn) -> Result<(), RewriteRefusal>
+        requires { IsTextInsn text_insn.now }
+        ensures { Puts self.old self.new (next_place self.old text_insn.now.insn text_insn.now.at keep) result }
     {
-        self.text.extend_from_slice(front.bytes)?;
+        self.text.extend_from_slice(text_insn.bytes)?;
         Ok(())
     }
 
@@ -169,16 +169,16 @@ impl Draft {
     /// # Errors
     ///
     /// `Unmovable` where nothing can; `AreaFull` where its slot would end behind the area.
-    pub fn put(&mut self, front: &Front, form: &Form) -> Result<(), RewriteRefusal>
-        requires front { IsFrontOfText front.now }
-        requires room { HasRoom front.now.insn form.now }
-        ensures { Puts self.old self.new (next_place self.old front.now.insn front.now.at form.now) result }
+    pub fn put(&mut self, text_insn: &TextInsn, form: &Form) -> Result<(), RewriteRefusal>
+        requires text_insn { IsTextInsn text_insn.now }
+        requires room { HasRoom text_insn.now.insn form.now }
+        ensures { Puts self.old self.new (next_place self.old text_insn.now.insn text_insn.now.at form.now) result }
     {
         match form {
-            Form::Keep => self.keep(front)?,
-            Form::InPlace(code) => self.put_in_place(front, code)?,
-            Form::Moved { pre, main, post } => self.put_slot(front, pre, main, post)?,
-            Form::Unmovable => return Err(RewriteRefusal::Unmovable { at: front.at }),
+            Form::Keep => self.keep(text_insn)?,
+            Form::InPlace(code) => self.put_in_place(text_insn, code)?,
+            Form::Moved { pre, main, post } => self.put_slot(text_insn, pre, main, post)?,
+            Form::Unmovable => return Err(RewriteRefusal::Unmovable { at: text_insn.at }),
         }
         Ok(())
     }

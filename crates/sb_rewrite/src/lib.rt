@@ -16,7 +16,7 @@
 
 mod draft;
 mod edit;
-mod front;
+mod text_insn;
 mod listing;
 mod refusal;
 mod rewriting;

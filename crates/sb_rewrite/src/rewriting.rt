@@ -5,11 +5,11 @@ ghost use Rattle.sb_forms.specs.Answers.{IsClean};
 ghost use Rattle.sb_forms.specs.Places.{HasForm};
 ghost use Rattle.sb_rewrite.specs.Listing.{text_address, IsListing};
 ghost use Rattle.sb_rewrite.specs.Placing.{place, area_address, is_after_0f};
-ghost use Rattle.sb_rewrite.specs.Turns.{IsFrontOfText, JumpsLeadWell, ChecksTargets, ChecksMovable, with_start, Puts, IsPutRefusal, PutsAll};
+ghost use Rattle.sb_rewrite.specs.Turns.{IsTextInsn, JumpsLeadWell, ChecksTargets, ChecksMovable, with_start, Puts, IsPutRefusal, PutsAll};
 ghost use Rattle.sb_rewrite.specs.Rewriting.{Rewrites, KeepsLength, OneRewriting, OneOriginal};
 
 use crate::draft::Draft;
-use crate::front::{Front, decode_front};
+use crate::text_insn::{TextInsn, decode_first};
 use crate::listing::{Listing, list};
 use crate::refusal::RewriteRefusal;
 use crate::rewritten::Rewritten;
@@ -33,11 +33,11 @@ fn check_targets(text: &[u8], listing: &Listing) -> Result<(), RewriteRefusal>
 {
     let mut rest = text;
     while !rest.is_empty() {
-        let front = decode_front(text, rest)?;
-        if is_bad_target(listing, front.insn.direct_target(front.at)) {
-            return Err(RewriteRefusal::BadTarget { at: front.at });
+        let text_insn = decode_first(text, rest)?;
+        if is_bad_target(listing, text_insn.insn.direct_target(text_insn.at)) {
+            return Err(RewriteRefusal::BadTarget { at: text_insn.at });
         }
-        rest = front.rest;
+        rest = text_insn.rest;
     }
     Ok(())
 }
@@ -50,13 +50,13 @@ fn check_movable(text: &[u8]) -> Result<(), RewriteRefusal>
 {
     let mut rest = text;
     while !rest.is_empty() {
-        let front = decode_front(text, rest)?;
-        let after_0f = is_after_0f(text, front.at);
+        let text_insn = decode_first(text, rest)?;
+        let after_0f = is_after_0f(text, text_insn.at);
         // Whether it can be moved does not depend on the slot.
-        if let Form::Unmovable = form(&front.insn, front.at, AREA_ADDRESS, after_0f) {
-            return Err(RewriteRefusal::Unmovable { at: front.at });
+        if let Form::Unmovable = form(&text_insn.insn, text_insn.at, AREA_ADDRESS, after_0f) {
+            return Err(RewriteRefusal::Unmovable { at: text_insn.at });
         }
-        rest = front.rest;
+        rest = text_insn.rest;
     }
     Ok(())
 }
@@ -66,33 +66,33 @@ const LAST_BYTE: u8 = 0xD4;
 
 /// Puts what the table of forms gives in place of an instruction of a text.
 ///
-/// It is not part of `put_front`, so that the space for a form is set up only for the few instructions that need one.
-fn put_form(draft: &mut Draft, text: &[u8], front: &Front) -> Result<(), RewriteRefusal>
+/// It is not part of `put_text_insn`, so that the space for a form is set up only for the few instructions that need one.
+fn put_form(draft: &mut Draft, text: &[u8], text_insn: &TextInsn) -> Result<(), RewriteRefusal>
     requires size { length text.now ≤ 2097152 }
-    requires front { IsFrontOfText front.now }
-    requires form { HasForm front.now.insn }
-    requires within { (text_address ≤ front.now.at) × (front.now.at < text_address + length text.now) }
-    ensures { Puts draft.old draft.new (place text.now front.now.at (area_address + length draft.old.area) front.now.insn) result }
+    requires text_insn { IsTextInsn text_insn.now }
+    requires form { HasForm text_insn.now.insn }
+    requires within { (text_address ≤ text_insn.now.at) × (text_insn.now.at < text_address + length text.now) }
+    ensures { Puts draft.old draft.new (place text.now text_insn.now.at (area_address + length draft.old.area) text_insn.now.insn) result }
 {
-    let after_0f = is_after_0f(text, front.at);
-    let form = form(&front.insn, front.at, draft.next_slot(), after_0f);
-    draft.put(front, &form)
+    let after_0f = is_after_0f(text, text_insn.at);
+    let form = form(&text_insn.insn, text_insn.at, draft.next_slot(), after_0f);
+    draft.put(text_insn, &form)
 }
 
 /// Puts the start of an instruction of a text, and what stands in its place.
-fn put_front(draft: &mut Draft, text: &[u8], front: &Front) -> Result<(), RewriteRefusal>
+fn put_text_insn(draft: &mut Draft, text: &[u8], text_insn: &TextInsn) -> Result<(), RewriteRefusal>
     requires size { length text.now ≤ 2097152 }
-    requires front { IsFrontOfText front.now }
-    requires form { HasForm front.now.insn }
-    requires within { (text_address ≤ front.now.at) × (front.now.at < text_address + length text.now) }
-    ensures { Puts (with_start draft.old front.now.at) draft.new (place text.now front.now.at (area_address + length draft.old.area) front.now.insn) result }
+    requires text_insn { IsTextInsn text_insn.now }
+    requires form { HasForm text_insn.now.insn }
+    requires within { (text_address ≤ text_insn.now.at) × (text_insn.now.at < text_address + length text.now) }
+    ensures { Puts (with_start draft.old text_insn.now.at) draft.new (place text.now text_insn.now.at (area_address + length draft.old.area) text_insn.now.insn) result }
 {
-    draft.start(front.at)?;
+    draft.start(text_insn.at)?;
     // ADD ESP, EDX ends with this byte too, so an instruction without it is kept.
-    if front.bytes.contains(&LAST_BYTE) {
-        put_form(draft, text, front)
+    if text_insn.bytes.contains(&LAST_BYTE) {
+        put_form(draft, text, text_insn)
     } else {
-        draft.keep(front)
+        draft.keep(text_insn)
     }
 }
 
@@ -107,10 +107,10 @@ fn put_all(alloc: Global, text: &[u8]) -> Result<Draft, RewriteRefusal>
     let mut jumps = Vec::new(alloc);
     let mut rest = text;
     while !rest.is_empty() {
-        let front = decode_front(text, rest)?;
-        remember_jump(&mut jumps, &front)?;
-        put_front(&mut draft, text, &front)?;
-        rest = front.rest;
+        let text_insn = decode_first(text, rest)?;
+        remember_jump(&mut jumps, &text_insn)?;
+        put_text_insn(&mut draft, text, &text_insn)?;
+        rest = text_insn.rest;
     }
     check_jumps(&jumps, draft.starts())?;
     Ok(draft)

@@ -5,7 +5,7 @@ ghost use Rattle.std.specs.List.Sorted.{IsStrictlyIncreasing};
 ghost use Rattle.sb_rewrite.specs.Target.{InTrampoline, IsBadTarget};
 ghost use Rattle.sb_rewrite.specs.Turns.{is_in_text, Remembers, ChecksJumps};
 
-use crate::front::Front;
+use crate::text_insn::TextInsn;
 use crate::listing::Listing;
 use crate::refusal::RewriteRefusal;
 use sb_abi::{TEXT_ADDRESS, TRAMPOLINE_ADDRESS, WINDOW_PAGES};
@@ -49,19 +49,19 @@ fn is_in_text(address: u64) -> bool
 /// # Errors
 ///
 /// `BadTarget` where one leads neither there nor into the trampoline page.
-pub(crate) fn remember_jump(jumps: &mut Vec<Jump>, front: &Front) -> Result<(), RewriteRefusal>
-    ensures { Remembers jumps.old.items jumps.new.items front.now result }
+pub(crate) fn remember_jump(jumps: &mut Vec<Jump>, text_insn: &TextInsn) -> Result<(), RewriteRefusal>
+    ensures { Remembers jumps.old.items jumps.new.items text_insn.now result }
 {
-    let Some(target) = front.insn.direct_target(front.at) else {
+    let Some(target) = text_insn.insn.direct_target(text_insn.at) else {
         return Ok(());
     };
     if is_in_text(target) {
         jumps.push(Jump {
-            at: front.at,
+            at: text_insn.at,
             target,
         })?;
     } else if !is_in_trampoline(target) {
-        return Err(RewriteRefusal::BadTarget { at: front.at });
+        return Err(RewriteRefusal::BadTarget { at: text_insn.at });
     }
     Ok(())
 }

@@ -55,10 +55,10 @@ at_place bytes place other same stands = subst (λ (k : ℕ). HasPatternAt bytes
 
 -- ---- a place in the whole
 
--- a place before the bytes is one across their front
-spans_front : (before bytes behind : List ℕ) (place : ℕ) → length before ≤ 2 → 2 ≤ length bytes → place < length before
+-- a place before the bytes is one across their prefix
+spans_prefix : (before bytes behind : List ℕ) (place : ℕ) → length before ≤ 2 → 2 ≤ length bytes → place < length before
     → HasPatternAt (before ++ (bytes ++ behind)) place → SpansBy before bytes (length before - place)
-spans_front before bytes behind place few some early stands =
+spans_prefix before bytes behind place few some early stands =
     let all : (before ++ bytes) ++ behind ≡ before ++ (bytes ++ behind) = append_assoc before bytes behind in
     let size = length-append before bytes in
     let inside : place + 2 < length (before ++ bytes) = omega arith in
@@ -83,13 +83,13 @@ spans_end bytes behind place inside late stands = record {
   stands = at_place (bytes ++ behind) place (length bytes - (length bytes - place)) (omega arith) stands;
 }
 
--- where the pattern does not stand across the front, each place is in the bytes or behind them
-past_front : (before bytes behind : List ℕ) (place : ℕ) → length before ≤ 2 → 2 ≤ length bytes → IsSpan before bytes None
+-- where the pattern does not stand across the prefix, each place is in the bytes or behind them
+past_prefix : (before bytes behind : List ℕ) (place : ℕ) → length before ≤ 2 → 2 ≤ length bytes → IsSpan before bytes None
     → HasPatternAt (before ++ (bytes ++ behind)) place
     → (length before ≤ place) × HasPatternAt (bytes ++ behind) (place - length before)
-past_front before bytes behind place few some none stands =
+past_prefix before bytes behind place few some none stands =
     let not_early : place < length before → ⊥ =
-    λ early. none (length before - place) (spans_front before bytes behind place few some early stands) in
+    λ early. none (length before - place) (spans_prefix before bytes behind place few some early stands) in
     let late : length before ≤ place = omega arith in (
       late,
       from_behind before (bytes ++ behind) (place - length before)
@@ -98,10 +98,10 @@ past_front before bytes behind place few some none stands =
 
 -- ---- the first place
 
--- across the front
-pub front_first : (before bytes behind : List ℕ) (count : ℕ) → length before ≤ 2 → 2 ≤ length bytes → SpansBy before bytes count
+-- across the prefix
+pub prefix_first : (before bytes behind : List ℕ) (count : ℕ) → length before ≤ 2 → 2 ≤ length bytes → SpansBy before bytes count
     → HasFirstPatternAt (before ++ (bytes ++ behind)) (length before - count)
-front_first before bytes behind count few some spans =
+prefix_first before bytes behind count few some spans =
     let all : (before ++ bytes) ++ behind ≡ before ++ (bytes ++ behind) = append_assoc before bytes behind in
     let stands =
     subst (λ (whole : List ℕ). HasPatternAt whole (length before - count)) all
@@ -118,7 +118,7 @@ inside_first before bytes behind place few some none first =
     let end = ends_within bytes place first.0 in (
       behind_others before (bytes ++ behind) place (with_others bytes behind place first.0),
       λ earlier early there.
-          let past = past_front before bytes behind earlier few some none there in
+          let past = past_prefix before bytes behind earlier few some none there in
           first.1 (earlier - length before) (omega (arith, past.0))
           (in_front bytes behind (earlier - length before) (omega (arith, past.0)) past.1),
     )
@@ -133,7 +133,7 @@ end_first before bytes behind count few some none nowhere spans =
       at_place (before ++ (bytes ++ behind)) _ _ place
           (behind_others before (bytes ++ behind) (length bytes - count) spans.stands),
       λ earlier early there.
-          let past = past_front before bytes behind earlier few some none there in
+          let past = past_prefix before bytes behind earlier few some none there in
           let sooner : earlier - length before < length bytes - count = omega (arith, past.0) in
           let far = apart (bytes ++ behind) (earlier - length before) (length bytes - count) past.1 spans.stands (omega arith) in
           nowhere (earlier - length before) (in_front bytes behind (earlier - length before) (omega arith) past.1),
@@ -153,6 +153,6 @@ early_or_late bytes behind place few nowhere none stands =
 pub none_first : (before bytes behind : List ℕ) → length before ≤ 2 → 2 ≤ length bytes → length behind ≤ 2
     → IsSpan before bytes None → HasNoPattern bytes
     → IsSpan bytes behind None → HasNoPattern (before ++ (bytes ++ behind))
-none_first before bytes behind few some few_behind front nowhere end = λ place stands.
-    let past = past_front before bytes behind place few some front stands in
+none_first before bytes behind few some few_behind prefix nowhere end = λ place stands.
+    let past = past_prefix before bytes behind place few some prefix stands in
     early_or_late bytes behind (place - length before) few_behind nowhere end past.1

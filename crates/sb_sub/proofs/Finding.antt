@@ -140,9 +140,9 @@ module _ (kernel : Kernel) (root : RootKernel) (book : Book) (memory : Physical)
         let there = page_there page below in
         ap (λ (found : Option Frame). pattern_where memory page (frame_before memory entry.set page) found
         (frame_behind memory entry.set page count)) (frame_read page below)
-        ∙ (ap (λ (front : List ℕ). option_map (heap_address page (length front))
+        ∙ (ap (λ (prefix : List ℕ). option_map (heap_address page (length prefix))
         (first_pattern
-        (front ++
+        (prefix ++
         (frame_bytes memory (Some (record { 0 = stands.placement.frame (Heap process page) })) ++ take 2
         (frame_bytes memory (frame_behind memory entry.set page count)))))) before_same
         ∙ (ap (λ (bytes : List ℕ). option_map (heap_address page (length (bytes_before state process page)))

@@ -143,9 +143,9 @@ fn pattern_among(
     requires behind { IfSome behind (λ frame. frame.0 < frame_count memory.now) }
     ensures { result ≡ pattern_by memory.now page before found behind }
 {
-    let front = last_two(frame_bytes(memory, before));
+    let prefix = last_two(frame_bytes(memory, before));
     let bytes = frame_bytes(memory, Some(found));
     let end = first_two(frame_bytes(memory, behind));
-    let place = first_place(front, bytes, end)?;
-    Some(heap_address(page).0 + (place as u64) - (front.len() as u64))
+    let place = first_place(prefix, bytes, end)?;
+    Some(heap_address(page).0 + (place as u64) - (prefix.len() as u64))
 }

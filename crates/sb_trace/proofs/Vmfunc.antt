@@ -11,13 +11,13 @@ use Rattle.sb_insn.specs.declared.insn.Imm.{Imm}
 use Rattle.sb_insn.specs.declared.insn.Imm.TheVariants as imm
 use Rattle.sb_insn.specs.OpcodeMap.{cell_of}
 use Rattle.sb_insn.specs.Fields.{is_modrm_field, is_sib_field, disp_kind_of, kind_of_disp, rule_of, imm_kind_of, kind_of_imm}
-use Rattle.sb_insn.specs.Spelling.{spelling, front_bytes, disp_bytes, imm_bytes}
+use Rattle.sb_insn.specs.Spelling.{spelling, lead_bytes, disp_bytes, imm_bytes}
 use Rattle.sb_insn.specs.Grammar.{IsValid}
 use Rattle.sb_bus.specs.declared.stop.BusStop.{BusStop}
 use Rattle.sb_exec.specs.Fetching.{Stands, Fetches}
 use Rattle.sb_scan.specs.Pattern.{pattern}
 use Rattle.sb_tramp.specs.Forms.{opcode_alone}
-use Rattle.sb_exec.proofs.OneFetch.{short_fronts}
+use Rattle.sb_exec.proofs.OneFetch.{short_prefixes}
 
 -- ---- its spelling
 
@@ -25,7 +25,7 @@ spelled_by : (lock : Bool) (rex modrm sib : Option ℕ) (displacement : Disp) (i
     → IsTrue (is_modrm_field (cell_of Vmfunc) lock rex modrm)
     → IsTrue (is_sib_field modrm sib) → kind_of_disp displacement ≡ disp_kind_of modrm sib
     → kind_of_imm immediate ≡ imm_kind_of (rule_of (cell_of Vmfunc) modrm) rex
-    → front_bytes lock rex Vmfunc ++
+    → lead_bytes lock rex Vmfunc ++
     (option_to_list modrm ++ (option_to_list sib ++ (disp_bytes displacement ++ imm_bytes immediate))) ≡ pattern
 spelled_by lock rex (Some modrm) sib displacement immediate is_modrm is_sib disp_is imm_is = absurd cc
 spelled_by true rex None sib displacement immediate is_modrm is_sib disp_is imm_is = absurd cc
@@ -40,7 +40,7 @@ spelled_by false None None None disp.None imm.None is_modrm is_sib disp_is imm_i
 
 pub vmfunc_spelled : (insn : Insn) → IsValid insn → insn.op ≡ Vmfunc → spelling insn ≡ pattern
 vmfunc_spelled insn valid is =
-    ap (λ (op : Op). front_bytes insn.lock insn.rex op ++
+    ap (λ (op : Op). lead_bytes insn.lock insn.rex op ++
     (option_to_list insn.modrm ++ (option_to_list insn.sib ++ (disp_bytes insn.disp ++ imm_bytes insn.imm)))) is
     ∙ spelled_by insn.lock insn.rex insn.modrm insn.sib insn.disp insn.imm
     (subst (λ (op : Op). IsTrue (is_modrm_field (cell_of op) insn.lock insn.rex insn.modrm)) is valid.modrm) valid.sib valid.disp
@@ -49,12 +49,12 @@ vmfunc_spelled insn valid is =
 pub vmfunc_valid : IsValid (opcode_alone Vmfunc)
 vmfunc_valid = search rules
 
--- ---- fronts of a spelling
+-- ---- prefixes of a spelling
 
-longer_front : (whole rest : List ℕ) (count : ℕ) (front : List ℕ) → length front ≡ count → count < length whole
-    → front ≡ whole ++ rest → ⊥
-longer_front whole rest count front size below is =
-    let sum : length front ≡ length whole + length rest = ap length is ∙ length-append whole rest in omega (arith, sum)
+longer_prefix : (whole rest : List ℕ) (count : ℕ) (prefix : List ℕ) → length prefix ≡ count → count < length whole
+    → prefix ≡ whole ++ rest → ⊥
+longer_prefix whole rest count prefix size below is =
+    let sum : length prefix ≡ length whole + length rest = ap length is ∙ length-append whole rest in omega (arith, sum)
 
 -- ---- fetching
 
@@ -71,6 +71,6 @@ vmfunc_fetched fetch address stands =
     record {
       bytes = pattern;
       stands = stands;
-      fronts = short_fronts (opcode_alone Vmfunc) vmfunc_valid;
+      prefixes = short_prefixes (opcode_alone Vmfunc) vmfunc_valid;
       ends = ((vmfunc_valid, refl), refl);
     }

@@ -100,7 +100,7 @@ HasOneSwitch state =
 abbrev pub OnePattern : Type 0
 OnePattern = (state : State) → IsSound state → HasOneSwitch state
 
--- the same of each state of a run: each front of it ends in one
+-- the same of each state of a run: each prefix of it ends in one
 abbrev pub KeepsOneSwitch : State → List ℕ → List Line → Type 0
 KeepsOneSwitch first schedule lines =
     (count : ℕ) (state : State) → Runs first (take count schedule) (take count lines) state → HasOneSwitch state

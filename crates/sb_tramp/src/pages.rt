@@ -101,8 +101,8 @@ fn put(into: &mut [u8], code: &[u8])
     requires { length code.now ≤ length into.old }
     ensures { into.new ≡ code.now ++ filler (length into.old - length code.now) }
 {
-    let (front, rest) = into.split_at_mut(code.len());
-    front.copy_from_slice(code);
+    let (prefix, rest) = into.split_at_mut(code.len());
+    prefix.copy_from_slice(code);
     rest.fill(FILLER);
 }
 

@@ -7,7 +7,7 @@ use Rattle.std.proofs.lemmas.Map.Views.{Contains-from_any}
 use Rattle.sb_memory.specs.declared.page.TheConstants.{PAGE_SIZE}
 use Rattle.sb_abi.specs.declared.trampoline.TheConstants.{TRAMPOLINE_ADDRESS}
 use Rattle.sb_rewrite.specs.Target.{direct_target, MayLeadTo, IsBadTarget}
-use Rattle.sb_rewrite.specs.Placing.{Place}
+use Rattle.sb_rewrite.specs.Placing.{Placement}
 use Rattle.sb_rewrite.specs.Rewriting.{NoneOf, HasBadTarget}
 
 -- the target is in the trampoline or a start
@@ -22,7 +22,7 @@ is_good_target starts None = true
 is_good_target starts (Some target) = may_lead_to starts target
 
 -- each of the instructions passes the test
-abbrev pub all_lead_well : List ℕ → List Place → Bool
+abbrev pub all_lead_well : List ℕ → List Placement → Bool
 all_lead_well starts [] = true
 all_lead_well starts (place ∷ places) = is_good_target starts (direct_target place.insn place.at) && all_lead_well starts places
 
@@ -42,7 +42,7 @@ not_bad starts None e = λ bad. bad
 not_bad starts (Some target) e = λ bad. bad (may_lead starts target e)
 
 -- where the test passes, no target is bad
-pub none_bad : (starts : List ℕ) (places : List Place) → all_lead_well starts places ≡ true → NoneOf (HasBadTarget starts) places
+pub none_bad : (starts : List ℕ) (places : List Placement) → all_lead_well starts places ≡ true → NoneOf (HasBadTarget starts) places
 none_bad starts [] e = tt
 none_bad starts (place ∷ places) e =
     let parts = and_parts (is_good_target starts (direct_target place.insn place.at)) (all_lead_well starts places) e in

@@ -10,7 +10,7 @@ use Rattle.sb_forms.specs.declared.answer.Form.TheVariants as form
 use Rattle.sb_forms.specs.Table.{is_vmfunc, is_add_esp_edx, replacement, form_of}
 use Rattle.sb_forms.proofs.Quiet.{IsQuiet, AreQuiet, in_place_clean}
 use Rattle.sb_rewrite.specs.Listing.{text_address, spelled_bytes, AllValid}
-use Rattle.sb_rewrite.specs.Placing.{Place, places_from, area_address, is_after_0f}
+use Rattle.sb_rewrite.specs.Placing.{Placement, places_from, area_address, is_after_0f}
 use Rattle.sb_rewrite.specs.Output.{output, text_bytes, area_bytes}
 use Rattle.sb_rewrite.specs.Rewriting.{NoneOf, IsUnmovable, EndsBehindArea, LeadsWell, Rewrites}
 
@@ -24,14 +24,14 @@ abbrev pub AllPlain : List Insn → Type 0
 AllPlain insns = AllByRecursion IsPlain insns
 
 -- an instruction that is kept; the next slot is the first one
-abbrev pub kept_place : ℕ → Insn → Place
+abbrev pub kept_place : ℕ → Insn → Placement
 kept_place at insn = record { insn = insn; at = at; slot = area_address; form = form.Keep }
 
-abbrev pub kept_from : ℕ → List Insn → List Place
+abbrev pub kept_from : ℕ → List Insn → List Placement
 kept_from at [] = []
 kept_from at (insn ∷ insns) = kept_place at insn ∷ kept_from (at + length (spelling insn)) insns
 
-abbrev pub kept : List Insn → List Place
+abbrev pub kept : List Insn → List Placement
 kept insns = kept_from text_address insns
 
 -- ---- the places of plain instructions
@@ -48,7 +48,7 @@ unfolding places_from
 all_stay text at [] plain = refl
 all_stay text at (insn ∷ insns) plain =
     rw (stays insn at area_address (is_after_0f text at) plain.0)
-    (ap (λ (rest : List Place). kept_place at insn ∷ rest) (all_stay text (at + length (spelling insn)) insns plain.1))
+    (ap (λ (rest : List Placement). kept_place at insn ∷ rest) (all_stay text (at + length (spelling insn)) insns plain.1))
 
 -- ---- what is made of them
 
@@ -74,7 +74,7 @@ area_empty at (insn ∷ insns) = area_empty (at + length (spelling insn)) insns
 
 -- ---- the bytes of VMFUNC stand nowhere
 
--- the bytes do not stand in one instruction nor across its front
+-- the bytes do not stand in one instruction nor across its prefix
 all_quiet : (insns : List Insn) → AllPlain insns → AreQuiet insns
 all_quiet [] plain = tt
 all_quiet (insn ∷ insns) plain = (plain.0.quiet, all_quiet insns plain.1)

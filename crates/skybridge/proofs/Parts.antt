@@ -1,4 +1,4 @@
--- A front of a text that was written.
+-- A prefix of a text that was written.
 use Rattle.std.proofs.Common.{◌≡◌, ℕ, ◌++◌, List, Option, Some, None, Result, Ok, Err, String, length, take, ap, sym, subst, ◌∙◌}
 use Rattle.std.specs.Prelude.{OnOk, OnErr, IfOk, IfErr, MatchResult, string_bytes}
 use Rattle.std.proofs.Math.Seq.{take-length}
@@ -8,10 +8,10 @@ use Rattle.skybridge.specs.declared.top.Status.{Status}
 use Rattle.skybridge.specs.declared.top.Status.TheVariants.{LoadRefused, NoMemory}
 use Rattle.skybridge.specs.Output.{PartlyAppended, WritesLine}
 
-front_appended : (held held' : Option (List ℕ)) (text : List ℕ) (count : ℕ) → Appended held held' (take count text)
+prefix_appended : (held held' : Option (List ℕ)) (text : List ℕ) (count : ℕ) → Appended held held' (take count text)
     → PartlyAppended held held' text
-front_appended None held' text count appended = tt
-front_appended (Some held) held' text count appended = (count, appended)
+prefix_appended None held' text count appended = tt
+prefix_appended (Some held) held' text count appended = (count, appended)
 
 whole_appended : (held held' : Option (List ℕ)) (text : List ℕ) → Appended held held' text → PartlyAppended held held' text
 whole_appended None held' text appended = tt
@@ -28,7 +28,7 @@ line_written held held' faults faults' line (Ok done) ok err rose = record {
   whole = λ quiet. ok;
 }
 line_written held held' faults faults' line (Err fault) ok err rose = record {
-  part = front_appended held held' line fault.written err;
+  part = prefix_appended held held' line fault.written err;
   whole = λ quiet. absurd (quiet rose);
 }
 

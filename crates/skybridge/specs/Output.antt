@@ -34,7 +34,7 @@ abbrev pub WhereTold : Option (List ℕ) → (List ℕ → Type 0) → Type 0
 WhereTold None claim = Unit {0}
 WhereTold (Some bytes) claim = claim bytes
 
--- a front of the text was appended
+-- a prefix of the text was appended
 abbrev pub PartlyAppended : Option (List ℕ) → Option (List ℕ) → List ℕ → Type 0
 PartlyAppended None held' text = Unit {0}
 PartlyAppended (Some held) held' text = (count : ℕ) × (held' ≡ Some (held ++ take count text))
@@ -79,7 +79,7 @@ WroteOf command left left' held held' = (text : List ℕ) × IsMade command text
 abbrev pub Wrote : List (List ℕ) → Option (List ℕ) → Option (List ℕ) → Option (List ℕ) → Option (List ℕ) → Type 0
 Wrote words left left' held held' = (command : Command) × AreWordsOf command words × WroteOf command left left' held held'
 
--- the same with a front of the text
+-- the same with a prefix of the text
 abbrev pub PartlyReported : BundleCommand → Option (List ℕ) → Option (List ℕ) → Option (List ℕ) → Option (List ℕ) → Type 0
 PartlyReported command left left' held held' =
     (bundle : Bundle) × (text : List ℕ) × WhereTold left (WasRead left' bundle) × IsOutput command bundle text

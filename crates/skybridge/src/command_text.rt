@@ -23,7 +23,7 @@ pub fn check_text(alloc: Global, loaded: &Loaded) -> Result<String, AllocError>
 fn bytes_at(bytes: &[u8], first: u64, at: u64, count: u8) -> &[u8]
     ensures { result.now ≡ bytes_at bytes.now first at count }
 {
-    front(behind(bytes, at.saturating_sub(first)), usize::from(count))
+    prefix(behind(bytes, at.saturating_sub(first)), usize::from(count))
 }
 
 fn behind(bytes: &[u8], count: u64) -> &[u8]
@@ -32,7 +32,7 @@ fn behind(bytes: &[u8], count: u64) -> &[u8]
     &bytes[(count as usize).min(bytes.len())..]
 }
 
-fn front(bytes: &[u8], count: usize) -> &[u8]
+fn prefix(bytes: &[u8], count: usize) -> &[u8]
     ensures { result.now ≡ take count bytes.now }
 {
     &bytes[..count.min(bytes.len())]

@@ -499,7 +499,7 @@ fn a_fault_of_the_source_is_told(rt: HostRuntime) -> Result<(), Fail> {
 }
 
 #[test]
-fn a_fault_of_the_sink_leaves_a_front(rt: HostRuntime) -> Result<(), Fail> {
+fn a_fault_of_the_sink_leaves_a_prefix(rt: HostRuntime) -> Result<(), Fail> {
     let alloc = rt.alloc();
     // The sink takes 16 bytes a call, and its third call fails.
     let five = bundle(alloc, 576, &FIVE, 0, 5)?;

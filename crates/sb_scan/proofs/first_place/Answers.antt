@@ -1,13 +1,13 @@
--- The first place is across the front, in the bytes or across their end, as the three searches say.
+-- The first place is across the prefix, in the bytes or across their end, as the three searches say.
 use Rattle.std.proofs.Common.{subst, sym}
 use Rattle.std.specs.Prelude.{ℕ, Option, ◌++◌}
 use Rattle.sb_scan.specs.Pattern.{IsFirstPattern}
-use Rattle.sb_scan.proofs.Borders.{front_first, inside_first, end_first, none_first}
+use Rattle.sb_scan.proofs.Borders.{prefix_first, inside_first, end_first, none_first}
 use Rattle.sb_scan.proofs.first_place.Goals as goal
 
 pub returns-in-Some-clause-place : goal.returns-in-Some-clause-place
 returns-in-Some-clause-place c =
-    front_first c.args.before.now c.args.bytes.now c.args.behind.now c.in-Some.count c.requires.before c.requires.bytes
+    prefix_first c.args.before.now c.args.bytes.now c.args.behind.now c.in-Some.count c.requires.before c.requires.bytes
     c.in-Some.ensures
 
 pub returns-in-Some-find_pattern-clause-place : goal.returns-in-Some-find_pattern-clause-place

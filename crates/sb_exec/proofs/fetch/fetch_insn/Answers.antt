@@ -2,24 +2,24 @@ use Rattle.std.proofs.Common.{◌≡◌, ◌<◌, ℕ, suc, Ok, Err, length, tak
 use Rattle.std.proofs.lemmas.Result.{err_from_is_err_and}
 use Rattle.sb_insn.specs.Grammar.{Spells, IsShort}
 use Rattle.sb_exec.specs.Fetching.{bytes_from_fetch, fetch_of}
-use Rattle.sb_exec.proofs.Fetched.{no_fronts, more_fronts, more_stands, spelled_whole}
+use Rattle.sb_exec.proofs.Fetched.{no_prefixes, more_prefixes, more_stands, spelled_whole}
 use Rattle.sb_exec.proofs.fetch.fetch_insn.Goals as goal
 
 pub loop-insn-init : goal.loop-insn-init
 loop-insn-init g c =
-    record { stands = search rules; fronts = no_fronts; within = search rules; same = refl; kept = refl; account = refl }
+    record { stands = search rules; prefixes = no_prefixes; within = search rules; same = refl; kept = refl; account = refl }
 
 pub returns-in-Ok-clause-fetched : goal.returns-in-Ok-clause-fetched
 returns-in-Ok-clause-fetched g c =
     let long : length (take c.loop-insn.len c.loop-insn.bytes) ≡ c.loop-insn.len = search rules in
     let spelled : Spells (take c.loop-insn.len c.loop-insn.bytes) c.in-Ok.insn =
-    spelled_whole (take c.loop-insn.len c.loop-insn.bytes) c.in-Ok.insn c.in-Ok.ensures.answer.0 c.loop-insn.invariant.fronts in
+    spelled_whole (take c.loop-insn.len c.loop-insn.bytes) c.in-Ok.insn c.in-Ok.ensures.answer.0 c.loop-insn.invariant.prefixes in
     record {
       asked = c.loop-insn.len;
       fetched = record {
         bytes = take c.loop-insn.len c.loop-insn.bytes;
         stands = c.loop-insn.invariant.stands;
-        fronts = c.loop-insn.invariant.fronts;
+        prefixes = c.loop-insn.invariant.prefixes;
         ends = (spelled, sym long);
       };
       account = c.loop-insn.invariant.account;
@@ -43,7 +43,7 @@ returns-in_err-bytes-in-Err-Short-clause-fetched g c =
       fetched = record {
         bytes = take c.loop-insn.len c.loop-insn.bytes;
         stands = c.loop-insn.invariant.stands;
-        fronts = c.loop-insn.invariant.fronts;
+        prefixes = c.loop-insn.invariant.prefixes;
         ends = inr (short, at_end, ap (λ (n : ℕ). suc n) (sym long));
       };
       account = search rules;
@@ -61,8 +61,8 @@ loop-insn-preserved g c =
           more_stands (fetch_of g.B.Bus.interface (g.B.Bus.meaning c.args.bus.now)) c.args.rip c.loop-insn.len
           c.in_ok-bytes-in-Err-Short.field-0
           c.loop-insn.bytes inside c.loop-insn.invariant.stands next;
-      fronts =
-          more_fronts c.loop-insn.len c.in_ok-bytes-in-Err-Short.field-0 c.loop-insn.bytes inside c.loop-insn.invariant.fronts
+      prefixes =
+          more_prefixes c.loop-insn.len c.in_ok-bytes-in-Err-Short.field-0 c.loop-insn.bytes inside c.loop-insn.invariant.prefixes
           short;
       within = search rules;
       same = search rules;

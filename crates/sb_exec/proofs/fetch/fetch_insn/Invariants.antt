@@ -1,11 +1,11 @@
 use Rattle.std.proofs.Common.{◌≡◌, ◌-◌, ◌≤◌, take}
-use Rattle.sb_exec.specs.Fetching.{Stands, HasShortFronts, fetch_of, after_fetches}
+use Rattle.sb_exec.specs.Fetching.{Stands, HasShortPrefixes, fetch_of, after_fetches}
 use Rattle.sb_exec.proofs.fetch.fetch_insn.Given as goal
 
 abbrev pub invariant-loop-insn : goal.invariant-loop-insn
 invariant-loop-insn g l = record {
   stands : Stands (fetch_of g.B.Bus.interface (g.B.Bus.meaning l.fn.bus)) l.rip (take l.len l.bytes);
-  fronts : HasShortFronts (take l.len l.bytes);
+  prefixes : HasShortPrefixes (take l.len l.bytes);
   within : l.len ≤ 13;
   same : g.B.Bus.meaning l.bus ≡ g.B.Bus.meaning l.fn.bus;
   kept : g.B.Bus.kept l.bus ≡ g.B.Bus.kept l.fn.bus;

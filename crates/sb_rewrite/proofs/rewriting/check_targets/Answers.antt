@@ -8,19 +8,19 @@ use Rattle.sb_rewrite.proofs.rewriting.check_targets.Goals as goal
 pub loop-rest-init : goal.loop-rest-init
 loop-rest-init c = no_target_checked _ _ c.requires
 
-pub returns-in_err-front : goal.returns-in_err-front
-returns-in_err-front c =
+pub returns-in_err-text_insn : goal.returns-in_err-text_insn
+returns-in_err-text_insn c =
     let some : 0 < length c.loop-rest.rest.now = search rules in
-    absurd (never_stuck _ _ _ _ c.loop-rest.invariant.reads some c.in_err-front.ensures.1)
+    absurd (never_stuck _ _ _ _ c.loop-rest.invariant.reads some c.in_err-text_insn.ensures.1)
 
 pub returns-then-is_bad_target : goal.returns-then-is_bad_target
 returns-then-is_bad_target c =
-    bad_target_here _ _ _ _ c.loop-rest.invariant c.in_ok-front.ensures
+    bad_target_here _ _ _ _ c.loop-rest.invariant c.in_ok-text_insn.ensures
     (rw c.direct_target.ensures at (c.is_bad_target.ensures.0 c.if-is_bad_target.true))
 
 pub loop-rest-preserved : goal.loop-rest-preserved
 loop-rest-preserved c =
-    good_target_here _ _ _ _ c.loop-rest.invariant c.in_ok-front.ensures
+    good_target_here _ _ _ _ c.loop-rest.invariant c.in_ok-text_insn.ensures
     (λ bad. false≢true (sym c.if-is_bad_target.false ∙ c.is_bad_target.ensures.1 (rw c.direct_target.ensures bad)))
 
 pub returns : goal.returns

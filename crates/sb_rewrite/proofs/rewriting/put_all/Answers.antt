@@ -10,11 +10,11 @@ use Rattle.sb_rewrite.proofs.rewriting.put_all.Goals as goal
 pub loop-rest-init : goal.loop-rest-init
 loop-rest-init c = rw c.new-draft.ensures (nothing_put _ _ c.new-jumps.ensures.items)
 
-pub returns-in_err-front : goal.returns-in_err-front
-returns-in_err-front c =
+pub returns-in_err-text_insn : goal.returns-in_err-text_insn
+returns-in_err-text_insn c =
     let some : 0 < length c.loop-rest.rest.now = search rules in
     let error = err_from_is_err_and c.from_residual.result c.from_residual.ensures.1 in
-    rw (error.1, error.2) (front_refused _ _ _ _ _ c.loop-rest.invariant some c.in_err-front.ensures)
+    rw (error.1, error.2) (front_refused _ _ _ _ _ c.loop-rest.invariant some c.in_err-text_insn.ensures)
 
 pub returns-in_err-remember_jump : goal.returns-in_err-remember_jump
 returns-in_err-remember_jump c =
@@ -23,27 +23,27 @@ returns-in_err-remember_jump c =
       error.1,
       error.2,
     )
-    (jump_refused _ _ _ _ c.remember_jump.new.jumps.items _ _ c.loop-rest.invariant c.in_ok-front.ensures c.requires
+    (jump_refused _ _ _ _ c.remember_jump.new.jumps.items _ _ c.loop-rest.invariant c.in_ok-text_insn.ensures c.requires
     c.in_err-remember_jump.ensures)
 
-pub put_front-requires-clause-form : goal.put_front-requires-clause-form
-put_front-requires-clause-form c =
+pub put_text_insn-requires-clause-form : goal.put_text_insn-requires-clause-form
+put_text_insn-requires-clause-form c =
     let some : 0 < length c.loop-rest.rest.now = search rules in
-    form_asks_here not_in_jumps _ _ _ c.requires c.in_ok-front.ensures some c.in_ok-remember_jump.ensures.0
+    form_asks_here not_in_jumps _ _ _ c.requires c.in_ok-text_insn.ensures some c.in_ok-remember_jump.ensures.0
 
-pub returns-in_err-put_front : goal.returns-in_err-put_front
-returns-in_err-put_front c =
-    let error = err_from_is_err_and c.from_residual-in_err-put_front.result c.from_residual-in_err-put_front.ensures.1 in
+pub returns-in_err-put_text_insn : goal.returns-in_err-put_text_insn
+returns-in_err-put_text_insn c =
+    let error = err_from_is_err_and c.from_residual-in_err-put_text_insn.result c.from_residual-in_err-put_text_insn.ensures.1 in
     rw (
       error.1,
       error.2,
     )
-    (put_refused _ _ _ c.put_front.new.draft _ _ _ c.loop-rest.invariant c.in_ok-front.ensures c.in_err-put_front.ensures)
+    (put_refused _ _ _ c.put_text_insn.new.draft _ _ _ c.loop-rest.invariant c.in_ok-text_insn.ensures c.in_err-put_text_insn.ensures)
 
 pub loop-rest-preserved : goal.loop-rest-preserved
 loop-rest-preserved c =
     let remembered = c.in_ok-remember_jump.ensures in
-    one_put _ _ _ _ _ _ _ c.loop-rest.invariant c.in_ok-front.ensures remembered.0 remembered.1 c.in_ok-put_front.ensures
+    one_put _ _ _ _ _ _ _ c.loop-rest.invariant c.in_ok-text_insn.ensures remembered.0 remembered.1 c.in_ok-put_text_insn.ensures
 
 pub check_jumps-requires : goal.check_jumps-requires
 check_jumps-requires c =

@@ -1,7 +1,7 @@
 //! The first instruction of the rest of a text.
 
 ghost use Rattle.std.specs.Prelude.{◌≤◌, ◌<◌, ◌≡◌, ◌+◌, ℕ, length};
-ghost use Rattle.sb_rewrite.specs.Turns.{DecodesFront};
+ghost use Rattle.sb_rewrite.specs.Turns.{DecodesFirst};
 
 use crate::refusal::RewriteRefusal;
 use sb_abi::TEXT_ADDRESS;
@@ -10,7 +10,7 @@ use sb_insn::Insn;
 
 /// The first instruction of the rest of a text.
 #[derive(Clone, Copy, Debug)]
-pub struct Front<'a> {
+pub struct TextInsn<'a> {
     /// Its address.
     pub at: u64,
     pub insn: Insn,
@@ -25,13 +25,13 @@ pub struct Front<'a> {
 /// # Errors
 ///
 /// `Undecoded` where no whole instruction begins the rest.
-pub fn decode_front<'a>(text: &[u8], rest: &'a [u8]) -> Result<Front<'a>, RewriteRefusal>
+pub fn decode_first<'a>(text: &[u8], rest: &'a [u8]) -> Result<TextInsn<'a>, RewriteRefusal>
     requires { length rest.now ≤ length text.now }
-    ensures { DecodesFront text.now rest.now result }
+    ensures { DecodesFirst text.now rest.now result }
 {
     let at = TEXT_ADDRESS + (text.len() - rest.len()) as u64;
     match decode(rest) {
-        Ok((insn, length)) => Ok(Front {
+        Ok((insn, length)) => Ok(TextInsn {
             at,
             insn,
             bytes: &rest[..length],

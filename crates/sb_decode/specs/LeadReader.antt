@@ -1,4 +1,4 @@
--- Reading the front of an instruction: its prefixes and its opcode.
+-- Reading the lead of an instruction: its prefixes and its opcode.
 use Rattle.std.specs.Prelude.{ℕ, Bool, true, false, not, ◌&&◌, ◌||◌, ◌==◌, if◌then◌else◌, List, [], ◌∷◌, Option, Some, None, Ok, Err}
 use Rattle.sb_insn.specs.declared.insn.Op.{Op}
 use Rattle.sb_insn.specs.declared.insn.Op.TheVariants.{One, Two, Endbr, Vmfunc}
@@ -9,11 +9,11 @@ use Rattle.sb_insn.specs.declared.opcode_map.Cell.TheVariants.{Absent, NoModRm, 
 use Rattle.sb_insn.specs.OpcodeMap.{cell_of}
 use Rattle.sb_insn.specs.Fields.{is_rex, permits_rex}
 use Rattle.sb_decode.specs.declared.fault.DecodeFault.TheVariants.{Short, Undecoded}
-use Rattle.sb_decode.specs.declared.front.Front.{Front}
+use Rattle.sb_decode.specs.declared.lead.Lead.{Lead}
 use Rattle.sb_decode.specs.Reading.{Read}
 
-abbrev pub front_of : Bool → Option ℕ → Op → Front
-front_of lock rex op = record { lock = lock; rex = rex; op = op }
+abbrev pub lead_of : Bool → Option ℕ → Op → Lead
+lead_of lock rex op = record { lock = lock; rex = rex; op = op }
 
 -- ---- does the opcode go with the prefixes?
 
@@ -33,48 +33,48 @@ takes_prefixes (NoModRm plain) lock rex = not lock && permits_rex plain.rex rex
 takes_prefixes (ModRm operand) lock rex = not lock || operand.lock
 takes_prefixes (Extended group form imm) lock rex = not lock || group_locks group
 
-abbrev pub is_front : Front → Bool
-is_front front = takes_prefixes (cell_of front.op) front.lock front.rex
+abbrev pub is_lead : Lead → Bool
+is_lead lead = takes_prefixes (cell_of lead.op) lead.lock lead.rex
 
--- the whole front is read: does its opcode go with its prefixes?
-abbrev pub checked_front : Front → List ℕ → Read Front
-checked_front front rest = if is_front front then Ok (front, rest) else Err Undecoded
+-- the whole lead is read: does its opcode go with its prefixes?
+abbrev pub checked_lead : Lead → List ℕ → Read Lead
+checked_lead lead rest = if is_lead lead then Ok (lead, rest) else Err Undecoded
 
 -- ---- opcodes of more bytes
 
 -- these bytes, and no others, may stand here
-abbrev pub expected_byte : List ℕ → Front → List ℕ → Read Front
-expected_byte [] front bytes = Ok (front, bytes)
-expected_byte (want ∷ wanted) front [] = Err Short
-expected_byte (want ∷ wanted) front (byte ∷ rest) = if byte == want then expected_byte wanted front rest else Err Undecoded
+abbrev pub expected_byte : List ℕ → Lead → List ℕ → Read Lead
+expected_byte [] lead bytes = Ok (lead, bytes)
+expected_byte (want ∷ wanted) lead [] = Err Short
+expected_byte (want ∷ wanted) lead (byte ∷ rest) = if byte == want then expected_byte wanted lead rest else Err Undecoded
 
 -- an opcode whose last bytes are these
-abbrev pub ending : List ℕ → Front → List ℕ → Read Front
-ending wanted front bytes = if is_front front then expected_byte wanted front bytes else Err Undecoded
+abbrev pub ending : List ℕ → Lead → List ℕ → Read Lead
+ending wanted lead bytes = if is_lead lead then expected_byte wanted lead bytes else Err Undecoded
 
--- ---- the front
+-- ---- the lead
 
 -- behind 0F: the two-byte map, and VMFUNC
-unfoldable pub second_at : Bool → Option ℕ → List ℕ → Read Front
+unfoldable pub second_at : Bool → Option ℕ → List ℕ → Read Lead
 second_at lock rex [] = Err Short
 second_at lock rex (opcode ∷ rest) =
-    if opcode == 0x01 then ending (0xD4 ∷ []) (front_of lock rex Vmfunc) rest
-    else checked_front (front_of lock rex (Two opcode)) rest
+    if opcode == 0x01 then ending (0xD4 ∷ []) (lead_of lock rex Vmfunc) rest
+    else checked_lead (lead_of lock rex (Two opcode)) rest
 
 -- behind the prefixes: the one-byte map, the way to the two-byte map, and ENDBR64
-unfoldable pub opcode_at : Bool → Option ℕ → List ℕ → Read Front
+unfoldable pub opcode_at : Bool → Option ℕ → List ℕ → Read Lead
 opcode_at lock rex [] = Err Short
 opcode_at lock rex (opcode ∷ rest) =
     if opcode == 0x0F then second_at lock rex rest
-    else if opcode == 0xF3 then ending (0x0F ∷ 0x1E ∷ 0xFA ∷ []) (front_of lock rex Endbr) rest
-    else checked_front (front_of lock rex (One opcode)) rest
+    else if opcode == 0xF3 then ending (0x0F ∷ 0x1E ∷ 0xFA ∷ []) (lead_of lock rex Endbr) rest
+    else checked_lead (lead_of lock rex (One opcode)) rest
 
 -- behind LOCK: REX, if it stands
-unfoldable pub rex_at : Bool → List ℕ → Read Front
+unfoldable pub rex_at : Bool → List ℕ → Read Lead
 rex_at lock [] = Err Short
 rex_at lock (byte ∷ rest) = if is_rex byte then opcode_at lock (Some byte) rest else opcode_at lock None (byte ∷ rest)
 
 -- LOCK, if it stands
-unfoldable pub front_at : List ℕ → Read Front
-front_at [] = Err Short
-front_at (byte ∷ rest) = if byte == 0xF0 then rex_at true rest else rex_at false (byte ∷ rest)
+unfoldable pub lead_at : List ℕ → Read Lead
+lead_at [] = Err Short
+lead_at (byte ∷ rest) = if byte == 0xF0 then rex_at true rest else rex_at false (byte ∷ rest)

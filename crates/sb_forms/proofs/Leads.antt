@@ -8,7 +8,7 @@ use Rattle.sb_insn.specs.declared.insn.Op.TheVariants.{One, Two, Endbr, Vmfunc}
 use Rattle.sb_insn.specs.declared.opcode_map.Cell.{Cell}
 use Rattle.sb_insn.specs.declared.opcode_map.Cell.TheVariants.{Absent}
 use Rattle.sb_insn.specs.OpcodeMap.{one_byte, two_byte, cell_of}
-use Rattle.sb_insn.specs.Spelling.{lock_bytes, op_bytes, front_bytes}
+use Rattle.sb_insn.specs.Spelling.{lock_bytes, op_bytes, lead_bytes}
 use Rattle.sb_insn.specs.Fields.{is_rex_field, is_modrm_field}
 use Rattle.sb_forms.specs.Holding.{begins_with, holds_pattern}
 use Rattle.sb_forms.specs.Rex.{rex_r, rex_x, rex_b, rex_byte, with_r_b, with_x_b_exchanged}
@@ -95,7 +95,7 @@ valid_op (Two opcode) lock rex modrm other e = (
 valid_op Endbr lock rex modrm other e = tt
 valid_op Vmfunc lock rex modrm other e = absurd cc
 
--- ---- the pattern does not begin in the front
+-- ---- the pattern does not begin in the lead
 
 op_holds : (op : Op) (rest : List ℕ) → IsOpcode op → holds_pattern (op_bytes op ++ rest) ≡ holds_pattern rest
 unfolding holds_pattern
@@ -114,9 +114,9 @@ lock_holds : (lock : Bool) (rest : List ℕ) → holds_pattern (lock_bytes lock 
 lock_holds false rest = refl
 lock_holds true rest = skip 0xF0 rest (λ is. omega (arith, is))
 
-pub front_holds : (lock : Bool) (rex : Option ℕ) (op : Op) (rest : List ℕ) → IsRex rex → IsOpcode op
-    → holds_pattern (front_bytes lock rex op ++ rest) ≡ holds_pattern rest
-front_holds lock rex op rest range known =
+pub lead_holds : (lock : Bool) (rex : Option ℕ) (op : Op) (rest : List ℕ) → IsRex rex → IsOpcode op
+    → holds_pattern (lead_bytes lock rex op ++ rest) ≡ holds_pattern rest
+lead_holds lock rex op rest range known =
     ap (λ (bytes : List ℕ). holds_pattern bytes) (append_assoc (lock_bytes lock) (option_to_list rex ++ op_bytes op) rest
     ∙ ap (λ (bytes : List ℕ). lock_bytes lock ++ bytes) (append_assoc (option_to_list rex) (op_bytes op) rest))
     ∙ lock_holds lock (option_to_list rex ++ (op_bytes op ++ rest))
@@ -155,22 +155,22 @@ rex_start (Some rex) op rest range known start = (
   and_left (rex == 0xD4) true (ne_eqb rex 0xD4 (λ is. omega (arith, range.1, is))),
 )
 
-front_start : (lock : Bool) (rex : Option ℕ) (op : Op) (rest : List ℕ) → IsRex rex → IsOpcode op → IsStart op rest
+lead_start : (lock : Bool) (rex : Option ℕ) (op : Op) (rest : List ℕ) → IsRex rex → IsOpcode op → IsStart op rest
     → (begins_with last_two (lock_bytes lock ++ (option_to_list rex ++ (op_bytes op ++ rest))) ≡ false)
     × (begins_with last_one (lock_bytes lock ++ (option_to_list rex ++ (op_bytes op ++ rest))) ≡ false)
-front_start true rex op rest range known start = (refl, refl)
-front_start false rex op rest range known start = rex_start rex op rest range known start
+lead_start true rex op rest range known start = (refl, refl)
+lead_start false rex op rest range known start = rex_start rex op rest range known start
 
 -- An instruction is quiet where the bytes behind its opcode are, and it does not begin with 01 D4.
-pub front_quiet : (lock : Bool) (rex : Option ℕ) (op : Op) (rest : List ℕ) → IsRex rex → IsOpcode op → IsStart op rest
-    → holds_pattern rest ≡ false → IsQuiet (front_bytes lock rex op ++ rest)
-front_quiet lock rex op rest range known start none =
-    let same : (front_bytes lock rex op ++ rest) ≡ lock_bytes lock ++ (option_to_list rex ++ (op_bytes op ++ rest)) =
+pub lead_quiet : (lock : Bool) (rex : Option ℕ) (op : Op) (rest : List ℕ) → IsRex rex → IsOpcode op → IsStart op rest
+    → holds_pattern rest ≡ false → IsQuiet (lead_bytes lock rex op ++ rest)
+lead_quiet lock rex op rest range known start none =
+    let same : (lead_bytes lock rex op ++ rest) ≡ lock_bytes lock ++ (option_to_list rex ++ (op_bytes op ++ rest)) =
     append_assoc (lock_bytes lock) (option_to_list rex ++ op_bytes op) rest
     ∙ ap (λ (bytes : List ℕ). lock_bytes lock ++ bytes) (append_assoc (option_to_list rex) (op_bytes op) rest) in
-    let starts = front_start lock rex op rest range known start in
+    let starts = lead_start lock rex op rest range known start in
     record {
-      none = front_holds lock rex op rest range known ∙ none;
+      none = lead_holds lock rex op rest range known ∙ none;
       two = ap (λ (bytes : List ℕ). begins_with last_two bytes) same ∙ starts.0;
       one = ap (λ (bytes : List ℕ). begins_with last_one bytes) same ∙ starts.1;
     }
