@@ -1,4 +1,8 @@
 //! The memory of the tests.
+//!
+//! It notes a store and changes no byte: a test compares what is stored, by address, size and number, with what its row says.
+//! No instruction loads after it has stored, so none can tell. What a store leaves is the law of the memories that keep it
+//! (`sb_state`, `sb_nested`: `stores_change_what_they_reach`).
 
 ghost use Rattle.std.specs.Prelude.{◌≡◌, ◌≤◌, ◌<◌, ◌^◌, IfOk};
 ghost use Rattle.sb_bus.specs.Access.{byte_for, loaded_from};

@@ -1,4 +1,5 @@
-//! The windows of a process: the 2 MiB regions of its address space that have a page table.
+//! The windows of a process: the 2 MiB regions of its address space that have a page table. Of the window of buffers that is the
+//! first region, with the buffers of threads below `sb_abi::MAX_THREADS`.
 
 ghost use Rattle.std.specs.Prelude.{◌≡◌, ◌≢◌, ◌<◌};
 ghost use Rattle.sb_pagewalk.specs.Windows.{page_table_of};

@@ -1,5 +1,5 @@
 -- EPTP switching by a thread's list (SDM volume 3, section 25.5.5.3).
-use Rattle.std.specs.Prelude.{ℕ, ◌==◌, nat_lt, not, ◌&&◌, List, [], ◌∷◌, Result, Ok, Err, if◌then◌else◌}
+use Rattle.std.specs.Prelude.{ℕ, ◌==◌, nat_lt, not, ◌&&◌, IsTrue, List, [], ◌∷◌, Result, Ok, Err, if◌then◌else◌}
 use Rattle.sb_memory.specs.Physical.{Physical}
 use Rattle.sb_memory.specs.Reading.{word_read}
 use Rattle.sb_memory.specs.declared.address.Missing.{Missing}
@@ -19,6 +19,11 @@ switch_result memory list eax ecx =
     if not (eax == 0) then Ok BadLeaf
     else if not (nat_lt ecx 512) then Ok Unbound
     else switch_by_entry (word_read memory (entry_in list ecx))
+
+-- an EPT pointer, where the processor goes on with one
+abbrev pub HasPointer : Switch → Type 0
+HasPointer (To eptp) = IsTrue (is_eptp eptp)
+HasPointer _ = Unit {0}
 
 -- the places of the words that are read for it
 unfoldable pub switch_reads : ℕ → ℕ → ℕ → List ℕ

@@ -1,9 +1,9 @@
 //! VMFUNC's leaf 0: EPTP switching (SDM volume 3, section 25.5.5.3).
 
-ghost use Rattle.std.specs.Prelude.{◌≡◌, ◌<◌};
+ghost use Rattle.std.specs.Prelude.{◌≡◌, ◌<◌, IfOk};
 ghost use Rattle.sb_memory.specs.Physical.{frame_count};
 ghost use Rattle.sb_memory.specs.Accounts.{account_after_words};
-ghost use Rattle.sb_root.specs.Switch.{switch_reads, switch_result};
+ghost use Rattle.sb_root.specs.Switch.{HasPointer, switch_reads, switch_result};
 
 use crate::switch_answer::Switch;
 use sb_memory::{Frame, Missing, Phys};
@@ -20,6 +20,7 @@ const LIST_ENTRIES: u32 = 512;
 pub fn switch<P: Phys>(phys: &mut P, list: Frame, eax: u32, ecx: u32) -> Result<Switch, Missing>
     requires { list.0 < frame_count (P.meaning phys.old) }
     ensures answer { result ≡ switch_result (P.meaning phys.old) list.0 eax ecx }
+    ensures pointer { IfOk result HasPointer }
     ensures same { P.meaning phys.new ≡ P.meaning phys.old }
     ensures account { P.account phys.new ≡ account_after_words P.rule (P.meaning phys.old) (switch_reads list.0 eax ecx) (P.account phys.old) }
     ensures kept { P.kept phys.new ≡ P.kept phys.old }

@@ -20,7 +20,7 @@ use Rattle.sb_trace.specs.PageWords.{zeros, with_word}
 use Rattle.sb_trace.specs.State.{State, Process, find_page, with_page_bytes, contents, with_contents, bytes_of, thread_at, process_at}
 use Rattle.sb_trace.specs.Start.{pages_from}
 use Rattle.sb_trace.specs.SyscallRegister.{stack_bytes, server_stack_page, with_registration, with_server}
-use Rattle.sb_trace.specs.Windows.{name_at, is_within}
+use Rattle.sb_trace.specs.Windows.{name_at, is_within, is_in_buffers}
 use Rattle.sb_state.proofs.Names.{name_other}
 use Rattle.sb_state.proofs.PageLists.{found_other}
 use Rattle.sb_state.proofs.Start.{zeros_size}
@@ -74,7 +74,7 @@ stack_named threads thread view page process few =
     let text : is_within 0x400 (0x4000 + page) ≡ false = grind (arith, common_steps) in
     let data_at : is_within 0x800 (0x4000 + page) ≡ false = grind (arith, common_steps) in
     let heap : is_within 0xC00 (0x4000 + page) ≡ false = grind (arith, common_steps) in
-    let buffers : is_within 0x2000 (0x4000 + page) ≡ false = grind (arith, common_steps) in
+    let buffers : is_in_buffers (0x4000 + page) ≡ false = grind (arith, common_steps) in
     let stacks : is_within 0x3000 (0x4000 + page) ≡ false = grind (arith, common_steps) in
     let servers : is_within 0x4000 (0x4000 + page) ≡ true = grind (arith, common_steps) in
     rw (area, text, data_at, heap, buffers, stacks, servers) (ap (λ (n : ℕ). Some (ServerStack process n)) (omega arith))

@@ -10,6 +10,7 @@ pub mod Listed
 pub mod Reached
 pub mod InPage
 pub mod Spots
+pub mod Stored
 pub mod WordBytes
 pub mod WholeWord
 pub mod Writing

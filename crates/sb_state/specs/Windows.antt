@@ -1,6 +1,8 @@
 -- Which page a thread sees at each linear address (docs/FORMATS.md, "The memory of a thread").
 use Rattle.std.specs.Prelude.{ℕ, ◌+◌, ◌-◌, ◌/◌, ◌%◌, ◌==◌, ◌&&◌, ◌||◌, Bool, false, nat_lt, nat_le, List, Option, Some, None, slice_get, unwrap_or, if◌then◌else◌}
 use Rattle.std.specs.Option.{option_map, option_and_then}
+use Rattle.sb_abi.specs.declared.space.TheConstants.{WINDOW_PAGES, BUFFERS_WINDOW_PAGES, AREA_PAGE, AREA_PAGES, TEXT_PAGE, DATA_PAGE, HEAP_PAGE, BUFFERS_PAGE, STACKS_PAGE, SERVER_STACKS_PAGE}
+use Rattle.sb_abi.specs.declared.trampoline.TheConstants.{TRAMPOLINE_PAGE, RECORD_PAGE, SCRATCH_PAGE, POOL_PAGE}
 use Rattle.sb_state.specs.declared.page.PageName.{PageName}
 use Rattle.sb_state.specs.declared.page.PageName.TheVariants.{Text, Area, Data, Heap, Pool, ServerStack, Save, Stack, Buffer, Record, Scratch, HomeTrampoline, ServerTrampoline}
 use Rattle.sb_state.specs.PageName.{mode_of}
@@ -40,7 +42,11 @@ name_if test name = if test then Some name else None
 
 -- a page number in the window of 512 pages, which are 2 MiB, from a first one
 abbrev pub is_within : ℕ → ℕ → Bool
-is_within first page = nat_le first page && nat_lt page (first + 512)
+is_within first page = nat_le first page && nat_lt page (first + WINDOW_PAGES)
+
+-- a page number in the window of buffers, which has room for those of 32 threads
+abbrev pub is_in_buffers : ℕ → Bool
+is_in_buffers page = nat_le BUFFERS_PAGE page && nat_lt page (BUFFERS_PAGE + BUFFERS_WINDOW_PAGES)
 
 -- Eight pages a thread, of which the first is its save page and the last four are its stack; of the threads at home in the
 -- process.
@@ -60,21 +66,21 @@ buffer_name threads process page =
 -- the trampoline, record and scratch page of the view, and the pool page of the process
 abbrev pub special_name : ℕ → ℕ → ℕ → ℕ → Option PageName
 special_name thread view process page =
-    if page == 0x70000 then Some (if view == 0 then HomeTrampoline else ServerTrampoline)
-    else if page == 0x70002 then Some (Record thread view)
-    else if page == 0x70004 then Some (Scratch thread view)
-    else name_if (page == 0x70006) (Pool process)
+    if page == TRAMPOLINE_PAGE then Some (if view == 0 then HomeTrampoline else ServerTrampoline)
+    else if page == RECORD_PAGE then Some (Record thread view)
+    else if page == SCRATCH_PAGE then Some (Scratch thread view)
+    else name_if (page == POOL_PAGE) (Pool process)
 
 -- the name at a page number, where the view of the thread shows this process
 unfoldable pub name_at : List Thread → ℕ → ℕ → ℕ → ℕ → Option PageName
 name_at threads thread view page process =
-    if nat_le 1 page && nat_lt page 17 then Some (Area process (page - 1))
-    else if is_within 0x400 page then Some (Text process (page - 0x400))
-    else if is_within 0x800 page then Some (Data process (page - 0x800))
-    else if is_within 0xC00 page then Some (Heap process (page - 0xC00))
-    else if is_within 0x2000 page then buffer_name threads process (page - 0x2000)
-    else if is_within 0x3000 page then stack_name threads process (page - 0x3000)
-    else if is_within 0x4000 page then Some (ServerStack process (page - 0x4000))
+    if nat_le AREA_PAGE page && nat_lt page (AREA_PAGE + AREA_PAGES) then Some (Area process (page - AREA_PAGE))
+    else if is_within TEXT_PAGE page then Some (Text process (page - TEXT_PAGE))
+    else if is_within DATA_PAGE page then Some (Data process (page - DATA_PAGE))
+    else if is_within HEAP_PAGE page then Some (Heap process (page - HEAP_PAGE))
+    else if is_in_buffers page then buffer_name threads process (page - BUFFERS_PAGE)
+    else if is_within STACKS_PAGE page then stack_name threads process (page - STACKS_PAGE)
+    else if is_within SERVER_STACKS_PAGE page then Some (ServerStack process (page - SERVER_STACKS_PAGE))
     else special_name thread view process page
 
 -- ---- what is seen

@@ -99,7 +99,7 @@ fn name_in(threads: &[Thread], thread: u32, view: u32, page: u64, process: u32) 
         0x400..=0x5FF => Some(PageName::Text(process, (page - 0x400) as u32)),
         0x800..=0x9FF => Some(PageName::Data(process, (page - 0x800) as u32)),
         0xC00..=0xDFF => Some(PageName::Heap(process, (page - 0xC00) as u32)),
-        0x2000..=0x21FF => buffer_name(threads, process, (page - 0x2000) as u32),
+        0x2000..=0x27FF => buffer_name(threads, process, (page - 0x2000) as u32),
         0x3000..=0x31FF => stack_name(threads, process, (page - 0x3000) as u32),
         0x4000..=0x41FF => Some(PageName::ServerStack(process, (page - 0x4000) as u32)),
         _ => special_name(thread, view, process, page),

@@ -18,7 +18,7 @@ use Rattle.sb_state.specs.declared.page.Seen.{Seen}
 use Rattle.sb_state.specs.declared.state.Thread.{Thread}
 use Rattle.sb_state.specs.PageName.{mode_of, permits}
 use Rattle.sb_state.specs.State.{State, find_page, contents, bytes_of}
-use Rattle.sb_state.specs.Windows.{name_if, is_within, stack_name, buffer_name, special_name, name_at, process_shown, page_by_name, page_and_mode, page_for}
+use Rattle.sb_state.specs.Windows.{name_if, is_within, is_in_buffers, stack_name, buffer_name, special_name, name_at, process_shown, page_by_name, page_and_mode, page_for}
 use Rattle.sb_state.specs.PlainMemory.{plain, plain_byte, byte_seen, byte_in, is_canonical, fault_at}
 use Rattle.sb_trace.specs.Code.{fetched_byte, code_byte, HasNoCodePattern}
 use Rattle.sb_trace.specs.Sound.{HasPage, ArePagesSound, vmfunc_address}
@@ -124,7 +124,7 @@ all_names threads thread view page process =
     (names_test view page process (is_within 0x800 page) _ _ (λ is. inl (λ executable. refl))
     (names_test view page process (is_within 0xC00 page) _ _ (λ is. let range = range_is 0xC00 page 0xE00 is in
     inr (inr (inr (inl (range.0, range.1, refl)))))
-    (names_test view page process (is_within 0x2000 page) _ _ (λ is. buffers threads view page process (page - 0x2000))
+    (names_test view page process (is_in_buffers page) _ _ (λ is. buffers threads view page process (page - 0x2000))
     (names_test view page process (is_within 0x3000 page) _ _ (λ is. stacks threads view page process (page - 0x3000))
     (names_test view page process (is_within 0x4000 page) _ _ (λ is. inl (λ executable. refl))
     (specials thread view page process)))))))

@@ -1,7 +1,12 @@
-//! Refusals of the system calls that a server and its clients make.
+//! Refusals of the system calls that a server and its clients make, and the buffer of a binding.
 
 use crate::samples::{HANDLER, LOADED, call, machine};
-use sb_state::{PageName, PlainState};
+use sb_bus::Bus;
+use sb_insn::Flags;
+use sb_insn::Regs;
+use sb_insn::registers::R10;
+use sb_memory::Linear;
+use sb_state::{Bindings, EndKind, PageName, PlainBus, PlainState, Thread};
 use std::test::Fail;
 
 const REGISTER: u64 = 2;
@@ -120,5 +125,40 @@ fn calls_are_refused_in_order(rt: HostRuntime) -> Result<(), Fail> {
         );
     }
     assert_eq!(rt; first_other(&mut ample.state, &last), None);
+    Ok(())
+}
+
+/// A thread at home in a process.
+fn thread(home: u32) -> Thread {
+    Thread {
+        home,
+        regs: Regs {
+            general: [0; 16],
+            rip: HANDLER,
+            flags: Flags::CLEAR,
+        },
+        view: 0,
+        bindings: Bindings::new(),
+        state: EndKind::Running,
+    }
+}
+
+#[test]
+fn a_ninth_thread_has_its_buffer(rt: HostRuntime) -> Result<(), Fail> {
+    let mut machine = machine(rt.alloc(), LOADED + 14)?;
+    for _ in 3..9 {
+        machine.state.threads.push(thread(1))?;
+        machine.state.flights.push(None)?;
+    }
+    let state = &mut machine.state;
+    assert_eq!(rt; call(state, 0, 0, [REGISTER, HANDLER, 1]), Some([0, 0]));
+    assert_eq!(rt; call(state, 8, 0, [BIND, 0, 0]), Some([0, 1]));
+    let client = state.threads.get(8).ok_or("the thread is there")?;
+    assert_eq!(rt; client.regs.general[R10], 0x220_4000);
+    // It stores in its home, the last byte of the four pages included, and the server's view has what it stored.
+    for (at, value) in [(0x220_4000, 7), (0x220_7FF8, 9)] {
+        assert_eq!(rt; PlainBus::new(state, 8, 0).store(Linear(at), 8, value), Ok(()));
+        assert_eq!(rt; PlainBus::new(state, 8, 1).load(Linear(at), 8), Ok(value));
+    }
     Ok(())
 }
