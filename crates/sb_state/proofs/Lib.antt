@@ -17,3 +17,4 @@ pub mod Pattern
 pub mod Start
 pub mod Filling
 pub mod Threads
+pub mod StoredThreads
