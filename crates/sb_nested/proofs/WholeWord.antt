@@ -103,7 +103,8 @@ led : (at : ℕ) (r : Result PhysAddr NestedStop) (place : PhysAddr) → place_a
 led at (Ok other) place e = cc
 led at (Err stop) place e = cc
 
-pub place_led : (core : View) (at : ℕ) (place : PhysAddr) → walk_place core Write at ≡ Ok place → place_of core Write at ≡ Ok place
+pub place_led : (core : View) (at : ℕ) (place : PhysAddr) → walk_place core Write at ≡ Ok place
+    → place_of core Write at ≡ Ok place
 unfolding walk_place
 place_led core at place e = led at (place_of core Write at) place e
 

@@ -4,7 +4,8 @@ use Rattle.sb_state.specs.declared.page.PageName.{PageName}
 use Rattle.sb_state.specs.State.{State, with_contents}
 use Rattle.sb_state.specs.PlainMemory.{Placed, bytes_to_put, put_byte, put_all, plain_stored}
 
-pub put_threads : (state : State) (name : PageName) (offset value : ℕ) → (put_byte state name offset value).threads ≡ state.threads
+pub put_threads : (state : State) (name : PageName) (offset value : ℕ)
+    → (put_byte state name offset value).threads ≡ state.threads
 unfolding put_byte with_contents
 put_threads state name offset value = refl
 

@@ -220,7 +220,8 @@ end_set : (state : State) (number : ℕ) (end : EndKind) → number < length sta
     → (thread_at (with_end state number end) number).regs ≡ (thread_at state number).regs
 unfolding with_end thread_at
 end_set state number end below =
-    ap (λ (thread : Thread). thread.regs) (set_within state.threads number (record (thread_at state number) { state = end }) no_thread below)
+    ap (λ (thread : Thread). thread.regs)
+    (set_within state.threads number (record (thread_at state number) { state = end }) no_thread below)
 
 regs_count : (state : State) (number : ℕ) (regs : Regs) → length (with_regs state number regs).threads ≡ length state.threads
 unfolding with_regs

@@ -4,7 +4,8 @@ use Rattle.std.specs.List.{Contains}
 use Rattle.sb_walks.specs.Reads.{where_ok}
 
 -- a place of a list is its first, or among the others
-pub contains_first : (first place : ℕ) (places : List ℕ) → Contains (first ∷ places) place → (first ≡ place) ⊎ Contains places place
+pub contains_first : (first place : ℕ) (places : List ℕ) → Contains (first ∷ places) place
+    → (first ≡ place) ⊎ Contains places place
 contains_first first place places (zero, within, is) = inl is
 contains_first first place places (suc k, within, is) = inr (k, omega arith, is)
 

@@ -1,4 +1,4 @@
-use Rattle.std.proofs.Common.{◌∙◌, ◌*◌, ℕ, sym, subst, [], ◌∷◌, arith}
+use Rattle.std.proofs.Common.{◌∙◌, ◌*◌, ℕ, sym, ap, subst, [], ◌∷◌, arith}
 use Rattle.sb_memory.specs.declared.address.Frame.{Frame}
 use Rattle.sb_pagewalk.specs.Standing.{IsApart as IsSetApart}
 use Rattle.sb_root.specs.Standing.{IsApart as IsRootApart}
