@@ -134,7 +134,7 @@ module _ (placement : Placement) (root : RootKernel) (book : Book) (memory : Phy
       → find_page state.pages (ServerStack process page) ≡ None)
       (registers : RegistersPages (placement.sets process) root book book' memory new process stacks) where
     frame_same : registers.frame.0 ≡ placement.frame name
-    frame_same = 
+    frame_same =
         ap (λ (frame : Frame). frame.0)
         (same_some registers.frame (record { 0 = placement.frame name }) (sym registers.found ∙ pool_frame))
 
