@@ -4,6 +4,7 @@ pub mod Spelled
 pub mod Lengths
 pub mod Maps
 pub mod Operands
+pub mod AddToRm
 pub mod Quiet
 pub mod Leads
 pub mod QuietPieces

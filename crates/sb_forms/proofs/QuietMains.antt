@@ -98,8 +98,8 @@ own_holds AccImm name insn helper =
     register_holds insn.lock insn.rex 0 (register_op name) (0xC0 + 8 * number_of helper) (omega arith) (register_opcode name)
     (omega arith)
 own_holds OpcodeImm name insn helper =
-    register_holds insn.lock insn.rex (rex_b insn.rex) (register_op name) (0xC0 + one_byte_opcode insn.op % 8 + 8 * number_of helper)
-    (b_1 insn.rex) (register_opcode name) (omega arith)
+    register_holds insn.lock insn.rex (rex_b insn.rex) (register_op name)
+    (0xC0 + one_byte_opcode insn.op % 8 + 8 * number_of helper) (b_1 insn.rex) (register_opcode name) (omega arith)
 own_holds _ name insn helper =
     register_holds insn.lock insn.rex (rex_b insn.rex) (register_op name) (0xC0 + rm_field (modrm_of insn) + 8 * number_of helper)
     (b_1 insn.rex) (register_opcode name) (omega arith)

@@ -1,8 +1,8 @@
 -- How many bytes stand in place of an instruction, and that a jump has room in one that is moved.
 use Rattle.std.proofs.Common.{◌≡◌, ℕ, zero, suc, ◌+◌, ◌≤◌, Bool, true, false, List, [], ◌++◌, length, get_or, Option, Some, None, refl, sym, ap, ◌∙◌, arith, subst, ⊎_elim, length-append}
-use Rattle.std.specs.Prelude.{◌&&◌, not}
+use Rattle.std.specs.Prelude.{not}
 use Rattle.std.specs.Option.{option_to_list}
-use Rattle.std.proofs.lemmas.Bool.{and_parts, cases_lt, eqb-true}
+use Rattle.std.proofs.lemmas.Bool.{and_parts, cases_lt}
 use Rattle.sb_insn.specs.declared.insn.Insn.{Insn}
 use Rattle.sb_insn.specs.declared.insn.Op.{Op}
 use Rattle.sb_insn.specs.declared.insn.Op.TheVariants.{One, Two, Endbr, Vmfunc}
@@ -10,21 +10,22 @@ use Rattle.sb_insn.specs.declared.insn.Imm.{Imm}
 use Rattle.sb_insn.specs.declared.insn.Imm.TheVariants as imm
 use Rattle.sb_insn.specs.declared.insn.Disp.{Disp}
 use Rattle.sb_insn.specs.declared.insn.Disp.TheVariants as disp
-use Rattle.sb_insn.specs.OpcodeMap.{one_byte, cell_of}
+use Rattle.sb_insn.specs.OpcodeMap.{cell_of}
 use Rattle.sb_insn.specs.Spelling.{lock_bytes, op_bytes, disp_bytes, imm_bytes, spelling}
-use Rattle.sb_insn.specs.Fields.{is_none, is_modrm_field, is_sib_field, has_sib, modrm_disp, permits, disp_kind_of, kind_of_disp, rule_of, imm_kind_of, kind_of_imm}
+use Rattle.sb_insn.specs.Fields.{is_modrm_field, is_sib_field, disp_kind_of, kind_of_disp, rule_of, imm_kind_of, kind_of_imm}
 use Rattle.sb_insn.specs.Grammar.{IsValid}
 use Rattle.sb_scan.specs.Pattern.{HasPatternAt}
 use Rattle.sb_forms.specs.declared.slots.Site.{Site}
 use Rattle.sb_forms.specs.declared.answer.Form.{Form}
 use Rattle.sb_forms.specs.Holding.{holds_pattern}
 use Rattle.sb_forms.specs.Pieces.{is_sib_0f, sib_exchanged}
-use Rattle.sb_forms.specs.Table.{Replacement, is_vmfunc, is_one_byte, is_modrm, is_add_esp_edx, jump_form, wide_constant_form, address_and_constant_form, address_form, constant_form, replacement, bytes_of, site_of, form_of}
+use Rattle.sb_forms.specs.Table.{Replacement, is_vmfunc, is_add_esp_edx, jump_form, wide_constant_form, address_and_constant_form, address_form, constant_form, replacement, bytes_of, site_of, form_of}
 use Rattle.sb_forms.specs.Answers.{HasRoom}
 use Rattle.sb_scan.proofs.Places.{read_within}
 use Rattle.sb_forms.proofs.Held.{holds_at}
 use Rattle.sb_forms.proofs.Lengths.{spelling_length, exchanged_length}
-use Rattle.sb_forms.proofs.Operands.{bare_0f, modrm_is}
+use Rattle.sb_forms.proofs.Operands.{bare_0f}
+use Rattle.sb_forms.proofs.AddToRm.{add_is}
 use Rattle.sb_forms.proofs.Behind.{behind_opcode, behind_holds}
 use Rattle.sb_forms.proofs.ByTable.{IsHeld, TableCases, by_table}
 use Rattle.sb_forms.proofs.Small.{address_small, constant_small, both_small, jump_small, wide_small, displaced_small, quiet_memory}
@@ -132,44 +133,8 @@ vmfunc_3 insn valid is =
           valid.imm,
     )
 
--- what the fields of such an instruction come to
-abbrev pub HasTwo : Bool → Option ℕ → Option ℕ → Disp → Imm → Op → Option ℕ → Type 0
-HasTwo lock rex sib displacement immediate op modrm =
-    is_none rex ≡ true → is_modrm_field (cell_of op) lock rex modrm ≡ true → is_sib_field modrm sib ≡ true
-    → kind_of_disp displacement ≡ disp_kind_of modrm sib
-    → kind_of_imm immediate ≡ imm_kind_of (rule_of (cell_of op) modrm) rex
-    → others lock rex sib displacement immediate + length (option_to_list modrm) + length (op_bytes op) ≡ 2
-
-add_fields : (lock : Bool) (rex sib : Option ℕ) (displacement : Disp) (immediate : Imm)
-    → HasTwo lock rex sib displacement immediate (One 0x01) (Some 0xD4)
-unfolding one_byte permits has_sib modrm_disp
-add_fields lock (Some rex) sib displacement immediate none e s d i = absurd cc
-add_fields true None sib displacement immediate none e s d i = absurd cc
-add_fields false None (Some sib) displacement immediate none e s d i = absurd cc
-add_fields false None None (disp.D8 value) immediate none e s d i = absurd cc
-add_fields false None None (disp.D32 value) immediate none e s d i = absurd cc
-add_fields false None None disp.None imm.None none e s d i = refl
-add_fields false None None disp.None (imm.I8 value) none e s d i = absurd cc
-add_fields false None None disp.None (imm.I32 value) none e s d i = absurd cc
-add_fields false None None disp.None (imm.I64 value) none e s d i = absurd cc
-
-pub one_byte_is : (opcode : ℕ) (op : Op) → is_one_byte opcode op ≡ true → op ≡ One opcode
-one_byte_is opcode (One other) e = ap (λ (byte : ℕ). One byte) (sym (eqb-true opcode other e))
-one_byte_is opcode (Two other) e = absurd cc
-one_byte_is opcode Endbr e = absurd cc
-one_byte_is opcode Vmfunc e = absurd cc
-
 add_2 : (insn : Insn) → IsValid insn → is_add_esp_edx insn ≡ true → length (spelling insn) ≡ 2
-add_2 insn valid e =
-    let parts = and_parts (is_none insn.rex) (is_one_byte 0x01 insn.op && is_modrm 0xD4 insn.modrm) e in
-    let behind = and_parts (is_one_byte 0x01 insn.op) (is_modrm 0xD4 insn.modrm) parts.1 in
-    let fields : HasTwo insn.lock insn.rex insn.sib insn.disp insn.imm insn.op insn.modrm =
-    subst
-    (λ op. HasTwo insn.lock insn.rex insn.sib insn.disp insn.imm op insn.modrm)
-    (sym (one_byte_is 0x01 insn.op behind.0))
-    (subst (λ modrm. HasTwo insn.lock insn.rex insn.sib insn.disp insn.imm (One 0x01) modrm)
-    (sym (modrm_is 0xD4 insn.modrm behind.1)) (add_fields insn.lock insn.rex insn.sib insn.disp insn.imm)) in
-    omega (arith, spelling_length insn, fields parts.0 valid.modrm valid.sib valid.disp valid.imm)
+add_2 insn valid e = subst (λ (i : Insn). length (spelling i) ≡ 2) (sym (add_is insn valid e)) refl
 
 -- ---- every replacement
 

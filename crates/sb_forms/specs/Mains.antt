@@ -193,4 +193,5 @@ load_target helper = record (wide 0x8B (0x40 + 9 * number_of helper)) { disp = d
 
 -- mov of the word in the scratch page to the register in the opcode
 unfoldable pub load_word : Insn → Insn
-load_word insn = record (wide_at_address 0x8B (one_byte_opcode insn.op % 8) scratch_word) { rex = Some (0x48 + 4 * rex_b insn.rex) }
+load_word insn =
+    record (wide_at_address 0x8B (one_byte_opcode insn.op % 8) scratch_word) { rex = Some (0x48 + 4 * rex_b insn.rex) }

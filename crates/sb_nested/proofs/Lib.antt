@@ -3,6 +3,7 @@ pub mod Count
 pub mod Loads
 pub mod Stores
 pub mod Writing
+pub mod Places
 pub mod WholeWord
 pub mod OneByOne
 pub mod NoGaps

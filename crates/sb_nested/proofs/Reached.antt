@@ -13,8 +13,8 @@ use Rattle.sb_memory.proofs.Changes.{same_outside_self, same_outside_then}
 use Rattle.sb_memory.proofs.Frames.{same_outside_byte}
 use Rattle.sb_bus.specs.declared.stop.BusStop.{BusStop}
 use Rattle.sb_bus.specs.Access.{bytes_from}
-use Rattle.sb_nested.specs.View.{View, place_answer, place_of}
-use Rattle.sb_nested.specs.Store.{is_whole, memory_stored, put_answer, put_value, put_word_at, store_place, walk_place, where_there}
+use Rattle.sb_nested.specs.View.{View, place_answer, place_of, walk_place}
+use Rattle.sb_nested.specs.Store.{is_whole, memory_stored, put_answer, put_value, put_word_at, store_place, where_there}
 use Rattle.sb_nested.proofs.OneByOne.{one_by_one}
 use Rattle.sb_nested.proofs.WholeWord.{place_led}
 

@@ -17,7 +17,8 @@ held_by memory n (place ∷ places) e h = ((rw e h.0.0, rw e h.0.1), held_by mem
 
 pub held_after : (memory : Physical) (at byte : ℕ) (places : List PhysAddr) → AllHeld memory places
     → AllHeld (byte_written memory at byte) places
-held_after memory at byte places h = held_by memory (byte_written memory at byte) places (present-where (has_frame memory (frame_of at)) memory _ refl) h
+held_after memory at byte places h =
+    held_by memory (byte_written memory at byte) places (present-where (has_frame memory (frame_of at)) memory _ refl) h
 
 pub frames_after : (memory : Physical) (at byte : ℕ) → length (byte_written memory at byte).present ≡ length memory.present
 frames_after memory at byte = ap length (present-where (has_frame memory (frame_of at)) memory _ refl)

@@ -1,39 +1,24 @@
 -- A whole word: its bytes are looked up, and all lead into one frame.
 use Rattle.std.proofs.Common.{◌≡◌, ℕ, zero, suc, ◌+◌, ◌%◌, ◌^◌, ◌<◌, Bool, true, false, cond, List, [], ◌∷◌, Result, Ok, Err, refl, ap, arith, sym, ◌∙◌}
 use Rattle.std.specs.Prelude.{slice_index}
-use Rattle.std.proofs.lemmas.List.{append-nil}
 use Rattle.sb_memory.specs.Outcome.{and_then, done}
 use Rattle.sb_memory.specs.Physical.{Physical, frame_of, has_frame}
-use Rattle.sb_memory.specs.Accounts.{PhysCall, account_after_reads, account_after_words, word_calls}
+use Rattle.sb_memory.specs.Accounts.{PhysCall, account_after_reads}
 use Rattle.sb_memory.specs.Reading.{missing, write_answer, word_written}
 use Rattle.sb_memory.specs.declared.address.Missing.{Missing}
 use Rattle.sb_memory.specs.declared.address.Access.TheVariants.{Write}
 use Rattle.sb_memory.specs.declared.address.PhysAddr.{PhysAddr}
-use Rattle.sb_memory.proofs.Accounts.{after_reads_words}
 use Rattle.sb_walks.specs.declared.stop.NestedStop.{NestedStop}
-use Rattle.sb_walks.specs.Nested.{mapped_answer, translation_reads}
+use Rattle.sb_walks.specs.Nested.{mapped_answer}
 use Rattle.sb_walks.proofs.SamePage.{address}
 use Rattle.sb_bus.specs.declared.stop.BusStop.{BusStop}
 use Rattle.sb_bus.specs.declared.stop.BusStop.TheVariants as bus
 use Rattle.sb_bus.specs.Access.{bytes_from, byte_for, store_answer}
 use Rattle.sb_nested.specs.Stop.{stop_at}
-use Rattle.sb_nested.specs.View.{View, byte_behind, place_answer, place_of, view_byte, walk_calls}
-use Rattle.sb_nested.specs.Store.{after_word, look_calls, put_word_at, walk_place}
+use Rattle.sb_nested.specs.View.{View, byte_behind, place_answer, place_of, view_byte, walk_calls, walk_place, word_answer}
+use Rattle.sb_nested.specs.Store.{after_word, look_calls, put_word_at}
 use Rattle.sb_nested.proofs.Loads.{calls_none, account_stop, account_more}
 use Rattle.sb_walks.proofs.Page.{passed, place_offset, translated-page}
-
--- the calls that look up one address
-pub look_calls_are_words : {Account : Type 0} (rule : PhysCall → Physical → Account
-    → Account) (core : View) (at : ℕ) (account : Account)
-    → account_after_reads rule core.physical (walk_calls core Write at) account
-    ≡ account_after_words rule core.physical
-    (translation_reads (mapped_answer core.physical core.eptp) core.cr3 at Write) account
-unfolding walk_calls
-look_calls_are_words rule core at account =
-    ap (λ (calls : List PhysCall). account_after_reads rule core.physical calls account)
-    (sym (append-nil (word_calls (translation_reads (mapped_answer core.physical core.eptp) core.cr3 at Write))))
-    ∙ after_reads_words rule core.physical (translation_reads (mapped_answer core.physical core.eptp) core.cr3 at Write) []
-    account
 
 -- one byte after another
 done_more : {A : Type 0} (r : Result (List A) BusStop) (lowest : A) → done (and_then r (λ others. Ok (lowest ∷ others))) ≡ done r
@@ -63,7 +48,7 @@ look_calls_none core at size e = calls_none _ _ at size e
 
 pub look_account_stop : {Account : Type 0} (rule : PhysCall → Physical → Account
     → Account) (core : View) (at size : ℕ) (stop : BusStop) (account : Account)
-    → 0 < size → walk_place core at ≡ Err stop
+    → 0 < size → walk_place core Write at ≡ Err stop
     → account_after_reads rule core.physical (look_calls core at size) account
     ≡ account_after_reads rule core.physical (walk_calls core Write at) account
 unfolding look_calls
@@ -71,7 +56,7 @@ look_account_stop rule core at size stop account h e = account_stop rule core.ph
 
 pub look_account_more : {Account : Type 0} (rule : PhysCall → Physical → Account
     → Account) (core : View) (at size n : ℕ) (place : PhysAddr) (account : Account)
-    → size ≡ n + 1 → walk_place core at ≡ Ok place
+    → size ≡ n + 1 → walk_place core Write at ≡ Ok place
     → account_after_reads rule core.physical (look_calls core at size) account
     ≡ account_after_reads rule core.physical (look_calls core ((at + 1) % 2 ^ 64) n)
     (account_after_reads rule core.physical (walk_calls core Write at) account)
@@ -84,7 +69,7 @@ stopped_byte : (memory : Physical) (at : ℕ) (r : Result PhysAddr NestedStop) (
 stopped_byte memory at (Ok place) stop e = cc
 stopped_byte memory at (Err other) stop e = let same : stop_at at other ≡ stop = cc in ap (λ (s : BusStop). Err s) same
 
-pub stop_answered : (core : View) (at : ℕ) (stop : BusStop) → walk_place core at ≡ Err stop
+pub stop_answered : (core : View) (at : ℕ) (stop : BusStop) → walk_place core Write at ≡ Err stop
     → store_answer (byte_for (view_byte core) Write) at 8 ≡ Err stop
 unfolding walk_place store_answer view_byte
 stop_answered core at stop e =
@@ -96,7 +81,7 @@ nowhere : (memory : Physical) (at word : ℕ) (r : Result PhysAddr NestedStop) (
 nowhere memory at word (Ok place) stop e = cc
 nowhere memory at word (Err other) stop e = refl
 
-pub stop_unwritten : (core : View) (at word : ℕ) (stop : BusStop) → walk_place core at ≡ Err stop
+pub stop_unwritten : (core : View) (at word : ℕ) (stop : BusStop) → walk_place core Write at ≡ Err stop
     → put_word_at core.physical (place_of core Write at) word ≡ core.physical
 unfolding walk_place
 stop_unwritten core at word stop e = nowhere core.physical at word (place_of core Write at) stop e
@@ -109,7 +94,7 @@ uncounted rule memory at word account (Err other) stop e = refl
 
 pub stop_uncounted : {Account : Type 0} (rule : PhysCall → Physical → Account
     → Account) (core : View) (at word : ℕ) (account : Account) (stop : BusStop)
-    → walk_place core at ≡ Err stop → after_word rule core.physical (place_of core Write at) word account ≡ account
+    → walk_place core Write at ≡ Err stop → after_word rule core.physical (place_of core Write at) word account ≡ account
 unfolding walk_place
 stop_uncounted rule core at word account stop e = uncounted rule core.physical at word account (place_of core Write at) stop e
 
@@ -118,7 +103,8 @@ led : (at : ℕ) (r : Result PhysAddr NestedStop) (place : PhysAddr) → place_a
 led at (Ok other) place e = cc
 led at (Err stop) place e = cc
 
-pub place_led : (core : View) (at : ℕ) (place : PhysAddr) → walk_place core at ≡ Ok place → place_of core Write at ≡ Ok place
+pub place_led : (core : View) (at : ℕ) (place : PhysAddr) → walk_place core Write at ≡ Ok place
+    → place_of core Write at ≡ Ok place
 unfolding walk_place
 place_led core at place e = led at (place_of core Write at) place e
 
@@ -144,20 +130,20 @@ all_there byte at (suc n) h f =
     let next = f (suc k) (omega arith) in
     (next.0, ap byte same ∙ next.1)))
 
-walk_led : (core : View) (at : ℕ) (place : PhysAddr) → place_of core Write at ≡ Ok place → walk_place core at ≡ Ok place
+walk_led : (core : View) (at : ℕ) (place : PhysAddr) → place_of core Write at ≡ Ok place → walk_place core Write at ≡ Ok place
 unfolding walk_place
 walk_led core at place e = rw e refl
 
 -- where the first byte leads somewhere, so do the other seven
-pub rest_leads : (core : View) (at : ℕ) (place : PhysAddr) → at % 8 ≡ 0 → at < 2 ^ 64 → walk_place core at ≡ Ok place
-    → done (bytes_from (walk_place core) ((at + 1) % 2 ^ 64) 7) ≡ Ok tt
+pub rest_leads : (core : View) (at : ℕ) (place : PhysAddr) → at % 8 ≡ 0 → at < 2 ^ 64 → walk_place core Write at ≡ Ok place
+    → done (bytes_from (walk_place core Write) ((at + 1) % 2 ^ 64) 7) ≡ Ok tt
 rest_leads core at place aligned below e =
-    all_there (walk_place core) ((at + 1) % 2 ^ 64) 7 (omega arith) (λ k few.
+    all_there (walk_place core Write) ((at + 1) % 2 ^ 64) 7 (omega arith) (λ k few.
     let same : ((at + 1) % 2 ^ 64 + k) % 2 ^ 64 ≡ (at + suc k) % 2 ^ 64 = omega arith in
     let there =
     walk_led core ((at + suc k) % 2 ^ 64) (address (place.0 + suc k))
     (byte_place core at (suc k) place aligned below (omega arith) (place_led core at place e)) in
-    (address (place.0 + suc k), ap (walk_place core) same ∙ there))
+    (address (place.0 + suc k), ap (walk_place core Write) same ∙ there))
 
 byte_there : (core : View) (at : ℕ) (place : PhysAddr) → place_of core Write at ≡ Ok place
     → has_frame core.physical (frame_of place.0) ≡ true
@@ -176,7 +162,7 @@ unfolding place_of
 led_offset core at place e = place_offset (mapped_answer core.physical core.eptp) core.cr3 at Write place e
 
 -- the word is written
-pub whole_written : (core : View) (at : ℕ) (place : PhysAddr) → at % 8 ≡ 0 → at < 2 ^ 64 → walk_place core at ≡ Ok place
+whole_written : (core : View) (at : ℕ) (place : PhysAddr) → at % 8 ≡ 0 → at < 2 ^ 64 → walk_place core Write at ≡ Ok place
     → write_answer core.physical place.0 ≡ Ok tt → store_answer (byte_for (view_byte core) Write) at 8 ≡ Ok tt
 unfolding store_answer
 whole_written core at place aligned below e w =
@@ -196,7 +182,7 @@ absent : (b : Bool) (x gap : Missing) → Path (Result (Unit {0}) Missing) (cond
 absent true x gap e = cc
 absent false x gap e = (refl, cc)
 
-pub whole_refused : (core : View) (at : ℕ) (place : PhysAddr) (gap : Missing) → walk_place core at ≡ Ok place
+whole_refused : (core : View) (at : ℕ) (place : PhysAddr) (gap : Missing) → walk_place core Write at ≡ Ok place
     → write_answer core.physical place.0 ≡ Err gap
     → store_answer (byte_for (view_byte core) Write) at 8 ≡ Err (bus.Missing gap.frame)
 unfolding store_answer
@@ -206,6 +192,26 @@ whole_refused core at place gap e w =
     look_stop (byte_for (view_byte core) Write) at 8 (bus.Missing gap.frame) (omega arith)
     (byte_gone core at place (place_led core at place e) gone.0 ∙ ap (λ frame. Err (bus.Missing frame)) same)
 
-pub word_unwritten : (memory : Physical) (place word : ℕ) (gap : Missing) → write_answer memory place ≡ Err gap
+-- the memory answers as each of the bytes would
+answered : (answer : Result (Unit {0}) Missing) (each : Result (Unit {0}) BusStop) → (answer ≡ Ok tt → each ≡ Ok tt)
+    → ((gap : Missing) → answer ≡ Err gap → each ≡ Err (bus.Missing gap.frame)) → word_answer answer ≡ each
+answered (Ok done) each there gone = sym (there refl)
+answered (Err gap) each there gone = sym (gone gap refl)
+
+pub whole_answered : (core : View) (at : ℕ) (place : PhysAddr) → at % 8 ≡ 0 → at < 2 ^ 64 → walk_place core Write at ≡ Ok place
+    → word_answer (write_answer core.physical place.0) ≡ store_answer (byte_for (view_byte core) Write) at 8
+whole_answered core at place aligned below e =
+    answered (write_answer core.physical place.0) _ (whole_written core at place aligned below e)
+    (λ gap. whole_refused core at place gap e)
+
+-- a refused word is not written
+refused : (answer : Result (Unit {0}) Missing) (stop : BusStop) → word_answer answer ≡ Err stop
+    → (gap : Missing) × (answer ≡ Err gap)
+refused (Ok done) stop e = cc
+refused (Err gap) stop e = (gap, refl)
+
+pub word_unwritten : (memory : Physical) (place word : ℕ) (stop : BusStop) → word_answer (write_answer memory place) ≡ Err stop
     → word_written memory place word ≡ memory
-word_unwritten memory place word gap w = rw ((absent (has_frame memory (frame_of place)) (missing (frame_of place)) gap w).0) refl
+word_unwritten memory place word stop e =
+    let found = refused (write_answer memory place) stop e in
+    rw ((absent (has_frame memory (frame_of place)) (missing (frame_of place)) found.0 found.1).0) refl

@@ -10,7 +10,7 @@ use Rattle.sb_walks.specs.declared.stop.NestedStop.{NestedStop}
 use Rattle.sb_bus.specs.declared.stop.BusStop.{BusStop}
 use Rattle.sb_bus.specs.Access.{bytes_from, byte_for}
 use Rattle.sb_bus.specs.Interface.{BusCall, FetchByte, LoadBytes, LoadForWrite, StoreBytes, Interface}
-use Rattle.sb_nested.specs.View.{View, view, place_of, place_answer, view_byte, walk_calls, byte_calls, calls_from}
+use Rattle.sb_nested.specs.View.{View, with_memory, place_of, place_answer, walk_place, view_byte, walk_calls, byte_calls, calls_from}
 
 -- the place of a byte that can be read
 abbrev pub where_there : Result ℕ BusStop → Result PhysAddr BusStop → Result PhysAddr BusStop
@@ -25,13 +25,9 @@ store_place core address = where_there (view_byte core address Write) (place_ans
 unfoldable pub load_calls : View → Access → ℕ → ℕ → List PhysCall
 load_calls core access address size = calls_from (byte_calls core access) (byte_for (view_byte core) access) address size
 
--- where an address leads for a write, or what the instruction meets
-unfoldable pub walk_place : View → ℕ → Result PhysAddr BusStop
-walk_place core address = place_answer address (place_of core Write address)
-
 -- the calls that look up bytes from an address upwards
 unfoldable pub look_calls : View → ℕ → ℕ → List PhysCall
-look_calls core address size = calls_from (walk_calls core Write) (walk_place core) address size
+look_calls core address size = calls_from (walk_calls core Write) (walk_place core Write) address size
 
 -- the memory after the lowest bytes of a value are put at these places, the lowest first
 abbrev pub put_value : Physical → List PhysAddr → ℕ → Physical
@@ -80,7 +76,7 @@ memory_stored core address size value =
 
 -- the view after a store
 abbrev pub view_stored : View → ℕ → ℕ → ℕ → View
-view_stored core address size value = view (memory_stored core address size value) core.eptp core.cr3
+view_stored core address size value = with_memory core (memory_stored core address size value)
 
 -- the account after a store: a whole word is not read before
 unfoldable pub store_rule : {Account : Type 0} → (PhysCall → Physical → Account → Account) → View → ℕ → ℕ → ℕ → Account → Account

@@ -22,6 +22,10 @@ pub record View : Type 0 where
 abbrev pub view : Physical → ℕ → ℕ → View
 view memory eptp cr3 = record { physical = memory; eptp = eptp; cr3 = cr3 }
 
+-- another memory through the same pointers
+abbrev pub with_memory : View → Physical → View
+with_memory core memory = view memory core.eptp core.cr3
+
 -- where an address leads
 unfoldable pub place_of : View → Access → ℕ → Result PhysAddr NestedStop
 place_of core access address = translation (mapped_answer core.physical core.eptp) core.cr3 address access
@@ -35,10 +39,19 @@ abbrev pub place_answer : ℕ → Result PhysAddr NestedStop → Result PhysAddr
 place_answer address (Ok place) = Ok place
 place_answer address (Err stop) = Err (stop_at address stop)
 
+-- where an address leads, or what the instruction meets
+unfoldable pub walk_place : View → Access → ℕ → Result PhysAddr BusStop
+walk_place core access address = place_answer address (place_of core access address)
+
 -- the answer of a read of a byte
 abbrev pub byte_answer : Result ℕ Missing → Result ℕ BusStop
 byte_answer (Ok byte) = Ok byte
 byte_answer (Err gap) = Err (bus.Missing gap.frame)
+
+-- the answer of a write of a word
+abbrev pub word_answer : Result (Unit {0}) Missing → Result (Unit {0}) BusStop
+word_answer (Ok done) = Ok done
+word_answer (Err gap) = Err (bus.Missing gap.frame)
 
 -- what is read where the walk led
 abbrev pub byte_behind : Physical → ℕ → Result PhysAddr NestedStop → Result ℕ BusStop

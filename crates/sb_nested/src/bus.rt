@@ -1,18 +1,15 @@
 //! The bus of a core: its memory through the nested walk.
 
-ghost use Rattle.std.specs.Prelude.{◌≡◌, ◌<◌, IfErr, IsTrue};
+ghost use Rattle.std.specs.Prelude.{◌≡◌, ◌<◌, IsTrue};
 ghost use Rattle.sb_memory.specs.Physical.{frame_count};
-ghost use Rattle.sb_memory.specs.declared.address.Access.TheVariants.{Write};
 ghost use Rattle.sb_walks.specs.Entry.{frame_in};
 ghost use Rattle.sb_walks.specs.Ept.{is_eptp};
-ghost use Rattle.sb_bus.specs.Access.{IsSize, byte_for, bytes_from, store_answer};
-ghost use Rattle.sb_memory.specs.Accounts.{account_after_reads};
-ghost use Rattle.sb_nested.specs.View.{view, view_byte};
-ghost use Rattle.sb_nested.specs.Store.{after_answer, load_calls, put_answer, store_place};
 
-use crate::look::{byte, bytes};
-use crate::store::{put, store_places};
-use crate::whole::store_word;
+use crate::nested::translate;
+use crate::read::{byte, bytes, stop_at};
+use crate::store_bytes::store_bytes;
+use crate::store_word::store_word;
+use crate::walk::Walk;
 use sb_bus::{Bus, BusStop};
 use sb_memory::{Access, Linear, Phys, PhysAddr};
 
@@ -44,31 +41,49 @@ impl<'a, P: Phys> NestedBus<'a, P> {
     }
 }
 
-/// Puts the lowest bytes of a value at an address, one by one. Each of them is read before the first is written.
-#[tactic(auto, using(crate::proofs::Writing::store_answered))]
-fn store_bytes<P: Phys>(
-    phys: &mut P,
-    eptp: u64,
-    cr3: u64,
-    at: Linear,
-    size: u8,
-    value: u64,
-) -> Result<(), BusStop>
-    requires eptp { IsTrue (is_eptp eptp) }
-    requires root { frame_in eptp < frame_count (P.meaning phys.old) }
-    requires size { IsSize size }
-    ensures frames { frame_count (P.meaning phys.new) ≡ frame_count (P.meaning phys.old) }
-    ensures answer { result ≡ store_answer (byte_for (view_byte (view (P.meaning phys.old) eptp cr3)) Write) at.0 size }
-    ensures memory { P.meaning phys.new ≡ put_answer (P.meaning phys.old) (bytes_from (store_place (view (P.meaning phys.old) eptp cr3)) at.0 size) value }
-    ensures stopped { IfErr result (λ stop. P.meaning phys.new ≡ P.meaning phys.old) }
-    ensures account { P.account phys.new ≡ after_answer P.rule (P.meaning phys.old) (bytes_from (store_place (view (P.meaning phys.old) eptp cr3)) at.0 size) value (account_after_reads P.rule (P.meaning phys.old) (load_calls (view (P.meaning phys.old) eptp cr3) Write at.0 size) (P.account phys.old)) }
-    ensures kept { P.kept phys.new ≡ P.kept phys.old }
-{
-    let mut places = [PhysAddr(0); 8];
-    let places = &mut places[..usize::from(size)];
-    store_places(phys, eptp, cr3, at, places)?;
-    put(phys, places, value);
-    Ok(())
+impl<'a, P: Phys> Walk for NestedBus<'a, P> {
+    ghost use Rattle.std.specs.Prelude.{ℕ};
+    ghost use Rattle.sb_nested.specs.View.{view};
+
+    ghost Account = { P.Account };
+
+    ghost Kept = { ℕ × ℕ × ℕ × P.Kept };
+
+    ghost view = { λ bus. view (P.meaning bus.phys.now) bus.eptp bus.cr3 };
+
+    ghost account = { λ bus. P.account bus.phys.now };
+
+    ghost kept = { λ bus. (bus.phys.ghost_name, bus.eptp, bus.cr3, P.kept bus.phys.now) };
+
+    ghost rule = { P.rule };
+
+    #[tactic(auto, using(crate::proofs::Places::calls_are_words, sb_walks::proofs::Page::place_offset), unfolding(crate::specs::View::walk_place, crate::specs::View::place_of))]
+    fn place(&mut self, at: Linear, access: Access) -> Result<PhysAddr, BusStop> {
+        match translate(self.phys, self.eptp, self.cr3, at, access) {
+            Ok(place) => Ok(place),
+            Err(stop) => Err(stop_at(at, stop)),
+        }
+    }
+
+    fn read_byte(&mut self, place: PhysAddr) -> Result<u8, BusStop> {
+        match self.phys.read_byte(place) {
+            Ok(byte) => Ok(byte),
+            Err(gap) => Err(BusStop::Missing(gap.frame)),
+        }
+    }
+
+    #[tactic(auto, using(crate::proofs::Stores::frames_after))]
+    fn write_byte(&mut self, place: PhysAddr, byte: u8) {
+        let _ = self.phys.write_byte(place, byte);
+    }
+
+    #[tactic(auto, using(crate::proofs::Stores::frames_after_word))]
+    fn write_word(&mut self, place: PhysAddr, word: u64) -> Result<(), BusStop> {
+        match self.phys.write_word(place, word) {
+            Ok(()) => Ok(()),
+            Err(gap) => Err(BusStop::Missing(gap.frame)),
+        }
+    }
 }
 
 impl<'a, P: Phys> Bus for NestedBus<'a, P> {
@@ -92,25 +107,25 @@ impl<'a, P: Phys> Bus for NestedBus<'a, P> {
 
     #[tactic(auto, unfolding(crate::specs::Store::view_rule))]
     fn fetch(&mut self, at: Linear) -> Result<u8, BusStop> {
-        byte(self.phys, self.eptp, self.cr3, at, Access::Fetch)
+        byte(self, at, Access::Fetch)
     }
 
     #[tactic(auto, unfolding(crate::specs::Store::view_rule))]
     fn load(&mut self, at: Linear, size: u8) -> Result<u64, BusStop> {
-        bytes(self.phys, self.eptp, self.cr3, at, size, Access::Read)
+        bytes(self, at, size, Access::Read)
     }
 
     #[tactic(auto, using(crate::proofs::Writing::loaded_for_write), unfolding(crate::specs::Store::view_rule))]
     fn load_for_write(&mut self, at: Linear, size: u8) -> Result<u64, BusStop> {
-        bytes(self.phys, self.eptp, self.cr3, at, size, Access::Write)
+        bytes(self, at, size, Access::Write)
     }
 
     #[tactic(auto, unfolding(crate::specs::Store::view_rule, crate::specs::Store::store_rule, crate::specs::Store::memory_stored))]
     fn store(&mut self, at: Linear, size: u8, value: u64) -> Result<(), BusStop> {
         if size == 8 && at.0 % 8 == 0 {
-            store_word(self.phys, self.eptp, self.cr3, at, value)
+            store_word(self, at, value)
         } else {
-            store_bytes(self.phys, self.eptp, self.cr3, at, size, value)
+            store_bytes(self, at, size, value)
         }
     }
 }

@@ -16,11 +16,12 @@
 
 mod bus;
 mod law;
-mod look;
 mod nested;
-mod store;
+mod read;
+mod store_bytes;
+mod store_word;
 mod tables;
-mod whole;
+mod walk;
 
 pub use bus::NestedBus;
 pub use law::{at_most_24_words, stores_change_what_they_reach, whole_memories_miss_nothing};

@@ -6,40 +6,20 @@ ghost use Rattle.sb_memory.specs.Accounts.{account_after_words};
 ghost use Rattle.sb_memory.specs.Physical.{frame_count};
 ghost use Rattle.sb_walks.specs.Entry.{frame_in};
 ghost use Rattle.sb_walks.specs.Ept.{is_eptp};
-ghost use Rattle.sb_walks.specs.Guest.{walk_reads, guest_walk};
-ghost use Rattle.sb_walks.specs.Nested.{entries_reads, guest_entry, mapped_answer, translation, translation_reads};
+ghost use Rattle.sb_walks.specs.Nested.{mapped_answer, translation, translation_reads};
 
 use crate::tables::TablesBehindEpt;
 use sb_eptwalk::ept_walk;
-use sb_memory::{Access, GuestPhys, Linear, Phys, PhysAddr};
+use sb_memory::{Access, Linear, Phys, PhysAddr};
 use sb_pagewalk::walk;
-use sb_walks::{NestedStop, WalkStop};
-
-/// The guest's walk, whose entries are read through the EPT.
-#[tactic(auto, using(crate::proofs::Entries::after_entries_words))]
-fn guest_walk<P: Phys>(
-    phys: &mut P,
-    eptp: u64,
-    cr3: u64,
-    at: Linear,
-    access: Access,
-) -> Result<GuestPhys, WalkStop>
-    requires eptp { IsTrue (is_eptp eptp) }
-    requires root { frame_in eptp < frame_count (P.meaning phys.old) }
-    ensures answer { result ≡ guest_walk (guest_entry (mapped_answer (P.meaning phys.old) eptp)) cr3 at.0 access }
-    ensures same { P.meaning phys.new ≡ P.meaning phys.old }
-    ensures account { P.account phys.new ≡ account_after_words P.rule (P.meaning phys.old) (entries_reads (mapped_answer (P.meaning phys.old) eptp) (walk_reads (guest_entry (mapped_answer (P.meaning phys.old) eptp)) cr3 at.0 access)) (P.account phys.old) }
-    ensures kept { P.kept phys.new ≡ P.kept phys.old }
-{
-    walk(&mut TablesBehindEpt { phys, eptp }, cr3, at, access)
-}
+use sb_walks::NestedStop;
 
 /// The physical address of a linear one for a user-mode access: the guest's walk from the table to which CR3 leads, in which
 /// each address goes through the EPT, those of entries for reading and the last one for the access.
 ///
 /// `Walk` is a refusal of the guest's walk, where an entry that cannot be read through the EPT is `WalkStop::Table`. `Page` is
 /// a refusal of the EPT at the address to which that walk leads.
-#[tactic(auto, using(sb_memory::proofs::Accounts::after_words_append), unfolding(sb_walks::specs::Nested::translation, sb_walks::specs::Nested::translation_reads))]
+#[tactic(auto, using(crate::proofs::Entries::after_entries_words, sb_memory::proofs::Accounts::after_words_append), unfolding(sb_walks::specs::Nested::translation, sb_walks::specs::Nested::translation_reads))]
 pub fn translate<P: Phys>(
     phys: &mut P,
     eptp: u64,
@@ -55,7 +35,7 @@ pub fn translate<P: Phys>(
     ensures account { P.account phys.new ≡ account_after_words P.rule (P.meaning phys.old) (translation_reads (mapped_answer (P.meaning phys.old) eptp) cr3 at.0 access) (P.account phys.old) }
     ensures kept { P.kept phys.new ≡ P.kept phys.old }
 {
-    match guest_walk(phys, eptp, cr3, at, access) {
+    match walk(&mut TablesBehindEpt { phys, eptp }, cr3, at, access) {
         Ok(page) => match ept_walk(phys, eptp, page, access) {
             Ok(place) => Ok(place),
             Err(stop) => Err(NestedStop::Page(stop)),

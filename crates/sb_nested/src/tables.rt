@@ -1,11 +1,9 @@
 //! The guest's tables, read through the extended page tables.
 
-ghost use Rattle.std.specs.Prelude.{◌≡◌, ◌%◌, ◌<◌, IsTrue};
+ghost use Rattle.std.specs.Prelude.{◌<◌, IsTrue};
 ghost use Rattle.sb_memory.specs.Physical.{frame_count};
-ghost use Rattle.sb_memory.specs.Accounts.{account_after_words};
 ghost use Rattle.sb_walks.specs.Entry.{frame_in};
 ghost use Rattle.sb_walks.specs.Ept.{is_eptp};
-ghost use Rattle.sb_walks.specs.Nested.{guest_entry, guest_entry_reads, mapped_answer};
 
 use sb_eptwalk::ept_walk;
 use sb_memory::{Access, GuestPhys, Phys};
@@ -41,29 +39,16 @@ impl<'a, P: Phys> Tables for TablesBehindEpt<'a, P> {
 
     ghost kept = { λ tables. (tables.phys.ghost_name, P.kept tables.phys.now) };
 
-    #[tactic(auto, unfolding(sb_walks::specs::Nested::entry_rule))]
+    /// The entry at a guest-physical place, which goes through the EPT for reading.
+    #[tactic(auto, using(sb_memory::proofs::Accounts::after_words_append), unfolding(sb_walks::specs::Nested::entry_rule, sb_walks::specs::Nested::guest_entry, sb_walks::specs::Nested::guest_entry_reads))]
     fn entry(&mut self, at: GuestPhys) -> Result<u64, TableStop> {
-        read_entry(self.phys, self.eptp, at)
-    }
-}
-
-/// The entry at a guest-physical place, which goes through the EPT for reading.
-#[tactic(auto, using(sb_memory::proofs::Accounts::after_words_append), unfolding(sb_walks::specs::Nested::guest_entry, sb_walks::specs::Nested::guest_entry_reads))]
-fn read_entry<P: Phys>(phys: &mut P, eptp: u64, at: GuestPhys) -> Result<u64, TableStop>
-    requires eptp { IsTrue (is_eptp eptp) }
-    requires root { frame_in eptp < frame_count (P.meaning phys.old) }
-    requires aligned { at.0 % 8 ≡ 0 }
-    ensures answer { result ≡ guest_entry (mapped_answer (P.meaning phys.old) eptp) at.0 }
-    ensures same { P.meaning phys.new ≡ P.meaning phys.old }
-    ensures account { P.account phys.new ≡ account_after_words P.rule (P.meaning phys.old) (guest_entry_reads (mapped_answer (P.meaning phys.old) eptp) at.0) (P.account phys.old) }
-    ensures kept { P.kept phys.new ≡ P.kept phys.old }
-{
-    let place = match ept_walk(phys, eptp, at, Access::Read) {
-        Ok(place) => place,
-        Err(stop) => return Err(TableStop::Ept(stop)),
-    };
-    match phys.read_word(place) {
-        Ok(entry) => Ok(entry),
-        Err(gap) => Err(TableStop::Missing(gap.frame)),
+        let place = match ept_walk(self.phys, self.eptp, at, Access::Read) {
+            Ok(place) => place,
+            Err(stop) => return Err(TableStop::Ept(stop)),
+        };
+        match self.phys.read_word(place) {
+            Ok(entry) => Ok(entry),
+            Err(gap) => Err(TableStop::Missing(gap.frame)),
+        }
     }
 }

@@ -86,7 +86,8 @@ none_behind _ kind insn helper is = absurd cc
 
 -- ---- where the operand is
 
-rm_is : (insn : Insn) (modrm : ℕ) → insn.modrm ≡ Some modrm → forms.register_number (rm_field modrm) (rex_b insn.rex) ≡ rm_number insn
+rm_is : (insn : Insn) (modrm : ℕ) → insn.modrm ≡ Some modrm
+    → forms.register_number (rm_field modrm) (rex_b insn.rex) ≡ rm_number insn
 rm_is insn modrm is =
     let byte : modrm_of insn ≡ modrm = ap (λ (m : Option ℕ). unwrap_or m 0) is in
     omega (arith, byte)

@@ -54,7 +54,10 @@ use Rattle.sb_forms.proofs.QuietPieces.{number_7}
 -- ---- a product
 
 abbrev pub product_by : Size → Flags → Bool → ℕ → Outcome
-product_by size flags lost product = record { value = Some (product % modulus size); flags = record flags { cf = lost; of = lost; sf = is_negative size (product % modulus size) } }
+product_by size flags lost product = record {
+  value = Some (product % modulus size);
+  flags = record flags { cf = lost; of = lost; sf = is_negative size (product % modulus size) };
+}
 
 pub multiplied_comm : (size : Size) (first second : ℕ) (flags : Flags)
     → product_outcome size first second flags ≡ product_outcome size second first flags
@@ -111,7 +114,8 @@ move_row move regs place size number = record {
 }
 
 move_by : (insn : Insn) (helper : Helper) (regs : Regs)
-    → row_of (move_product insn helper) regs ≡ move_row (move_product insn helper) regs (rm_location (move_product insn helper) regs)
+    → row_of (move_product insn helper) regs
+    ≡ move_row (move_product insn helper) regs (rm_location (move_product insn helper) regs)
     (operand_size (move_product insn helper)) (reg_number (move_product insn helper))
 unfolding row_of action_of action_by instruction_of operand_for one_byte move_product load_of store_of after_action effect_of
     compute_result destination first_operand last_operand operation_outcome rm_use

@@ -65,8 +65,8 @@ push_row insn regs value =
 main_is : (helper : Helper) (regs : Regs)
     → row_of (opcode_alone (0x50 + number_of helper)) regs
     ≡ push_row (opcode_alone (0x50 + number_of helper)) regs (general regs (number_of helper) % 2 ^ 64)
-unfolding row_of action_of action_by instruction_of one_byte load_of store_of after_action effect_of last_operand rm_use rm_location
-    low
+unfolding row_of action_of action_by instruction_of one_byte load_of store_of after_action effect_of last_operand rm_use
+    rm_location low
 main_is Rcx regs = refl
 main_is Rdx regs = refl
 main_is Rbx regs = refl

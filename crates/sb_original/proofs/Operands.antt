@@ -42,7 +42,8 @@ reg_fields : (n r : ℕ) → n ≤ 7 → r ≤ 7
     → ((0xC0 + n + 8 * r) / 64 ≡ 3) × ((0xC0 + n + 8 * r) / 8 % 8 ≡ r) × ((0xC0 + n + 8 * r) % 8 ≡ n)
 reg_fields n r nn rr = (omega arith, omega arith, omega arith)
 
-pub register_place : (insn : Insn) (regs : Regs) → mod_field (modrm_of insn) ≡ 3 → rm_location insn regs ≡ Register (rm_number insn)
+pub register_place : (insn : Insn) (regs : Regs) → mod_field (modrm_of insn) ≡ 3
+    → rm_location insn regs ≡ Register (rm_number insn)
 unfolding rm_location
 register_place insn regs is =
     cond-true (mod_field (modrm_of insn) == 3) (Register (rm_number insn)) (Memory (linear (operand_address insn regs)))

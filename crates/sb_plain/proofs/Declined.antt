@@ -1,15 +1,13 @@
 -- A refused system call leaves all but five registers of its thread as it was.
-use Rattle.std.proofs.Common.{◌≡◌, ◌≢◌, ℕ, ◌+◌, ◌<◌, ◌==◌, Bool, true, false, List, length, Option, Some, None, refl, sym, ap, ◌∙◌, subst, if◌then◌else◌, get_or-set_other, get_or-set_same}
-use Rattle.std.proofs.lemmas.List.{length-set}
-use Rattle.std.specs.Prelude.{slice_index, slice_get, slice_set, unwrap_or}
-use Rattle.std.proofs.lemmas.Option.{slice_get_read}
+use Rattle.std.proofs.Common.{◌≡◌, ◌≢◌, ℕ, ◌+◌, ◌<◌, ◌==◌, Bool, true, false, List, length, Option, Some, None, refl, sym, ap, ◌∙◌, subst, if◌then◌else◌, get_or-set_other}
+use Rattle.std.specs.Prelude.{slice_index, slice_set}
 use Rattle.sb_insn.specs.Registers.{flags_image}
 use Rattle.sb_insn.specs.declared.registers.Regs.{Regs}
 use Rattle.sb_trace.specs.declared.event.Event.{Event}
 use Rattle.sb_state.specs.declared.state.Thread.{Thread}
 use Rattle.sb_trace.specs.Home.{Outcome}
 use Rattle.sb_state.specs.Registers.{rax, rdi, rsi}
-use Rattle.sb_state.specs.State.{State, thread_at, no_thread, with_regs}
+use Rattle.sb_state.specs.State.{State, thread_at, with_regs}
 use Rattle.sb_state.specs.Windows.{process_now}
 use Rattle.sb_abi.specs.declared.call.CallRefusal.{CallRefusal}
 use Rattle.sb_abi.specs.declared.call.CallRefusal.TheVariants.{NoCall, Pattern}
@@ -21,6 +19,7 @@ use Rattle.sb_trace.specs.SyscallBind.{bind_outcome}
 use Rattle.sb_trace.specs.SyscallProtect.{execute_mode_outcome, protect_outcome_by}
 use Rattle.sb_trace.specs.Syscall.{exit_outcome, outcome_by_number, syscall_outcome}
 use Rattle.sb_state.specs.Pattern.{heap_pattern}
+use Rattle.sb_state.proofs.Threads.{regs_set}
 use Rattle.sb_plain.specs.Declined.{IsDeclined, KeepsOthers, LeavesAll}
 
 -- what is said of a call's outcome
@@ -45,20 +44,6 @@ others_stay address regs answer second = record {
   flags = refl;
 }
 
-put_there : (threads : List Thread) (number : ℕ) (thread : Thread) → number < length threads
-    → slice_get (slice_set threads number thread) number ≡ Some thread
-put_there threads number thread inside =
-    slice_get_read (slice_set threads number thread) (length threads) number thread
-    (sym (length-set threads number thread)) inside
-    (sym (get_or-set_same threads number thread thread inside))
-
-regs_there : (state : State) (number : ℕ) (regs : Regs) → number < length state.threads
-    → (thread_at (with_regs state number regs) number).regs ≡ regs
-unfolding thread_at with_regs
-regs_there state number regs inside =
-    ap (λ (found : Option Thread). (unwrap_or found no_thread).regs)
-    (put_there state.threads number (record (unwrap_or (slice_get state.threads number) no_thread) { regs = regs }) inside)
-
 -- ---- the calls
 
 by_test : (state : State) (number : ℕ) (regs : Regs) (test : Bool) (first second : Outcome) → Leaves state number regs first
@@ -74,7 +59,7 @@ module _ (address : ℕ) (regs : Regs) where
   declined_leaves : (state : State) (number : ℕ) (answer second : ℕ) → number < length state.threads
       → LeavesAll state (state_after_call state number next answer second) number regs
   declined_leaves state number answer second inside =
-      let there = regs_there state number (regs_with_answer next answer second) inside in
+      let there = regs_set state number (regs_with_answer next answer second) inside in
       record {
         state = ap (λ (left : Regs). with_regs state number left) (sym there);
         registers = subst (λ (left : Regs). KeepsOthers regs left) (sym there) (others_stay address regs answer second);

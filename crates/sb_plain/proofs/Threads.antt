@@ -1,26 +1,12 @@
 -- An instruction changes no thread but through its registers.
-use Rattle.std.proofs.Common.{◌≡◌, ℕ, List, [], ◌∷◌, refl, ◌∙◌}
+use Rattle.std.proofs.Common.{◌≡◌, ℕ, refl, ◌∙◌}
 use Rattle.sb_insn.specs.declared.registers.Regs.{Regs}
 use Rattle.sb_exec.specs.Row.{Row}
 use Rattle.sb_exec.specs.Execution.{execution_of}
 use Rattle.sb_exec.proofs.Keeps.{execution_keeps}
-use Rattle.sb_state.specs.declared.page.PageName.{PageName}
-use Rattle.sb_state.specs.State.{State, with_contents}
-use Rattle.sb_state.specs.PlainMemory.{Placed, bytes_to_put, put_byte, put_all, plain_stored, plain}
-
-put_threads : (state : State) (name : PageName) (offset value : ℕ) → (put_byte state name offset value).threads ≡ state.threads
-unfolding put_byte with_contents
-put_threads state name offset value = refl
-
-all_threads : (state : State) (bytes : List Placed) → (put_all state bytes).threads ≡ state.threads
-all_threads state [] = refl
-all_threads state (byte ∷ others) =
-    all_threads (put_byte state byte.name byte.offset byte.value) others ∙ put_threads state byte.name byte.offset byte.value
-
-stored_threads : (thread view : ℕ) (state : State) (address size value : ℕ)
-    → (plain_stored thread view state address size value).threads ≡ state.threads
-unfolding plain_stored
-stored_threads thread view state address size value = all_threads state (bytes_to_put state thread view address size value)
+use Rattle.sb_state.specs.State.{State}
+use Rattle.sb_state.specs.PlainMemory.{plain}
+use Rattle.sb_state.proofs.StoredThreads.{stored_threads}
 
 pub execution_threads : (thread view : ℕ) (row : Row) (regs : Regs) (state : State)
     → (execution_of (plain thread view) row regs state tt).meaning.threads ≡ state.threads

@@ -15,6 +15,11 @@ clash test one other = cc
 pub none_some : {A : Type 0} (found : Option A) (value : A) → found ≡ None → found ≡ Some value → ⊥
 none_some found value none some = cc
 
+-- an option that has no value is none
+pub none_found : {A : Type 0} (found : Option A) → ((value : A) → found ≡ Some value → ⊥) → found ≡ None
+none_found None never = refl
+none_found (Some value) never = absurd (never value refl)
+
 -- two values of one option are one
 pub same_found : {A : Type 0} (one other : A) (found : Option A) → found ≡ Some one → found ≡ Some other → one ≡ other
 same_found one other found first second = cc

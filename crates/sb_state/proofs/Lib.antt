@@ -18,3 +18,4 @@ pub mod Pattern
 pub mod Start
 pub mod Filling
 pub mod Threads
+pub mod StoredThreads

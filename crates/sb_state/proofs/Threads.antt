@@ -1,9 +1,10 @@
 -- Threads and flights by number, where one is set.
-use Rattle.std.proofs.Common.{◌≡◌, ◌≢◌, ap, ℕ, zero, suc, List, [], ◌∷◌, refl, slice_set}
+use Rattle.std.proofs.Common.{◌≡◌, ◌≢◌, ap, ℕ, zero, suc, ◌<◌, List, [], ◌∷◌, length, refl, slice_set, arith}
 use Rattle.std.specs.Prelude.{Option, Some, None, slice_get, unwrap_or}
+use Rattle.sb_insn.specs.declared.registers.Regs.{Regs}
 use Rattle.sb_state.specs.declared.state.Flight.{Flight}
 use Rattle.sb_state.specs.declared.state.Thread.{Thread}
-use Rattle.sb_state.specs.State.{State, thread_at, with_thread, no_thread, flight_at, with_flight}
+use Rattle.sb_state.specs.State.{State, thread_at, with_thread, with_regs, no_thread, flight_at, with_flight}
 
 -- ---- lists
 
@@ -31,6 +32,13 @@ set_there [] index old value default there = absurd cc
 set_there (first ∷ list) zero old value default there = refl
 set_there (first ∷ list) (suc index) old value default there = set_there list index old value default there
 
+-- the same where the place is one of the list
+pub set_within : {A : Type 0} (list : List A) (index : ℕ) (value default : A) → index < length list
+    → unwrap_or (slice_get (slice_set list index value) index) default ≡ value
+set_within [] index value default within = absurd (omega (arith, within))
+set_within (first ∷ list) zero value default within = refl
+set_within (first ∷ list) (suc index) value default within = set_within list index value default (omega arith)
+
 -- ---- a thread
 
 -- what is said of the thread that is set, and of the one that was there, is said of the one that is there
@@ -44,6 +52,14 @@ pub thread_set_there : (state : State) (number : ℕ) (old thread : Thread) → 
     → thread_at (with_thread state number thread) number ≡ thread
 unfolding thread_at
 thread_set_there state number old thread there = set_there state.threads number old thread no_thread there
+
+-- a thread has the registers that it is given
+pub regs_set : (state : State) (number : ℕ) (regs : Regs) → number < length state.threads
+    → (thread_at (with_regs state number regs) number).regs ≡ regs
+unfolding thread_at with_regs
+regs_set state number regs within =
+    ap (λ (thread : Thread). thread.regs)
+    (set_within state.threads number (record (thread_at state number) { regs = regs }) no_thread within)
 
 -- ---- a flight
 

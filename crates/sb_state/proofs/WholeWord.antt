@@ -1,6 +1,6 @@
 -- A word that is stored in one page.
-use Rattle.std.proofs.Common.{◌≡◌, ℕ, zero, suc, ◌+◌, ◌/◌, ◌%◌, ◌^◌, ◌<◌, ◌≤◌, Bool, true, false, List, [], ◌∷◌, Ok, Err, refl, ap, sym, ◌∙◌, arith}
-use Rattle.std.specs.Prelude.{Some, if◌then◌else◌, slice_set}
+use Rattle.std.proofs.Common.{◌≡◌, ℕ, zero, suc, ◌+◌, ◌/◌, ◌%◌, ◌^◌, ◌<◌, ◌≤◌, List, [], ◌∷◌, Ok, Err, refl, ap, sym, ◌∙◌, arith}
+use Rattle.std.specs.Prelude.{Some, slice_set}
 use Rattle.std.specs.Int.{byte_at, bytes_low_first}
 use Rattle.std.proofs.lemmas.List.Edits.{sets}
 use Rattle.std.proofs.Math.Nat.{pow-suc, div-div-eq-div-mul}
@@ -11,10 +11,9 @@ use Rattle.sb_bus.specs.Access.{byte_for, store_answer}
 use Rattle.sb_bus.proofs.Loads.{stored_where_loaded, stops_where_loaded}
 use Rattle.sb_state.specs.declared.page.PageName.{PageName}
 use Rattle.sb_state.specs.declared.page.Page.{Page}
-use Rattle.sb_state.specs.PageName.{same_name}
-use Rattle.sb_state.specs.State.{State, find_page, with_page_bytes, bytes_of, contents, with_contents}
+use Rattle.sb_state.specs.State.{State, find_page, contents, with_contents}
 use Rattle.sb_state.specs.PlainMemory.{plain_byte, Placed, put_byte, bytes_to_put, put_all, plain_stored}
-use Rattle.sb_state.proofs.PageLists.{found_same}
+use Rattle.sb_state.proofs.PageLists.{found_same, contents_own, contents_there, contents_twice}
 use Rattle.sb_state.specs.Reach.{reached}
 use Rattle.sb_state.specs.Spots.{spot_at}
 use Rattle.sb_state.proofs.InPage.{further, reached_again, word_in_page, word_refused}
@@ -27,66 +26,23 @@ placed_from name offset [] = []
 placed_from name offset (byte ∷ bytes) =
     record { name = name; offset = offset; value = byte } ∷ placed_from name (suc offset) bytes
 
-self_by : (test : Bool) (page : Page) (pages : List Page) (name : PageName)
-    → with_page_bytes pages name (bytes_of (find_page pages name)) ≡ pages
-    → (if test then (record page { bytes = bytes_of (if test then Some page else find_page pages name) }) ∷ pages
-    else page ∷ with_page_bytes pages name (bytes_of (if test then Some page else find_page pages name))) ≡ page ∷ pages
-self_by true page pages name more = refl
-self_by false page pages name more = ap (λ (others : List Page). page ∷ others) more
-
--- a page is given its own bytes
-replaced_self : (pages : List Page) (name : PageName) → with_page_bytes pages name (bytes_of (find_page pages name)) ≡ pages
-replaced_self [] name = refl
-replaced_self (page ∷ pages) name = self_by (same_name page.name name) page pages name (replaced_self pages name)
-
-again_by : (test : Bool) (page : Page) (pages : List Page) (name : PageName) (first second : List ℕ)
-    → same_name page.name name ≡ test
-    → with_page_bytes (with_page_bytes pages name first) name second ≡ with_page_bytes pages name second
-    → with_page_bytes (if test then (record page { bytes = first }) ∷ pages else page ∷ with_page_bytes pages name first) name
-    second
-    ≡ (if test then (record page { bytes = second }) ∷ pages else page ∷ with_page_bytes pages name second)
-again_by true page pages name first second is more = rw is refl
-again_by false page pages name first second is more = rw is (ap (λ (others : List Page). page ∷ others) more)
-
--- a page is given bytes, and then others
-replaced_again : (pages : List Page) (name : PageName) (first second : List ℕ)
-    → with_page_bytes (with_page_bytes pages name first) name second ≡ with_page_bytes pages name second
-replaced_again [] name first second = refl
-replaced_again (page ∷ pages) name first second =
-    again_by (same_name page.name name) page pages name first second refl (replaced_again pages name first second)
-
-with_same : (state : State) (name : PageName) → with_contents state name (contents state name) ≡ state
-unfolding contents with_contents
-with_same state name = ap (λ (pages : List Page). record state { pages = pages }) (replaced_self state.pages name)
-
-with_again : (state : State) (name : PageName) (first second : List ℕ)
-    → with_contents (with_contents state name first) name second ≡ with_contents state name second
-unfolding with_contents
-with_again state name first second =
-    ap (λ (pages : List Page). record state { pages = pages }) (replaced_again state.pages name first second)
-
 found_given : (state : State) (name : PageName) (page : Page) (bytes : List ℕ) → find_page state.pages name ≡ Some page
     → find_page (with_contents state name bytes).pages name ≡ Some (record page { bytes = bytes })
 unfolding with_contents
 found_given state name page bytes found = rw (found_same state.pages name bytes, found) refl
 
-contents_given : (state : State) (name : PageName) (page : Page) (bytes : List ℕ) → find_page state.pages name ≡ Some page
-    → contents (with_contents state name bytes) name ≡ bytes
-unfolding contents
-contents_given state name page bytes found = rw (found_given state name page bytes found) refl
-
 -- byte by byte, or all at once
 puts_sets : (bytes : List ℕ) (state : State) (name : PageName) (page : Page) (offset : ℕ) → find_page state.pages name ≡ Some page
     → put_all state (placed_from name offset bytes) ≡ with_contents state name (sets (contents state name) offset bytes)
 unfolding put_byte
-puts_sets [] state name page offset found = sym (with_same state name)
+puts_sets [] state name page offset found = sym (contents_own state name)
 puts_sets (byte ∷ bytes) state name page offset found =
     let first : List ℕ = slice_set (contents state name) offset byte in
     puts_sets bytes (with_contents state name first) name (record page { bytes = first }) (suc offset)
     (found_given state name page first found)
     ∙ ap (λ (now : List ℕ). with_contents (with_contents state name first) name (sets now (suc offset) bytes))
-    (contents_given state name page first found)
-    ∙ with_again state name first (sets first (suc offset) bytes)
+    (contents_there state name page first found)
+    ∙ contents_twice state name first (sets first (suc offset) bytes)
 
 -- ---- the bytes of a number
 

@@ -22,8 +22,8 @@ fn executable_bytes(state: &PlainState, process: u32, page: u32) -> &[u8]
     }
 }
 
-// The last two bytes of a page; none of no bytes.
-fn last_two(bytes: &[u8]) -> &[u8]
+/// The last two bytes of a page; none of no bytes.
+pub fn last_two(bytes: &[u8]) -> &[u8]
     requires { length bytes.now ≤ 4096 }
     ensures bytes { result.now ≡ drop 4094 bytes.now }
     ensures size { length result.now ≤ 2 }

@@ -43,6 +43,7 @@ pub use address_space::process_now;
 pub use bindings::{Bindings, MAX_BINDINGS};
 pub use bus::PlainBus;
 pub use end_kind::EndKind;
+pub use heap_pattern::last_two;
 pub use law::stores_change_what_they_reach;
 pub use page::{Mode, Page, PageBytes, PageName, Seen};
 pub use page_words::put_words;

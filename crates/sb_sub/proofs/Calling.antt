@@ -1,5 +1,5 @@
 -- System calls by their number, and what stands after them.
-use Rattle.std.proofs.Common.{◌≡◌, ◌≢◌, ◌∙◌, sym, ap, subst, ℕ, zero, suc, ◌<◌, ◌==◌, Bool, true, false, List, [], ◌∷◌, length, refl, get_or-set_other, arith}
+use Rattle.std.proofs.Common.{◌≡◌, ◌≢◌, ◌∙◌, sym, ap, subst, ℕ, ◌<◌, ◌==◌, Bool, true, false, List, length, refl, get_or-set_other}
 use Rattle.std.specs.Prelude.{Option, Some, None, if◌then◌else◌, slice_get, slice_set, unwrap_or}
 use Rattle.std.proofs.lemmas.Bool.{ne_eqb}
 use Rattle.std.proofs.lemmas.List.{length-map, length-set}
@@ -26,6 +26,7 @@ use Rattle.sb_calls.specs.SyscallRegisters.{regs_with_answer}
 use Rattle.sb_trace.specs.SyscallAnswer.{state_after_call, syscall_refusal, syscall_acceptance}
 use Rattle.sb_trace.specs.SyscallProtect.{heap_count, with_heap_mode, execute_mode_outcome, protect_outcome_by, protect_outcome}
 use Rattle.sb_trace.specs.Syscall.{exit_outcome, outcome_by_number, syscall_outcome}
+use Rattle.sb_state.proofs.Threads.{regs_set, set_within}
 use Rattle.sb_sub.specs.Kernel.{Kernel, Seat, seat_of, shown_in, process_from}
 use Rattle.sb_sub.specs.Refusals.{with_pattern, page_refusal, answer_by}
 use Rattle.sb_sub.specs.Outcomes.{ProtectsBy, after_protect, protect_by}
@@ -85,18 +86,6 @@ module _ (state : State) (number : ℕ) (next : Regs) (process page mode : ℕ) 
   protects_are = by_any (protect_refusal (heap_count (process_at state process)) page mode)
 
 -- ---- the thread
-
-at_set : (threads : List Thread) (number : ℕ) (thread : Thread) → number < length threads
-    → unwrap_or (slice_get (slice_set threads number thread) number) no_thread ≡ thread
-at_set [] number thread below = absurd (omega (arith, below))
-at_set (first ∷ threads) zero thread below = refl
-at_set (first ∷ threads) (suc number) thread below = at_set threads number thread (omega arith)
-
-regs_set : (state : State) (number : ℕ) (regs : Regs) → number < length state.threads
-    → (thread_at (with_regs state number regs) number).regs ≡ regs
-unfolding with_regs thread_at
-regs_set state number regs below =
-    ap (λ (thread : Thread). thread.regs) (at_set state.threads number (record (thread_at state number) { regs = regs }) below)
 
 moved_regs : (state : State) (number : ℕ) (regs : Regs) → IsMoved state (with_regs state number regs)
 unfolding with_regs thread_at
@@ -225,13 +214,14 @@ view_set : (state : State) (number view : ℕ) (regs : Regs) → number < length
 unfolding with_view thread_at
 view_set state number view regs below =
     ap (λ (thread : Thread). thread.regs)
-    (at_set state.threads number (record (thread_at state number) { view = view; regs = regs }) below)
+    (set_within state.threads number (record (thread_at state number) { view = view; regs = regs }) no_thread below)
 
 end_set : (state : State) (number : ℕ) (end : EndKind) → number < length state.threads
     → (thread_at (with_end state number end) number).regs ≡ (thread_at state number).regs
 unfolding with_end thread_at
 end_set state number end below =
-    ap (λ (thread : Thread). thread.regs) (at_set state.threads number (record (thread_at state number) { state = end }) below)
+    ap (λ (thread : Thread). thread.regs)
+    (set_within state.threads number (record (thread_at state number) { state = end }) no_thread below)
 
 regs_count : (state : State) (number : ℕ) (regs : Regs) → length (with_regs state number regs).threads ≡ length state.threads
 unfolding with_regs

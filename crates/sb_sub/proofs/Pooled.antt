@@ -33,6 +33,7 @@ use Rattle.sb_shows.specs.Keeping.{Keeps}
 use Rattle.sb_shows.proofs.Leaves.{guest_permits, leaf_judged}
 use Rattle.sb_shows.proofs.Registering.{word_kept}
 use Rattle.sb_shows.proofs.Threads.{keeps_moved}
+use Rattle.sb_state.proofs.Cases.{same_some}
 use Rattle.sb_sub.specs.Heap.{led_to}
 use Rattle.sb_sub.specs.Carries.{Carries}
 use Rattle.sb_sub.specs.Registering.{FindsPool, RegistersPages, Registered, pool_at, pool_found}
@@ -132,11 +133,10 @@ module _ (placement : Placement) (root : RootKernel) (book : Book) (memory : Phy
   module _ (handler stacks : ℕ) (book' : Book) (new : Physical) (few : stacks ≤ 16) (none : (page : ℕ)
       → find_page state.pages (ServerStack process page) ≡ None)
       (registers : RegistersPages (placement.sets process) root book book' memory new process stacks) where
-    some_frame : (first second : Frame) → Some first ≡ Some second → first.0 ≡ second.0
-    some_frame first second same = cc
-
     frame_same : registers.frame.0 ≡ placement.frame name
-    frame_same = some_frame registers.frame (record { 0 = placement.frame name }) (sym registers.found ∙ pool_frame)
+    frame_same =
+        ap (λ (frame : Frame). frame.0)
+        (same_some registers.frame (record { 0 = placement.frame name }) (sym registers.found ∙ pool_frame))
 
     abbrev word : ℕ
     word = 2 ^ stacks - 1

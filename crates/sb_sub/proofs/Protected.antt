@@ -29,15 +29,13 @@ use Rattle.sb_shows.specs.Placement.{IsThere, leaf_for, rights_for}
 use Rattle.sb_shows.specs.Keeping.{Keeps}
 use Rattle.sb_shows.specs.Calls.{SetsPage, ExposesFrame}
 use Rattle.sb_shows.proofs.Protecting.{guest_root_apart, there_mode, protected_keeps}
+use Rattle.sb_state.proofs.Cases.{same_some}
 use Rattle.sb_sub.specs.Kernel.{Entry, Kernel, process_of}
 use Rattle.sb_sub.specs.Heap.{SetsMode, heap_at, heap_mode, pattern_at}
 use Rattle.sb_sub.specs.Refusals.{with_pattern, page_refusal}
 use Rattle.sb_sub.specs.StandsFor.{StandsFor}
 use Rattle.sb_sub.specs.Outcomes.{ProtectsBy, after_protect}
 use Rattle.sb_sub.proofs.Finding.{process_found, process_there, set_is, page_there, frame_read, heap_few, pattern_same}
-
-some_frame : (first second : Frame) → Some first ≡ Some second → first.0 ≡ second.0
-some_frame first second same = cc
 
 mode_is : (process page : ℕ) (executable : Bool) → mode_of (Heap process page) executable ≡ heap_mode executable
 unfolding mode_of
@@ -85,8 +83,8 @@ module _ (kernel : Kernel) (root : RootKernel) (book : Book) (memory : Physical)
     name = Heap process page
 
     frame_is : sets.frame.0 ≡ stands.placement.frame name
-    frame_is = some_frame sets.frame (record { 0 = stands.placement.frame name })
-        (sym sets.found ∙ frame_read kernel root book memory state stands process entry kept page below)
+    frame_is = ap (λ (frame : Frame). frame.0) (same_some sets.frame (record { 0 = stands.placement.frame name })
+        (sym sets.found ∙ frame_read kernel root book memory state stands process entry kept page below))
 
     page_set : SetsPage (stands.placement.sets process) memory sets.mid (heap_at page)
         (leaf_for (stands.placement.frame name) (mode_of name executable))

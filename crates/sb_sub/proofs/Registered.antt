@@ -8,11 +8,11 @@ use Rattle.sb_frames.specs.Book.{Book, free_count}
 use Rattle.sb_pagewalk.specs.declared.table_set.TableSet.{TableSet}
 use Rattle.sb_root.specs.declared.root_kernel.RootKernel.{RootKernel}
 use Rattle.sb_state.specs.declared.page.PageName.TheVariants.{Pool, ServerStack}
-use Rattle.sb_state.specs.declared.page.Page.{Page}
 use Rattle.sb_trace.specs.PageWords.{with_word}
 use Rattle.sb_trace.specs.State.{State, Process, find_page, with_contents, process_at, registration_of}
 use Rattle.sb_trace.specs.SyscallRegister.{with_registration, with_server}
 use Rattle.sb_shows.specs.Placement.{IsThere}
+use Rattle.sb_state.proofs.Cases.{none_found}
 use Rattle.sb_sub.specs.Kernel.{Entry, Kernel, process_of, seat_of}
 use Rattle.sb_sub.specs.Whole.{Belongs, stack_count}
 use Rattle.sb_sub.specs.StandsFor.{StandsFor}
@@ -28,10 +28,6 @@ map_set : (list : List Entry) (index : ℕ) (entry : Entry)
 map_set [] index entry = refl
 map_set (first ∷ list) zero entry = refl
 map_set (first ∷ list) (suc index) entry = ap (λ (rest : List Process). process_of first ∷ rest) (map_set list index entry)
-
-none_by : (found : Option Page) → ((page : Page) → found ≡ Some page → ⊥) → found ≡ None
-none_by None no_page = refl
-none_by (Some page) no_page = absurd (no_page page refl)
 
 module _ (kernel : Kernel) (root : RootKernel) (book : Book) (memory : Physical) (state : State)
     (stands : StandsFor kernel root book memory state)
@@ -55,7 +51,7 @@ module _ (kernel : Kernel) (root : RootKernel) (book : Book) (memory : Physical)
 
   no_stack : (page : ℕ) → find_page state.pages (ServerStack process page) ≡ None
   unfolding Belongs
-  no_stack page = none_by (find_page state.pages (ServerStack process page)) (λ one found.
+  no_stack page = none_found (find_page state.pages (ServerStack process page)) (λ one found.
       let has = (stands.whole.pages (ServerStack process page)).0 (one, found) in
       let none = ap (λ (p : Option Process). stack_count (registration_of p)) is_found ∙ ap stack_count unregistered in
       omega (arith, has, none))

@@ -11,6 +11,7 @@ use sb_abi::HEAP_ADDRESS;
 use sb_memory::{Access, Frame, Linear, Memory};
 use sb_pagewalk::{Direct, TableSet, walk};
 use sb_scan::first_place;
+use sb_state::last_two;
 
 /// The bytes of a page.
 const PAGE_SIZE: usize = sb_memory::PAGE_SIZE as usize;
@@ -50,16 +51,6 @@ fn frame_bytes(memory: &Memory, frame: Option<Frame>) -> &[u8]
         }
         None => &[],
     }
-}
-
-/// The last two bytes of a page; none of no bytes.
-fn last_two(bytes: &[u8]) -> &[u8]
-    requires { length bytes.now ≤ 4096 }
-    ensures bytes { result.now ≡ drop 4094 bytes.now }
-    ensures size { length result.now ≤ 2 }
-{
-    let start = (PAGE_SIZE - 2).min(bytes.len());
-    &bytes[start..]
 }
 
 /// The first two bytes of a page; none of no bytes.

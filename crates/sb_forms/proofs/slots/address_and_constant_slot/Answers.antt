@@ -15,7 +15,9 @@ returns-clause-table c =
     let second = c.second_helper-second.result in
     let fits : FitsSigned w32 c.args.value = c.ranges.value in
     let saved = alone c.of-pre.result (save helper first_saved) c.save.result c.save.ensures.value c.of-pre.ensures.code in
-    let both = more c.of-pre.result c.put.new.self (save helper first_saved ∷ []) (save second second_saved ∷ []) saved (one c.of-pre.result c.put.new.self (save second second_saved) c.save-2.result c.save-2.ensures.value c.put.ensures.code) in
+    let both =
+    more c.of-pre.result c.put.new.self (save helper first_saved ∷ []) (save second second_saved ∷ []) saved
+    (one c.of-pre.result c.put.new.self (save second second_saved) c.save-2.result c.save-2.ensures.value c.put.ensures.code) in
     let addressed =
     more c.put.new.self c.put_address.new.code (save helper first_saved ∷ save second second_saved ∷ [])
     (load_address_of_operand helper c.args.insn.now c.args.site.next) both c.put_address.ensures.code in

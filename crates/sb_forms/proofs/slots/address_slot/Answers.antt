@@ -20,7 +20,10 @@ returns-clause-table c =
     (save helper first_saved ∷ load_address_of_operand helper c.args.insn.now c.args.site.next)
     (with_helper helper c.args.insn.now)
     (restore helper first_saved ∷ [])
-    (more c.of-pre.result c.put_address.new.code (save helper first_saved ∷ []) (load_address_of_operand helper c.args.insn.now c.args.site.next) (alone c.of-pre.result (save helper first_saved) c.save.result c.save.ensures.value c.of-pre.ensures.code) c.put_address.ensures.code)
+    (more c.of-pre.result c.put_address.new.code (save helper first_saved ∷ [])
+    (load_address_of_operand helper c.args.insn.now c.args.site.next)
+    (alone c.of-pre.result (save helper first_saved) c.save.result c.save.ensures.value c.of-pre.ensures.code)
+    c.put_address.ensures.code)
     c.with_helper.ensures.value
     (alone c.of-post.result (restore helper first_saved) c.restore.result c.restore.ensures.value c.of-post.ensures.code)
     c.moved.ensures.moved)

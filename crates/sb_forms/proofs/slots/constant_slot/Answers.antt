@@ -23,7 +23,9 @@ returns-clause-table c =
     (save helper first_saved ∷ load_constant helper c.args.value)
     (on_register c.args.instruction.mnemonic c.args.instruction.form c.args.insn.now helper)
     (behind_main c.args.instruction.mnemonic c.args.insn.now helper ++ restore helper first_saved ∷ [])
-    (more c.of-pre.result c.put_constant.new.code (save helper first_saved ∷ []) (load_constant helper c.args.value) (alone c.of-pre.result (save helper first_saved) c.save.result c.save.ensures.value c.of-pre.ensures.code) (simp to_z-of_z at c.put_constant.ensures.code))
+    (more c.of-pre.result c.put_constant.new.code (save helper first_saved ∷ []) (load_constant helper c.args.value)
+    (alone c.of-pre.result (save helper first_saved) c.save.result c.save.ensures.value c.of-pre.ensures.code)
+    (simp to_z-of_z at c.put_constant.ensures.code))
     c.on_register-main.ensures.value
     (more c.behind-post.result c.put.new.self (behind_main c.args.instruction.mnemonic c.args.insn.now helper)
     (restore helper first_saved ∷ []) c.behind-post.ensures.code

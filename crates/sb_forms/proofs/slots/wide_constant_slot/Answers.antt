@@ -17,7 +17,8 @@ returns-clause-table c =
     let low : c.low_half.result ≡ low_half c.args.value = simp to_z-of_z at c.low_half.ensures in
     let high : c.high_half.result ≡ high_half c.args.value = simp to_z-of_z at c.high_half.ensures in
     let saved = alone c.of-pre.result (save helper first_saved) c.save.result c.save.ensures.value c.of-pre.ensures.code in
-    let low_in : c.put_constant.new.code ≡ c.of-pre.result ++ spelled_bytes (load_constant helper c.low_half.result) = simp to_z-of_z at c.put_constant.ensures.code in
+    let low_in : c.put_constant.new.code ≡ c.of-pre.result ++ spelled_bytes (load_constant helper c.low_half.result) =
+    simp to_z-of_z at c.put_constant.ensures.code in
     let high_in : c.put_constant-2.new.code ≡ c.put.new.self ++ spelled_bytes (load_constant helper c.high_half.result) =
     simp to_z-of_z at c.put_constant-2.ensures.code in
     let lower = load_constant helper c.low_half.result in

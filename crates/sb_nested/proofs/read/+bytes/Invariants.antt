@@ -1,4 +1,4 @@
-use Rattle.sb_nested.proofs.look.+bytes.Given as goal
+use Rattle.sb_nested.proofs.read.+bytes.Given as goal
 
 abbrev pub decreases-bytes : goal.decreases-bytes
 decreases-bytes g l = l.size

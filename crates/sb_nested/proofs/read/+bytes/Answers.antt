@@ -1,6 +1,6 @@
 use Rattle.std.proofs.Common.{◌<◌, ◌^◌, ◌-◌, arith}
 use Rattle.sb_bus.proofs.Loads.{number_below}
-use Rattle.sb_nested.proofs.look.+bytes.Goals as goal
+use Rattle.sb_nested.proofs.read.+bytes.Goals as goal
 
 pub overflow_mul-result : goal.overflow_mul-result
 overflow_mul-result g t c =

@@ -1,0 +1,58 @@
+//! Bytes read through the nested walk.
+
+ghost use Rattle.std.specs.Prelude.{◌≡◌, ◌*◌, ◌%◌, ◌≤◌, ◌<◌, ◌^◌, IfOk};
+ghost use Rattle.sb_memory.specs.Accounts.{account_after_reads};
+ghost use Rattle.sb_bus.specs.Access.{byte_for, loaded_from};
+ghost use Rattle.sb_nested.specs.Stop.{stop_at};
+ghost use Rattle.sb_nested.specs.View.{byte_calls, view_byte};
+ghost use Rattle.sb_nested.specs.Store.{load_calls};
+
+use crate::walk::Walk;
+use sb_bus::{BusStop, FaultKind};
+use sb_memory::{Access, EptStop, Linear};
+use sb_walks::{NestedStop, TableStop, WalkStop};
+
+/// What an instruction meets where the walk of an address is refused.
+pub fn stop_at(at: Linear, stop: NestedStop) -> BusStop
+    ensures { result ≡ stop_at at.0 stop }
+{
+    match stop {
+        NestedStop::Walk(WalkStop::NonCanonical) => BusStop::Fault(FaultKind::Canon, at),
+        NestedStop::Walk(WalkStop::Table(TableStop::Missing(frame))) => BusStop::Missing(frame),
+        NestedStop::Walk(WalkStop::Table(TableStop::Ept(EptStop::Missing(frame)))) => {
+            BusStop::Missing(frame)
+        }
+        NestedStop::Page(EptStop::Missing(frame)) => BusStop::Missing(frame),
+        _ => BusStop::Fault(FaultKind::Memory, at),
+    }
+}
+
+/// The byte at an address.
+#[tactic(auto, using(sb_memory::proofs::Accounts::after_reads_append), unfolding(crate::specs::View::view_byte, crate::specs::View::byte_calls, crate::specs::View::walk_place))]
+pub fn byte<W: Walk>(walk: &mut W, at: Linear, access: Access) -> Result<u8, BusStop>
+    ensures answer { result ≡ view_byte (W.view walk.old) at.0 access }
+    ensures same { W.view walk.new ≡ W.view walk.old }
+    ensures account { W.account walk.new ≡ account_after_reads W.rule (W.view walk.old).physical (byte_calls (W.view walk.old) access at.0) (W.account walk.old) }
+    ensures kept { W.kept walk.new ≡ W.kept walk.old }
+{
+    let place = walk.place(at, access)?;
+    walk.read_byte(place)
+}
+
+/// The bytes from an address upwards, as a number, its lowest byte first.
+#[tactic(auto, using(sb_bus::proofs::Loads::loaded_none, sb_bus::proofs::Loads::loaded_stop, sb_bus::proofs::Loads::loaded_stop_later, sb_bus::proofs::Loads::loaded_more, crate::proofs::Loads::load_calls_none, crate::proofs::Loads::load_account_stop, crate::proofs::Loads::load_account_more, sb_bus::proofs::Loads::number_fits, sb_bus::proofs::Loads::number_below))]
+pub fn bytes<W: Walk>(walk: &mut W, at: Linear, size: u8, access: Access) -> Result<u64, BusStop>
+    requires size { size ≤ 8 }
+    ensures answer { result ≡ loaded_from (byte_for (view_byte (W.view walk.old)) access) at.0 size }
+    ensures range { IfOk result (λ number. number < 256 ^ size) }
+    ensures same { W.view walk.new ≡ W.view walk.old }
+    ensures account { W.account walk.new ≡ account_after_reads W.rule (W.view walk.old).physical (load_calls (W.view walk.old) access at.0 size) (W.account walk.old) }
+    ensures kept { W.kept walk.new ≡ W.kept walk.old }
+{
+    if size == 0 {
+        return Ok(0);
+    }
+    let low = byte(walk, at, access)?;
+    let high = bytes(walk, at.further(1), size - 1, access)?;
+    Ok(u64::from(low) + 256 * high)
+}
