@@ -349,7 +349,7 @@ pub fn put_address(code: &mut Code, helper: Helper, insn: &Insn, next: u64)
 /// `jmp` by a distance of four bytes, from where the jump itself stands.
 #[tactic(auto, unfolding(crate::specs::Pieces::jump_insn))]
 pub fn jump(from: u64, to: u64) -> Insn
-    requires from { from ≤ 0x20000 }
+    requires from { from ≤ 0x600010 }
     requires to { to ≤ 0x600010 }
     ensures value { result ≡ jump_insn from to }
     ensures size { length (spelling result) ≡ 5 }
@@ -358,6 +358,15 @@ pub fn jump(from: u64, to: u64) -> Insn
         imm: Imm::I32(to as i32 - (from as i32 + 5)),
         ..opcode_alone(0xE9)
     }
+}
+
+/// The bytes of a `jmp` from one address to another, both in the text or the rewrite area.
+pub fn jump_code(from: u64, to: u64) -> Code
+    requires from { from ≤ 0x600010 }
+    requires to { to ≤ 0x600010 }
+    ensures { result ≡ spelling (jump_insn from to) }
+{
+    Code::of(&jump(from, to))
 }
 
 /// `jmp [address]`.
