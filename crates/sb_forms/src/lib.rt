@@ -22,7 +22,6 @@ mod mains;
 mod pattern;
 mod pieces;
 mod places;
-mod rex;
 mod slots;
 mod table;
 
