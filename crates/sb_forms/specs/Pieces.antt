@@ -9,7 +9,7 @@ use Rattle.sb_insn.specs.declared.insn.Disp.{Disp}
 use Rattle.sb_insn.specs.declared.insn.Disp.TheVariants as disp
 use Rattle.sb_insn.specs.declared.insn.Imm.TheVariants as imm
 use Rattle.sb_insn.specs.Spelling.{number}
-use Rattle.sb_insn.specs.Fields.{mod_field, rm_field, rex_x, rex_b}
+use Rattle.sb_insn.specs.Fields.{mod_field, rm_field, rex_x, rex_b, is_from_next}
 use Rattle.sb_forms.specs.declared.helper.Helper.{Helper}
 use Rattle.sb_forms.specs.Holding.{holds_pattern}
 use Rattle.sb_insn.specs.Rex.{with_x_b_exchanged}

@@ -11,7 +11,7 @@ use Rattle.sb_insn.specs.declared.opcode_map.Mnemonic.{Mnemonic}
 use Rattle.sb_insn.specs.declared.opcode_map.Mnemonic.TheVariants.{Call, Jmp}
 use Rattle.sb_insn.specs.declared.opcode_map.Instruction.{Instruction}
 use Rattle.sb_insn.specs.Spelling.{number, spelling}
-use Rattle.sb_insn.specs.Fields.{is_none}
+use Rattle.sb_insn.specs.Fields.{is_none, has_memory}
 use Rattle.sb_insn.specs.Lookup.{instruction_of}
 use Rattle.sb_forms.specs.declared.slots.Site.{Site}
 use Rattle.sb_forms.specs.declared.answer.Form.{Form}
