@@ -6,8 +6,8 @@ use Rattle.sb_insn.specs.declared.opcode_map.Mnemonic.TheVariants as mnemonic
 use Rattle.sb_insn.specs.declared.opcode_map.OperandForm.{OperandForm}
 use Rattle.sb_insn.specs.declared.opcode_map.Instruction.{Instruction}
 use Rattle.sb_insn.specs.Grammar.{IsValid}
-use Rattle.sb_insn.specs.Listing.{instruction_of}
-use Rattle.sb_insn.proofs.Listed.{valid_listed}
+use Rattle.sb_insn.specs.Lookup.{instruction_of}
+use Rattle.sb_insn.proofs.InMaps.{valid_in_maps}
 use Rattle.sb_exec.specs.declared.action.Effect.{Effect}
 use Rattle.sb_exec.specs.Actions.{action_by, action_for, action_of}
 use Rattle.sb_exec.specs.Rows.{effect_of}
@@ -58,5 +58,5 @@ found_effect (Some other) instruction insn end listed ends = named_effect other.
 pub valid_effect : (insn : Insn) → IsValid insn → effect_of (action_of insn) ≡ op_effect insn.op
 unfolding action_of instruction_of
 valid_effect insn valid =
-    let listed = valid_listed insn valid in
+    let listed = valid_in_maps insn valid in
     found_effect (instruction_of insn) listed.0 insn (op_effect insn.op) listed.1 (op_ends insn.op insn.modrm)

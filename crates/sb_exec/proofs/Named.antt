@@ -16,7 +16,7 @@ use Rattle.sb_insn.specs.declared.opcode_map.Cell.TheVariants.{Absent, NoModRm, 
 use Rattle.sb_insn.specs.OpcodeMap.{Row, look_up, is_of, one_byte, one_byte_rows, two_byte, two_byte_rows, cell_of}
 use Rattle.sb_insn.specs.Groups.{Extension, extended_by, extensions, group_operand}
 use Rattle.sb_insn.specs.Fields.{reg_field}
-use Rattle.sb_insn.specs.Listing.{named_instruction, extended_instruction, instruction_in}
+use Rattle.sb_insn.specs.Lookup.{named_instruction, extended_instruction, instruction_in}
 use Rattle.sb_exec.specs.declared.action.Effect.{Effect}
 use Rattle.sb_exec.specs.declared.action.Effect.TheVariants as effect
 

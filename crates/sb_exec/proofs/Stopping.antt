@@ -7,7 +7,7 @@ use Rattle.sb_insn.specs.declared.insn.Op.{Op}
 use Rattle.sb_insn.specs.declared.insn.Op.TheVariants.{One, Two, Endbr, Vmfunc}
 use Rattle.sb_insn.specs.declared.registers.Regs.{Regs}
 use Rattle.sb_insn.specs.OpcodeMap.{two_byte, cell_of}
-use Rattle.sb_insn.specs.Listing.{instruction_in, instruction_of}
+use Rattle.sb_insn.specs.Lookup.{instruction_in, instruction_of}
 use Rattle.sb_insn.specs.Grammar.{IsValid}
 use Rattle.sb_bus.specs.declared.stop.BusStop.{BusStop}
 use Rattle.sb_exec.specs.declared.action.Effect.{Effect}

@@ -6,7 +6,7 @@ use Rattle.sb_insn.specs.declared.opcode_map.Mnemonic.{Mnemonic}
 use Rattle.sb_insn.specs.declared.opcode_map.Mnemonic.TheVariants as mnemonic
 use Rattle.sb_insn.specs.declared.opcode_map.OperandForm.{OperandForm}
 use Rattle.sb_insn.specs.declared.opcode_map.ModRmOpcode.{ModRmOpcode}
-use Rattle.sb_insn.specs.Listing.{instruction_of, operand_for}
+use Rattle.sb_insn.specs.Lookup.{instruction_of, modrm_opcode_of}
 use Rattle.sb_alu.specs.declared.size.Size.{Size}
 use Rattle.sb_alu.specs.declared.size.Size.TheVariants.{Byte}
 use Rattle.sb_exec.specs.declared.action.Effect.TheVariants as effect
@@ -24,7 +24,7 @@ byte_or (Some operand) size = if operand.byte_rm then Byte else size
 
 -- the size of what MOV moves: a byte where the opcode says so
 abbrev pub moved_size : Insn → Size
-moved_size insn = byte_or (operand_for insn) (operand_size insn)
+moved_size insn = byte_or (modrm_opcode_of insn) (operand_size insn)
 
 -- the condition of a jump: the lowest four bits of the opcode
 abbrev pub condition_number : Insn → ℕ

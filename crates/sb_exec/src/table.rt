@@ -6,13 +6,13 @@ ghost use Rattle.sb_exec.specs.Actions.{moved_size, condition_number, action_by,
 use crate::action::{Action, Effect, Exchange};
 use crate::operand::{opcode, operand_size};
 use sb_alu::{Operation, Size};
-use sb_insn::{Insn, Mnemonic, OperandForm, instruction_of, operand_for};
+use sb_insn::{Insn, Mnemonic, OperandForm, instruction_of, modrm_opcode_of};
 
 /// The size of what MOV moves: a byte where the opcode says so.
 fn moved_size(insn: &Insn) -> Size
     ensures { result ≡ moved_size insn.now }
 {
-    match operand_for(insn) {
+    match modrm_opcode_of(insn) {
         Some(operand) => {
             if operand.byte_rm {
                 Size::Byte

@@ -6,7 +6,8 @@ use Rattle.sb_insn.specs.declared.insn.Insn.{Insn}
 use Rattle.sb_insn.specs.Spelling.{disp_bytes, imm_bytes, spelling}
 use Rattle.sb_insn.specs.Grammar.{IsValid}
 use Rattle.sb_forms.specs.Holding.{holds_pattern}
-use Rattle.sb_forms.specs.Table.{is_vmfunc, has_memory}
+use Rattle.sb_insn.specs.Fields.{has_memory}
+use Rattle.sb_forms.specs.Table.{is_vmfunc}
 use Rattle.sb_forms.proofs.Operands.{no_memory}
 use Rattle.sb_forms.proofs.Quiet.{skip}
 use Rattle.sb_forms.proofs.Leads.{valid_rex, valid_op, lead_holds}

@@ -9,14 +9,15 @@ use Rattle.sb_insn.specs.declared.insn.Imm.TheVariants as imm
 use Rattle.sb_insn.specs.declared.opcode_map.Instruction.{Instruction}
 use Rattle.sb_insn.specs.Spelling.{number, imm_bytes, spelling}
 use Rattle.sb_insn.specs.Grammar.{IsValid}
-use Rattle.sb_insn.specs.Listing.{instruction_of}
+use Rattle.sb_insn.specs.Lookup.{instruction_of}
 use Rattle.sb_scan.specs.Holding.{holds_pattern}
 use Rattle.sb_scan.proofs.Held.{nothing_holds, byte_holds}
 use Rattle.sb_forms.specs.declared.slots.Site.{Site}
 use Rattle.sb_forms.specs.Pieces.{sib_exchanged}
 use Rattle.sb_forms.specs.Mains.{with_displacement}
 use Rattle.sb_forms.specs.Table.{Replacement, Keep, InPlace, Unmovable, move_outcome, is_vmfunc, is_add_esp_edx, begins_at_modrm}
-use Rattle.sb_forms.specs.Table.{completes_pattern, nop, add_from_rm, has_memory, is_call, is_jump, jump_form, wide_constant_form}
+use Rattle.sb_insn.specs.Fields.{has_memory}
+use Rattle.sb_forms.specs.Table.{completes_pattern, nop, add_from_rm, is_call, is_jump, jump_form, wide_constant_form}
 use Rattle.sb_forms.specs.Table.{address_and_constant_form, address_form, constant_form, form_by, slot_form, slot_form_of}
 use Rattle.sb_forms.specs.Table.{is_exchangeable, held_form, replacement}
 

@@ -9,19 +9,19 @@ use Rattle.std.proofs.lemmas.Grind.{flat_map-append}
 use Rattle.sb_insn.specs.declared.insn.Insn.{Insn}
 use Rattle.sb_insn.specs.declared.insn.Imm.TheVariants as imm
 use Rattle.sb_insn.specs.declared.opcode_map.Instruction.{Instruction}
-use Rattle.sb_insn.specs.Listing.{instruction_of}
+use Rattle.sb_insn.specs.Lookup.{instruction_of}
 use Rattle.sb_insn.specs.Spelling.{disp_bytes, imm_bytes, spelling}
-use Rattle.sb_insn.specs.Fields.{has_sib, is_sib_field}
+use Rattle.sb_insn.specs.Fields.{has_sib, is_sib_field, has_memory}
 use Rattle.sb_insn.specs.Grammar.{FitsImm, IsValid}
 use Rattle.sb_forms.specs.declared.helper.Helper.{Helper}
 use Rattle.sb_forms.specs.declared.slots.Site.{Site}
 use Rattle.sb_forms.specs.declared.answer.Form.{Form}
 use Rattle.sb_forms.specs.Holding.{begins_with, holds_pattern}
-use Rattle.sb_forms.specs.Rex.{with_x_b_exchanged}
+use Rattle.sb_insn.specs.Rex.{with_x_b_exchanged}
 use Rattle.sb_forms.specs.Registers.{number_of, first_helper, second_helper}
 use Rattle.sb_forms.specs.Pieces.{first_saved, second_saved, scratch_word, upper_half, save, restore, save_half, load_number, add_number, is_lowered, lowered_displacement, add_step_back, load_constant, low_half, high_half, is_sib_0f, sib_exchanged, load_address_of_operand, jump_insn, jump_through}
 use Rattle.sb_forms.specs.Mains.{at_helper, with_displacement, with_helper, with_constant, on_register, behind_main, load_target, load_word}
-use Rattle.sb_forms.specs.Table.{spelled_bytes, Replacement, InPlace, move_outcome, is_vmfunc, is_modrm, begins_with_01_d4, begins_at_modrm, nop, add_from_rm, has_memory, jump_form, wide_constant_form, address_and_constant_form, address_form, constant_form, is_exchangeable, replacement, bytes_of, site_of, form_of}
+use Rattle.sb_forms.specs.Table.{spelled_bytes, Replacement, InPlace, move_outcome, is_vmfunc, is_modrm, begins_with_01_d4, begins_at_modrm, nop, add_from_rm, jump_form, wide_constant_form, address_and_constant_form, address_form, constant_form, is_exchangeable, replacement, bytes_of, site_of, form_of}
 use Rattle.sb_forms.specs.Answers.{IsSite, IsSmall, IsCleanForm}
 use Rattle.sb_forms.proofs.Held.{not_held}
 use Rattle.sb_forms.proofs.ByTable.{IsHeld, TableCases, by_table}

@@ -8,14 +8,14 @@ use Rattle.sb_insn.specs.declared.insn.Imm.TheVariants as imm
 use Rattle.sb_insn.specs.declared.opcode_map.Instruction.{Instruction}
 use Rattle.sb_insn.specs.Spelling.{imm_bytes, spelling}
 use Rattle.sb_insn.specs.Grammar.{IsValid}
-use Rattle.sb_insn.specs.Listing.{instruction_of}
+use Rattle.sb_insn.specs.Lookup.{instruction_of}
 use Rattle.sb_insn.specs.Branch.{is_relative, is_distance}
-use Rattle.sb_insn.proofs.Listed.{valid_listed}
+use Rattle.sb_insn.proofs.InMaps.{valid_in_maps}
 use Rattle.sb_scan.specs.Pattern.{HasPatternAt}
 use Rattle.sb_scan.specs.Holding.{holds_pattern}
 use Rattle.sb_scan.proofs.Held.{not_held}
 use Rattle.sb_forms.specs.Places.{HasForm, AtLeastFive}
-use Rattle.sb_forms.specs.Table.{has_memory}
+use Rattle.sb_insn.specs.Fields.{has_memory}
 use Rattle.sb_forms.specs.Laws.{HasTableRow, HeldForeseen}
 use Rattle.sb_forms.proofs.ByTable.{IsHeld}
 use Rattle.sb_forms.proofs.Immediates.{with_four, with_eight}
@@ -59,7 +59,7 @@ no_distance insn instruction place listed stands has =
 
 pub held_foreseen : HeldForeseen
 held_foreseen insn place valid other stands =
-    let listed = valid_listed insn valid in
+    let listed = valid_in_maps insn valid in
     let held = held_at insn place valid other stands in
     record {
       instruction = listed.0;

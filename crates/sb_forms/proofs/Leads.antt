@@ -9,9 +9,9 @@ use Rattle.sb_insn.specs.declared.opcode_map.Cell.{Cell}
 use Rattle.sb_insn.specs.declared.opcode_map.Cell.TheVariants.{Absent}
 use Rattle.sb_insn.specs.OpcodeMap.{one_byte, two_byte, cell_of}
 use Rattle.sb_insn.specs.Spelling.{lock_bytes, op_bytes, lead_bytes}
-use Rattle.sb_insn.specs.Fields.{is_rex_field, is_modrm_field}
+use Rattle.sb_insn.specs.Fields.{is_rex_field, is_modrm_field, rex_r, rex_x, rex_b}
 use Rattle.sb_forms.specs.Holding.{begins_with, holds_pattern}
-use Rattle.sb_forms.specs.Rex.{rex_r, rex_x, rex_b, rex_byte, with_r_b, with_x_b_exchanged}
+use Rattle.sb_insn.specs.Rex.{rex_byte, with_r_b, with_x_b_exchanged}
 use Rattle.sb_forms.specs.Table.{is_vmfunc}
 use Rattle.sb_forms.proofs.Quiet.{skip, skip_0f, last_one, last_two, IsQuiet}
 

@@ -15,12 +15,13 @@ use Rattle.sb_insn.specs.Spelling.{lock_bytes, op_bytes, disp_bytes, imm_bytes, 
 use Rattle.sb_insn.specs.Grammar.{IsValid}
 use Rattle.sb_insn.proofs.Longest.{one_field, spelling_13}
 use Rattle.sb_forms.specs.declared.helper.Helper.{Helper}
-use Rattle.sb_forms.specs.Rex.{with_x_b_exchanged}
+use Rattle.sb_insn.specs.Rex.{with_x_b_exchanged}
 use Rattle.sb_forms.specs.Pieces.{is_sib_0f, sib_exchanged}
 use Rattle.sb_forms.specs.Mains.{at_helper, own_register, with_displacement, with_helper, register_op, with_constant, behind_main, move_product}
 use Rattle.sb_forms.proofs.Maps.{short_5}
 use Rattle.sb_forms.proofs.Operands.{no_sib_0f}
-use Rattle.sb_forms.specs.Table.{spelled_bytes, is_modrm, begins_with_01_d4, begins_at_modrm, has_memory}
+use Rattle.sb_insn.specs.Fields.{has_memory}
+use Rattle.sb_forms.specs.Table.{spelled_bytes, is_modrm, begins_with_01_d4, begins_at_modrm}
 
 -- the sum over the fields
 pub spelling_length : (insn : Insn) → length (spelling insn)

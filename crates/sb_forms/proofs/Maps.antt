@@ -16,13 +16,12 @@ use Rattle.sb_insn.specs.declared.opcode_map.ModRmOpcode.{ModRmOpcode}
 use Rattle.sb_insn.specs.declared.opcode_map.Cell.{Cell}
 use Rattle.sb_insn.specs.declared.opcode_map.Cell.TheVariants.{Absent, NoModRm, ModRm, Extended}
 use Rattle.sb_insn.specs.OpcodeMap.{one_byte, one_byte_rows, two_byte, two_byte_rows, cell_of}
-use Rattle.sb_insn.specs.Groups.{extensions, group_operand, operand_of}
+use Rattle.sb_insn.specs.Groups.{extensions, group_operand, modrm_opcode}
 use Rattle.sb_insn.specs.Spelling.{op_bytes, imm_bytes}
-use Rattle.sb_insn.specs.Fields.{is_none, is_register, permits_rm, needs_rex, permits, some_permits, is_modrm_field, reg_field, operand_rule, rule_of, imm_kind_of, kind_of_imm}
-use Rattle.sb_insn.specs.Listing.{named_instruction, instruction_in, instruction_of}
+use Rattle.sb_insn.specs.Fields.{is_none, is_register, permits_rm, needs_rex, permits, some_permits, is_modrm_field, reg_field, operand_rule, rule_of, imm_kind_of, kind_of_imm, has_memory}
+use Rattle.sb_insn.specs.Lookup.{named_instruction, instruction_in, instruction_of}
 use Rattle.sb_insn.specs.Grammar.{IsValid}
 use Rattle.sb_insn.proofs.Rows.{looked_up, every_extension, some_holds, extended}
-use Rattle.sb_forms.specs.Table.{has_memory}
 
 -- ---- what holds of each operand in the maps
 
@@ -33,7 +32,7 @@ of_cell holds (ModRm operand) = holds operand
 of_cell holds (Extended group form imm) = every_extension holds (extensions group form imm)
 
 pub of_operand : (holds : ModRmOpcode → Bool) (cell : Cell) (reg : ℕ) → of_cell holds cell ≡ true
-    → some_holds holds (operand_of cell reg) ≡ true
+    → some_holds holds (modrm_opcode cell reg) ≡ true
 unfolding group_operand
 of_operand holds Absent reg e = refl
 of_operand holds (NoModRm plain) reg e = refl
@@ -161,18 +160,18 @@ bare_imm (Some operand) immediate rex e k = bare_rule operand.imm immediate rex 
 
 short_in : (op : Op) (lock : Bool) (rex : Option ℕ) (modrm : ℕ) (immediate : Imm)
     → is_modrm_field (cell_of op) lock rex (Some modrm) ≡ true
-    → kind_of_imm immediate ≡ imm_kind_of (operand_rule (operand_of (cell_of op) (reg_field modrm))) rex
+    → kind_of_imm immediate ≡ imm_kind_of (operand_rule (modrm_opcode (cell_of op) (reg_field modrm))) rex
     → length (op_bytes op) + length (imm_bytes immediate) ≤ 5
 short_in (One opcode) lock rex modrm immediate e k =
     omega (
       arith,
-      narrow_imm (operand_of (one_byte opcode) (reg_field modrm)) immediate rex
+      narrow_imm (modrm_opcode (one_byte opcode) (reg_field modrm)) immediate rex
           (of_operand (λ row. is_narrow row) (one_byte opcode) (reg_field modrm) (one_narrow opcode)) k,
     )
 short_in (Two opcode) lock rex modrm immediate e k =
     omega (
       arith,
-      bare_imm (operand_of (two_byte opcode) (reg_field modrm)) immediate rex
+      bare_imm (modrm_opcode (two_byte opcode) (reg_field modrm)) immediate rex
           (of_operand (λ row. is_bare row) (two_byte opcode) (reg_field modrm) (two_bare opcode)) k,
     )
 short_in Endbr lock rex modrm immediate e k = absurd cc

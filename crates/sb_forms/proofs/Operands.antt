@@ -5,8 +5,8 @@ use Rattle.std.proofs.lemmas.Bool.{both_ways, or_from, and_left, and_right, not-
 use Rattle.sb_insn.specs.declared.insn.Disp.{Disp}
 use Rattle.sb_insn.specs.declared.insn.Disp.TheVariants as disp
 use Rattle.sb_insn.specs.declared.insn.DispKind.TheVariants as kinds
-use Rattle.sb_insn.specs.Fields.{mod_field, rm_field, is_register, has_sib, is_sib_field, modrm_disp, disp_kind_of, kind_of_disp}
-use Rattle.sb_forms.specs.Table.{is_modrm, has_memory}
+use Rattle.sb_insn.specs.Fields.{mod_field, rm_field, is_register, has_sib, is_sib_field, modrm_disp, disp_kind_of, kind_of_disp, has_memory}
+use Rattle.sb_forms.specs.Table.{is_modrm}
 
 -- ---- rm 7
 

@@ -14,13 +14,14 @@ use Rattle.sb_insn.specs.declared.opcode_map.Mnemonic.TheVariants as mnemonic
 use Rattle.sb_insn.specs.declared.opcode_map.OperandForm.{OperandForm}
 use Rattle.sb_insn.specs.declared.opcode_map.OperandForm.TheVariants.{AccImm, OpcodeImm}
 use Rattle.sb_insn.specs.Spelling.{number, imm_bytes, lead_bytes, spelling}
-use Rattle.sb_insn.specs.Fields.{reg_field, rm_field}
+use Rattle.sb_insn.specs.Fields.{reg_field, rm_field, rex_r, rex_b}
 use Rattle.sb_forms.specs.declared.helper.Helper.{Helper}
 use Rattle.sb_forms.specs.declared.helper.Helper.TheVariants.{Rcx, Rdx, Rbx, Rsi, Rdi}
 use Rattle.sb_scan.proofs.Held.{nothing_holds}
 use Rattle.sb_forms.specs.Holding.{begins_with, holds_pattern}
-use Rattle.sb_forms.specs.Rex.{rex_r, rex_b, with_r_b}
-use Rattle.sb_forms.specs.Registers.{number_of, modrm_of, one_byte_opcode}
+use Rattle.sb_insn.specs.Rex.{with_r_b}
+use Rattle.sb_insn.specs.RegisterNumbers.{modrm_of, one_byte_opcode}
+use Rattle.sb_forms.specs.Registers.{number_of}
 use Rattle.sb_forms.specs.Mains.{at_helper, own_register, with_displacement, with_helper, register_op, with_constant, on_register, behind_main, move_product, load_target, load_word}
 use Rattle.sb_forms.specs.Table.{begins_with_01_d4}
 use Rattle.sb_forms.proofs.Lowered.{in_four}

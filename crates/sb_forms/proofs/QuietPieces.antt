@@ -8,15 +8,15 @@ use Rattle.sb_insn.specs.declared.insn.Op.TheVariants.{One}
 use Rattle.sb_insn.specs.declared.insn.Disp.{Disp}
 use Rattle.sb_insn.specs.declared.insn.Disp.TheVariants as disp
 use Rattle.sb_insn.specs.Spelling.{number, disp_bytes, spelling}
-use Rattle.sb_insn.specs.Fields.{mod_field, rm_field, is_sib_field, modrm_disp, disp_kind_of, kind_of_disp}
+use Rattle.sb_insn.specs.Fields.{mod_field, rm_field, is_sib_field, modrm_disp, disp_kind_of, kind_of_disp, rex_x, rex_b, is_from_next}
 use Rattle.sb_insn.specs.Grammar.{FitsDisp, IsValid}
 use Rattle.sb_forms.specs.declared.helper.Helper.{Helper}
 use Rattle.sb_forms.specs.declared.helper.Helper.TheVariants.{Rcx, Rdx, Rbx, Rsi, Rdi}
 use Rattle.sb_scan.proofs.Held.{nothing_holds, byte_holds}
 use Rattle.sb_forms.specs.Holding.{holds_pattern}
-use Rattle.sb_forms.specs.Rex.{rex_x, rex_b}
-use Rattle.sb_forms.specs.Registers.{number_of, byte_of, modrm_of}
-use Rattle.sb_forms.specs.Pieces.{first_saved, second_saved, scratch_word, upper_half, save, restore, save_half, load_number, add_number, lowered_displacement, lacking, add_step_back, load_constant, sib_exchanged, is_sib_0f, without_sib_0f, is_from_next, load_address, address_from, address_at, address_by, load_address_of_operand, jump_insn, jump_through}
+use Rattle.sb_insn.specs.RegisterNumbers.{byte_of, modrm_of}
+use Rattle.sb_forms.specs.Registers.{number_of}
+use Rattle.sb_forms.specs.Pieces.{first_saved, second_saved, scratch_word, upper_half, save, restore, save_half, load_number, add_number, lowered_displacement, lacking, add_step_back, load_constant, sib_exchanged, is_sib_0f, without_sib_0f, load_address, address_from, address_at, address_by, load_address_of_operand, jump_insn, jump_through}
 use Rattle.sb_forms.proofs.Lowered.{in_four, lowered_holds}
 use Rattle.sb_forms.proofs.Operands.{no_sib_7, no_disp_7, kind_none}
 use Rattle.sb_forms.proofs.Quiet.{IsQuiet, AreQuiet, skip}

@@ -13,16 +13,17 @@ use Rattle.sb_insn.specs.declared.opcode_map.Mnemonic.TheVariants as mnemonic
 use Rattle.sb_insn.specs.declared.opcode_map.OperandForm.{OperandForm}
 use Rattle.sb_insn.specs.declared.opcode_map.Instruction.{Instruction}
 use Rattle.sb_insn.specs.Spelling.{disp_bytes, imm_bytes, spelling}
-use Rattle.sb_insn.specs.Listing.{instruction_of}
+use Rattle.sb_insn.specs.Lookup.{instruction_of}
 use Rattle.sb_insn.specs.Grammar.{IsValid}
 use Rattle.sb_forms.specs.declared.helper.Helper.{Helper}
 use Rattle.sb_forms.specs.declared.slots.Site.{Site}
 use Rattle.sb_forms.specs.Holding.{holds_pattern}
 use Rattle.sb_forms.specs.Registers.{first_helper, second_helper}
-use Rattle.sb_forms.specs.Pieces.{first_saved, second_saved, scratch_word, upper_half, save, restore, save_half, load_number, add_number, is_lowered, lowered_displacement, lacking, add_step_back, load_constant, low_half, high_half, without_sib_0f, is_from_next, load_address, address_from, address_at, address_by, load_address_of_operand, jump_insn, jump_through}
-use Rattle.sb_forms.specs.Registers.{modrm_of}
+use Rattle.sb_forms.specs.Pieces.{first_saved, second_saved, scratch_word, upper_half, save, restore, save_half, load_number, add_number, is_lowered, lowered_displacement, lacking, add_step_back, load_constant, low_half, high_half, without_sib_0f, load_address, address_from, address_at, address_by, load_address_of_operand, jump_insn, jump_through}
+use Rattle.sb_insn.specs.RegisterNumbers.{modrm_of}
 use Rattle.sb_forms.specs.Mains.{at_helper, with_displacement, with_helper, with_constant, on_register, behind_main, move_product, load_target, load_word}
-use Rattle.sb_forms.specs.Table.{spelled_bytes, move_outcome, bytes_of, has_memory, begins_at_modrm, site_of, form_of, jump_form, wide_constant_form, address_and_constant_form, address_form, constant_form}
+use Rattle.sb_insn.specs.Fields.{has_memory, is_from_next}
+use Rattle.sb_forms.specs.Table.{spelled_bytes, move_outcome, bytes_of, begins_at_modrm, site_of, form_of, jump_form, wide_constant_form, address_and_constant_form, address_form, constant_form}
 use Rattle.sb_forms.specs.Answers.{IsSmall}
 use Rattle.sb_insn.proofs.Longest.{one_field}
 use Rattle.sb_forms.proofs.Lengths.{spelling_length, with_helper_9, constant_main_8, alone_5, displaced_9}

@@ -17,17 +17,17 @@ use Rattle.sb_insn.specs.declared.opcode_map.ImmRule.{ImmRule}
 use Rattle.sb_insn.specs.declared.opcode_map.ImmRule.TheVariants as rules
 use Rattle.sb_insn.specs.declared.opcode_map.Cell.{Cell}
 use Rattle.sb_insn.specs.declared.opcode_map.Cell.TheVariants.{Absent, NoModRm, ModRm, Extended}
-use Rattle.sb_insn.specs.OpcodeMap.{Opcodes, Single, Span, Row, is_of, look_up, one_byte, one_byte_rows, two_byte, two_byte_rows, cell_of}
-use Rattle.sb_insn.specs.Groups.{extensions, group_operand, operand_of}
+use Rattle.sb_insn.specs.OpcodeMap.{Opcodes, Single, Span, OpcodeRow, is_of, look_up, one_byte, one_byte_rows, two_byte, two_byte_rows, cell_of}
+use Rattle.sb_insn.specs.Groups.{extensions, group_operand, modrm_opcode}
 use Rattle.sb_insn.specs.Spelling.{number, lock_bytes, op_bytes, disp_bytes, imm_bytes, lead_bytes, spelling}
-use Rattle.sb_insn.specs.Fields.{reg_field, is_modrm_field, is_sib_field, disp_kind_of, operand_rule, rule_of, imm_kind_of, kind_of_imm}
+use Rattle.sb_insn.specs.Fields.{reg_field, is_modrm_field, is_sib_field, disp_kind_of, operand_rule, rule_of, imm_kind_of, kind_of_imm, has_memory}
 use Rattle.sb_insn.specs.Grammar.{FitsImm, IsValid}
-use Rattle.sb_insn.specs.Listing.{named_instruction, instruction_in, instruction_of}
+use Rattle.sb_insn.specs.Lookup.{named_instruction, instruction_in, instruction_of}
 use Rattle.sb_insn.proofs.Longest.{spelling_13}
 use Rattle.sb_insn.proofs.Rows.{looked_up, every_extension, some_holds, extended}
 use Rattle.sb_scan.specs.Pattern.{HasPatternAt}
 use Rattle.sb_forms.specs.Holding.{holds_pattern}
-use Rattle.sb_forms.specs.Table.{is_vmfunc, has_memory}
+use Rattle.sb_forms.specs.Table.{is_vmfunc}
 use Rattle.sb_insn.specs.Branch.{imm_value, is_distance, is_relative, is_direct}
 use Rattle.sb_forms.specs.Places.{lead, HasForm, IsPermitted, BehindOpcode, AtModrm, IsOrImul, InImmediate, NotInJumps}
 use Rattle.sb_forms.proofs.Held.{before, not_held, none_held, nothing_holds, byte_holds}
@@ -158,13 +158,13 @@ is_four rules.I32 = true
 is_four _ = false
 
 abbrev has_four : Cell → Bool
-has_four cell = is_four (operand_rule (operand_of cell 1))
+has_four cell = is_four (operand_rule (modrm_opcode cell 1))
 
 abbrev is_named : Opcodes → Bool
 is_named (Single opcode) = (opcode == 0x81) || (opcode == 0x69)
 is_named (Span low high) = false
 
-every_row : List Row → Bool
+every_row : List OpcodeRow → Bool
 every_row [] = true
 every_row (row ∷ rows) = (not (has_four row.cell) || is_named row.opcodes) && every_row rows
 
@@ -177,7 +177,7 @@ named_is opcode (Single one) e is =
     (or_cases (one == 0x81) (one == 0x69) e)
 
 -- the cell that is looked up
-four_at : (opcode : ℕ) (rows : List Row) → every_row rows ≡ true → has_four (look_up opcode rows) ≡ true
+four_at : (opcode : ℕ) (rows : List OpcodeRow) → every_row rows ≡ true → has_four (look_up opcode rows) ≡ true
     → (opcode ≡ 0x81) ⊎ (opcode ≡ 0x69)
 unfolding every_row
 four_at opcode [] e four = absurd cc
@@ -227,13 +227,13 @@ or_imul (One opcode) lock rex immediate e k long =
     (λ first. inl (ap (λ (byte : ℕ). One byte) first))
     (λ second. inr (ap (λ (byte : ℕ). One byte) second))
     (one_four opcode
-    (operand_four (operand_of (one_byte opcode) 1) immediate rex
+    (operand_four (modrm_opcode (one_byte opcode) 1) immediate rex
     (of_operand (λ row. is_narrow row) (one_byte opcode) 1 (one_narrow opcode)) k long))
 or_imul (Two opcode) lock rex immediate e k long =
     absurd (omega (
       arith,
       long,
-      bare_imm (operand_of (two_byte opcode) 1) immediate rex
+      bare_imm (modrm_opcode (two_byte opcode) 1) immediate rex
           (of_operand (λ row. is_bare row) (two_byte opcode) 1 (two_bare opcode)) k,
     ))
 or_imul Endbr lock rex immediate e k long = absurd cc

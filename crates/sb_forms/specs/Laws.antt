@@ -8,13 +8,14 @@ use Rattle.sb_insn.specs.declared.opcode_map.Instruction.{Instruction}
 use Rattle.sb_insn.specs.declared.opcode_map.OperandForm.{OperandForm}
 use Rattle.sb_insn.specs.Spelling.{spelling}
 use Rattle.sb_insn.specs.Branch.{is_distance}
-use Rattle.sb_insn.specs.Listing.{instruction_of}
+use Rattle.sb_insn.specs.Lookup.{instruction_of}
 use Rattle.sb_insn.specs.Grammar.{IsValid}
 use Rattle.sb_forms.specs.Registers.{number_of, is_named, first_helper, second_helper}
 use Rattle.sb_scan.specs.Pattern.{HasPatternAt}
 use Rattle.sb_forms.specs.Places.{HasForm}
 use Rattle.sb_forms.specs.Immediates.{has_table_row, is_move_to_opcode}
-use Rattle.sb_forms.specs.Table.{has_memory, form_of}
+use Rattle.sb_insn.specs.Fields.{has_memory}
+use Rattle.sb_forms.specs.Table.{form_of}
 use Rattle.sb_forms.specs.Answers.{IsSmall}
 
 -- ---- what the table is asked for

@@ -1,5 +1,4 @@
 pub use Rattle.sb_scan.specs.Holding
-pub mod Rex
 pub mod Registers
 pub mod Pieces
 pub mod Mains

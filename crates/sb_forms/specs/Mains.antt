@@ -14,11 +14,12 @@ use Rattle.sb_insn.specs.declared.opcode_map.Mnemonic.TheVariants.{Ud2, Vmfunc}
 use Rattle.sb_insn.specs.declared.opcode_map.OperandForm.{OperandForm}
 use Rattle.sb_insn.specs.declared.opcode_map.OperandForm.TheVariants.{RmReg, RegRm, RmImm, AccImm, OpcodeImm, RegRmImm}
 use Rattle.sb_insn.specs.declared.opcode_map.OperandForm.TheVariants.{RmCount, RmCl, Rm, Opcode, Imm, Relative, Nothing}
-use Rattle.sb_insn.specs.Fields.{reg_field, rm_field}
+use Rattle.sb_insn.specs.Fields.{reg_field, rm_field, rex_r, rex_b}
 use Rattle.sb_forms.specs.declared.helper.Helper.{Helper}
 use Rattle.sb_forms.specs.declared.mains.RmOperand.{RmOperand}
-use Rattle.sb_forms.specs.Rex.{rex_r, rex_b, with_r_b}
-use Rattle.sb_forms.specs.Registers.{modrm_of, one_byte_opcode, number_of}
+use Rattle.sb_insn.specs.Rex.{with_r_b}
+use Rattle.sb_insn.specs.RegisterNumbers.{modrm_of, one_byte_opcode}
+use Rattle.sb_forms.specs.Registers.{number_of}
 use Rattle.sb_forms.specs.Pieces.{opcode_alone, wide, wide_at_address, scratch_word}
 
 -- ---- operands

@@ -9,11 +9,12 @@ use Rattle.sb_insn.specs.declared.insn.Disp.{Disp}
 use Rattle.sb_insn.specs.declared.insn.Disp.TheVariants as disp
 use Rattle.sb_insn.specs.declared.insn.Imm.TheVariants as imm
 use Rattle.sb_insn.specs.Spelling.{number}
-use Rattle.sb_insn.specs.Fields.{mod_field, rm_field}
+use Rattle.sb_insn.specs.Fields.{mod_field, rm_field, rex_x, rex_b, is_from_next}
 use Rattle.sb_forms.specs.declared.helper.Helper.{Helper}
 use Rattle.sb_forms.specs.Holding.{holds_pattern}
-use Rattle.sb_forms.specs.Rex.{rex_x, rex_b, with_x_b_exchanged}
-use Rattle.sb_forms.specs.Registers.{modrm_of, number_of}
+use Rattle.sb_insn.specs.Rex.{with_x_b_exchanged}
+use Rattle.sb_insn.specs.RegisterNumbers.{modrm_of}
+use Rattle.sb_forms.specs.Registers.{number_of}
 
 -- ---- words of the scratch page
 
@@ -114,10 +115,6 @@ unfoldable pub without_sib_0f : Insn → Insn
 without_sib_0f insn = if is_sib_0f insn.sib then sib_exchanged insn else insn
 
 -- ---- the address of a memory operand to a helper
-
--- mod 0 and rm 5: from the next instruction's address on
-abbrev pub is_from_next : ℕ → Bool
-is_from_next modrm = (mod_field modrm == 0) && (rm_field modrm == 5)
 
 -- lea helper, [operand], with this displacement
 unfoldable pub load_address : Helper → Insn → Disp → Insn

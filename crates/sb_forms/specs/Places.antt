@@ -10,7 +10,7 @@ use Rattle.sb_insn.specs.Spelling.{lead_bytes, imm_bytes, spelling}
 use Rattle.sb_insn.specs.Grammar.{IsValid}
 use Rattle.sb_insn.specs.Branch.{imm_value, is_direct}
 use Rattle.sb_scan.specs.Pattern.{HasPatternAt, HasNoPattern}
-use Rattle.sb_forms.specs.Table.{has_memory}
+use Rattle.sb_insn.specs.Fields.{has_memory}
 
 -- the bytes before ModRM: LOCK, REX and the opcode
 abbrev pub lead : Insn → List ℕ

@@ -1,60 +1,20 @@
 -- The registers that an instruction names, and the helper registers that it leaves free.
-use Rattle.std.specs.Prelude.{ℕ, ◌+◌, ◌*◌, ◌%◌, Bool, false, not, ◌&&◌, ◌||◌, ◌==◌, if◌then◌else◌, List, [], ◌∷◌, Option}
+use Rattle.std.specs.Prelude.{ℕ, Bool, false, not, ◌&&◌, ◌||◌, ◌==◌, if◌then◌else◌, List, [], ◌∷◌, Option}
 use Rattle.std.specs.Prelude.{Some, None}
 use Rattle.sb_insn.specs.declared.insn.Insn.{Insn}
-use Rattle.sb_insn.specs.declared.insn.Op.{Op}
-use Rattle.sb_insn.specs.declared.insn.Op.TheVariants.{One}
 use Rattle.sb_insn.specs.declared.opcode_map.OperandForm.{OperandForm}
 use Rattle.sb_insn.specs.declared.opcode_map.OperandForm.TheVariants.{RmReg, RegRm, RmImm, AccImm, OpcodeImm, RegRmImm}
 use Rattle.sb_insn.specs.declared.opcode_map.OperandForm.TheVariants.{RmCount, RmCl, Rm, Opcode, Imm, Relative, Nothing}
-use Rattle.sb_insn.specs.Fields.{reg_field, rm_field, index, base}
+use Rattle.sb_insn.specs.RegisterNumbers.{reg_number, opcode_number, rm_number, base_number, index_number}
 use Rattle.sb_forms.specs.declared.helper.Helper.{Helper}
 use Rattle.sb_forms.specs.declared.helper.Helper.TheVariants.{Rcx, Rdx, Rbx, Rsi, Rdi}
-use Rattle.sb_forms.specs.Rex.{rex_r, rex_x, rex_b}
 
 -- ---- registers by their numbers, 0 to 15
-
--- a field of three bits and the bit of REX that extends it
-abbrev pub register_number : ℕ → ℕ → ℕ
-register_number field extension = field + 8 * extension
-
--- a field of one byte, 0 where none stands
-abbrev pub byte_of : Option ℕ → ℕ
-byte_of None = 0
-byte_of (Some byte) = byte
-
--- the ModRM byte
-abbrev pub modrm_of : Insn → ℕ
-modrm_of insn = byte_of insn.modrm
-
--- the opcode byte of the one-byte map
-abbrev pub one_byte_opcode : Op → ℕ
-one_byte_opcode (One opcode) = opcode
-one_byte_opcode _ = 0
-
-abbrev pub reg_number : Insn → ℕ
-reg_number insn = register_number (reg_field (modrm_of insn)) (rex_r insn.rex)
-
--- the register in the opcode
-abbrev pub opcode_number : Insn → ℕ
-opcode_number insn = register_number (one_byte_opcode insn.op % 8) (rex_b insn.rex)
 
 -- the number of a register that may be absent
 abbrev pub is_number : Option ℕ → ℕ → Bool
 is_number None number = false
 is_number (Some named) number = named == number
-
-abbrev pub rm_number : Option ℕ → Option ℕ → Option ℕ
-rm_number None rex = None
-rm_number (Some modrm) rex = Some (register_number (rm_field modrm) (rex_b rex))
-
-abbrev pub base_number : Option ℕ → Option ℕ → Option ℕ
-base_number None rex = None
-base_number (Some sib) rex = Some (register_number (base sib) (rex_b rex))
-
-abbrev pub index_number : Option ℕ → Option ℕ → Option ℕ
-index_number None rex = None
-index_number (Some sib) rex = Some (register_number (index sib) (rex_x rex))
 
 -- The register that the operands name beside rm: reg, the register in the opcode, or CL. A reg field that extends the
 -- opcode names none.

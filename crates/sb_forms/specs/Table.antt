@@ -11,8 +11,8 @@ use Rattle.sb_insn.specs.declared.opcode_map.Mnemonic.{Mnemonic}
 use Rattle.sb_insn.specs.declared.opcode_map.Mnemonic.TheVariants.{Call, Jmp}
 use Rattle.sb_insn.specs.declared.opcode_map.Instruction.{Instruction}
 use Rattle.sb_insn.specs.Spelling.{number, spelling}
-use Rattle.sb_insn.specs.Fields.{is_none, is_register}
-use Rattle.sb_insn.specs.Listing.{instruction_of}
+use Rattle.sb_insn.specs.Fields.{is_none, has_memory}
+use Rattle.sb_insn.specs.Lookup.{instruction_of}
 use Rattle.sb_forms.specs.declared.slots.Site.{Site}
 use Rattle.sb_forms.specs.declared.answer.Form.{Form}
 use Rattle.sb_forms.specs.declared.answer.Form.TheVariants as form
@@ -73,11 +73,6 @@ begins_with_01_d4 _ = false
 -- The pattern begins at ModRM 0F, which has no SIB byte and no displacement behind it.
 abbrev pub begins_at_modrm : Insn → Bool
 begins_at_modrm insn = is_modrm 0x0F insn.modrm && begins_with_01_d4 insn.imm
-
--- rm names memory
-abbrev pub has_memory : Option ℕ → Bool
-has_memory None = false
-has_memory (Some modrm) = not (is_register modrm)
 
 abbrev pub is_call : Mnemonic → Bool
 is_call Call = true

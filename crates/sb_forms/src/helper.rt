@@ -2,15 +2,7 @@
 
 ghost use Rattle.std.specs.Prelude.{◌≡◌, ◌≤◌};
 ghost use Rattle.sb_forms.specs.Registers.{
-  register_number,
-  modrm_of,
-  one_byte_opcode,
-  reg_number,
-  opcode_number,
   is_number,
-  rm_number,
-  base_number,
-  index_number,
   form_number,
   is_named,
   number_of,
@@ -21,7 +13,9 @@ ghost use Rattle.sb_forms.specs.Registers.{
   second_helper,
 };
 
-use sb_insn::{Insn, Op, OperandForm, base, index, reg_field, rex_b, rex_r, rex_x, rm_field};
+use sb_insn::{
+    Insn, OperandForm, base_number, index_number, opcode_number, reg_number, rm_number,
+};
 
 /// A register that may help, in the order in which they are tried.
 #[derive(Clone, Copy, Debug, PartialEq, Eq)]
@@ -63,64 +57,13 @@ impl Helper {
     }
 }
 
-/// The ModRM byte, 0 where none stands.
-pub fn modrm_of(insn: &Insn) -> u8
-    ensures { result ≡ modrm_of insn.now }
-{
-    insn.modrm.unwrap_or(0)
-}
-
-/// The opcode byte of the one-byte map, 0 for another opcode.
-pub fn one_byte_opcode(op: Op) -> u8
-    ensures { result ≡ one_byte_opcode op }
-{
-    match op {
-        Op::One(opcode) => opcode,
-        Op::Two(_) | Op::Endbr | Op::Vmfunc => 0,
-    }
-}
-
-/// The full number of a register: a field of three bits, and the bit of REX that extends it.
-fn register_number(field: u8, extension: u8) -> u8
-    requires field { field ≤ 7 }
-    requires extension { extension ≤ 1 }
-    ensures { result ≡ register_number field extension }
-{
-    field + 8 * extension
-}
-
-/// The register that rm names, if a ModRM byte stands.
-fn rm_number(insn: &Insn) -> Option<u8>
-    ensures { result ≡ rm_number insn.now.modrm insn.now.rex }
-{
-    Some(register_number(rm_field(insn.modrm?), rex_b(insn.rex)))
-}
-
-/// The register that the base of SIB names, if an SIB byte stands.
-fn base_number(insn: &Insn) -> Option<u8>
-    ensures { result ≡ base_number insn.now.sib insn.now.rex }
-{
-    Some(register_number(base(insn.sib?), rex_b(insn.rex)))
-}
-
-/// The register that the index of SIB names, if an SIB byte stands.
-fn index_number(insn: &Insn) -> Option<u8>
-    ensures { result ≡ index_number insn.now.sib insn.now.rex }
-{
-    Some(register_number(index(insn.sib?), rex_x(insn.rex)))
-}
-
 /// The register that the operands name beside rm: reg, the one in the opcode, or CL.
 fn form_number(form: OperandForm, insn: &Insn) -> Option<u8>
     ensures { result ≡ form_number form insn.now }
 {
     match form {
-        OperandForm::RmReg | OperandForm::RegRm | OperandForm::RegRmImm => {
-            Some(register_number(reg_field(modrm_of(insn)), rex_r(insn.rex)))
-        }
-        OperandForm::OpcodeImm | OperandForm::Opcode => {
-            Some(register_number(one_byte_opcode(insn.op) % 8, rex_b(insn.rex)))
-        }
+        OperandForm::RmReg | OperandForm::RegRm | OperandForm::RegRmImm => Some(reg_number(insn)),
+        OperandForm::OpcodeImm | OperandForm::Opcode => Some(opcode_number(insn)),
         OperandForm::RmCl => Some(Helper::Rcx.number()),
         OperandForm::RmImm
         | OperandForm::AccImm

@@ -22,7 +22,6 @@ mod mains;
 mod pattern;
 mod pieces;
 mod places;
-mod rex;
 mod slots;
 mod table;
 
@@ -32,5 +31,6 @@ pub use helper::Helper;
 pub use laws::{
     across_borders, forms_small, free_helpers, held_instructions, pattern_places, wide_immediates,
 };
+pub use pieces::jump_code;
 pub use places::form_applies;
 pub use table::form;

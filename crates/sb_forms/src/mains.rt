@@ -19,10 +19,12 @@ ghost use Rattle.sb_forms.specs.Mains.{
 ghost use Rattle.sb_forms.specs.Table.{spelled_bytes};
 
 use crate::code::Code;
-use crate::helper::{Helper, modrm_of, one_byte_opcode};
+use crate::helper::Helper;
 use crate::pieces::{SCRATCH_WORD, opcode_alone, wide, wide_at_address};
-use crate::rex::with_r_b;
-use sb_insn::{Disp, Imm, Insn, Mnemonic, Op, OperandForm, reg_field, rex_b, rex_r, rm_field};
+use sb_insn::{
+    Disp, Imm, Insn, Mnemonic, Op, OperandForm, modrm_of, one_byte_opcode, reg_field, rex_b,
+    rex_r, rm_field, with_r_b,
+};
 
 /// A displacement of one byte 00.
 const ZERO: Disp = Disp::D8(0);

@@ -22,7 +22,6 @@ ghost use Rattle.sb_forms.specs.Pieces.{
   is_sib_0f,
   sib_exchanged,
   without_sib_0f,
-  is_from_next,
   load_address,
   address_from,
   address_at,
@@ -33,11 +32,13 @@ ghost use Rattle.sb_forms.specs.Pieces.{
 ghost use Rattle.sb_forms.specs.Table.{spelled_bytes};
 
 use crate::code::Code;
-use crate::helper::{Helper, modrm_of};
+use crate::helper::Helper;
 use crate::pattern::number_holds_pattern;
-use crate::rex::with_x_b_exchanged;
 use sb_abi::SCRATCH_ADDRESS;
-use sb_insn::{Disp, Imm, Insn, Op, mod_field, rex_b, rex_x, rm_field};
+use sb_insn::{
+    Disp, Imm, Insn, Op, is_from_next, mod_field, modrm_of, rex_b, rex_x, rm_field,
+    with_x_b_exchanged,
+};
 
 /// Where a slot saves its first helper: the first word of the scratch page (docs/FORMS.md).
 pub const FIRST_SAVED: i32 = SCRATCH_ADDRESS as i32;
@@ -261,13 +262,6 @@ fn without_sib_0f(insn: &Insn) -> Insn
     }
 }
 
-/// Whether the memory operand is at a distance from the next instruction: mod 0 and rm 5.
-fn is_from_next(modrm: u8) -> bool
-    ensures { result ≡ is_from_next modrm }
-{
-    mod_field(modrm) == 0 && rm_field(modrm) == 5
-}
-
 /// `lea helper, [operand]`, with this displacement.
 #[tactic(auto, unfolding(crate::specs::Pieces::load_address))]
 fn load_address(helper: Helper, insn: &Insn, disp: Disp) -> Insn
@@ -349,7 +343,7 @@ pub fn put_address(code: &mut Code, helper: Helper, insn: &Insn, next: u64)
 /// `jmp` by a distance of four bytes, from where the jump itself stands.
 #[tactic(auto, unfolding(crate::specs::Pieces::jump_insn))]
 pub fn jump(from: u64, to: u64) -> Insn
-    requires from { from ≤ 0x20000 }
+    requires from { from ≤ 0x600010 }
     requires to { to ≤ 0x600010 }
     ensures value { result ≡ jump_insn from to }
     ensures size { length (spelling result) ≡ 5 }
@@ -358,6 +352,15 @@ pub fn jump(from: u64, to: u64) -> Insn
         imm: Imm::I32(to as i32 - (from as i32 + 5)),
         ..opcode_alone(0xE9)
     }
+}
+
+/// The bytes of a `jmp` from one address to another, both in the text or the rewrite area.
+pub fn jump_code(from: u64, to: u64) -> Code
+    requires from { from ≤ 0x600010 }
+    requires to { to ≤ 0x600010 }
+    ensures { result ≡ spelling (jump_insn from to) }
+{
+    Code::of(&jump(from, to))
 }
 
 /// `jmp [address]`.

@@ -4,9 +4,10 @@ ghost use Rattle.std.specs.Prelude.{◌≡◌, ◌+◌, ◌≤◌, true, false, 
 ghost use Rattle.sb_insn.specs.declared.opcode_map.Mnemonic.{Mnemonic};
 ghost use Rattle.sb_insn.specs.Spelling.{op_bytes, imm_bytes, spelling};
 ghost use Rattle.sb_insn.specs.Grammar.{IsValid};
-ghost use Rattle.sb_insn.specs.Listing.{instruction_of};
+ghost use Rattle.sb_insn.specs.Lookup.{instruction_of};
 ghost use Rattle.sb_forms.specs.Answers.{IsSite, IsSmall, HasRoom, IsCleanForm};
 ghost use Rattle.sb_forms.specs.Places.{HasForm};
+ghost use Rattle.sb_insn.specs.Fields.{has_memory};
 ghost use Rattle.sb_forms.specs.Table.{
   nop,
   add_from_rm,
@@ -16,7 +17,6 @@ ghost use Rattle.sb_forms.specs.Table.{
   completes_pattern,
   begins_with_01_d4,
   begins_at_modrm,
-  has_memory,
   is_call,
   is_jump,
   form_by,
@@ -38,7 +38,7 @@ use crate::slots::{
     Site, address_and_constant_slot, address_slot, constant_slot, displaced, jump_slot,
     wide_constant_slot,
 };
-use sb_insn::{Imm, Insn, Instruction, Mnemonic, Op, instruction_of, mod_field};
+use sb_insn::{Imm, Insn, Instruction, Mnemonic, Op, has_memory, instruction_of};
 
 /// Whether it is VMFUNC.
 fn is_vmfunc(op: Op) -> bool
@@ -79,16 +79,6 @@ fn begins_at_modrm(insn: &Insn) -> bool
     ensures { result ≡ begins_at_modrm insn.now }
 {
     insn.modrm == Some(0x0F) && begins_with_01_d4(insn.imm)
-}
-
-/// Whether rm names memory.
-fn has_memory(modrm: Option<u8>) -> bool
-    ensures { result ≡ has_memory modrm }
-{
-    match modrm {
-        None => false,
-        Some(modrm) => mod_field(modrm) != 3,
-    }
 }
 
 /// Whether it is CALL.

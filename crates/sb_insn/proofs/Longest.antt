@@ -19,7 +19,7 @@ use Rattle.sb_insn.specs.declared.opcode_map.Group.TheVariants.{Group1, Group2, 
 use Rattle.sb_insn.specs.declared.opcode_map.OperandForm.{OperandForm}
 use Rattle.sb_insn.specs.declared.opcode_map.ModRmOpcode.{ModRmOpcode}
 use Rattle.sb_insn.specs.OpcodeMap.{one_byte, one_byte_rows, two_byte, two_byte_rows, cell_of}
-use Rattle.sb_insn.specs.Groups.{extended_by, extensions, group_operand, operand_of}
+use Rattle.sb_insn.specs.Groups.{extended_by, extensions, group_operand, modrm_opcode}
 use Rattle.sb_insn.proofs.Rows.{looked_up, every_extension, some_holds, extended}
 use Rattle.sb_insn.specs.Spelling.{lock_bytes, op_bytes, disp_bytes, imm_bytes, lead_bytes, spelling}
 use Rattle.sb_insn.specs.Fields.{kind_of_imm, kind_of_disp, imm_kind_of, rule_of, disp_kind_of, is_sib_field, is_modrm_field, operand_rule, reg_field}
@@ -42,8 +42,8 @@ is_no_rule rules.Wide = false
 
 abbrev narrow_cell : Cell → Bool
 narrow_cell Absent = true
-narrow_cell (NoModRm plain) = true
-narrow_cell (ModRm operand) = is_narrow operand.imm
+narrow_cell (NoModRm opcode) = true
+narrow_cell (ModRm opcode) = is_narrow opcode.imm
 narrow_cell (Extended group form imm) = is_narrow imm
 
 -- no row has an immediate of its own
@@ -54,8 +54,8 @@ bare_group _ = true
 -- no immediate behind ModRM
 abbrev bare_cell : Cell → Bool
 bare_cell Absent = true
-bare_cell (NoModRm plain) = true
-bare_cell (ModRm operand) = is_no_rule operand.imm
+bare_cell (NoModRm opcode) = true
+bare_cell (ModRm opcode) = is_no_rule opcode.imm
 bare_cell (Extended group form imm) = bare_group group && is_no_rule imm
 
 one_narrow : (opcode : ℕ) → narrow_cell (one_byte opcode) ≡ true
@@ -66,15 +66,15 @@ two_bare : (opcode : ℕ) → bare_cell (two_byte opcode) ≡ true
 unfolding two_byte
 two_bare opcode = looked_up bare_cell opcode two_byte_rows refl refl
 
-narrow_option : (operand : Option ModRmOpcode) → some_holds (λ row. is_narrow row.imm) operand ≡ true
-    → is_narrow (operand_rule operand) ≡ true
+narrow_option : (opcode : Option ModRmOpcode) → some_holds (λ row. is_narrow row.imm) opcode ≡ true
+    → is_narrow (operand_rule opcode) ≡ true
 narrow_option None e = refl
-narrow_option (Some operand) e = e
+narrow_option (Some opcode) e = e
 
-bare_option : (operand : Option ModRmOpcode) → some_holds (λ row. is_no_rule row.imm) operand ≡ true
-    → is_no_rule (operand_rule operand) ≡ true
+bare_option : (opcode : Option ModRmOpcode) → some_holds (λ row. is_no_rule row.imm) opcode ≡ true
+    → is_no_rule (operand_rule opcode) ≡ true
 bare_option None e = refl
-bare_option (Some operand) e = e
+bare_option (Some opcode) e = e
 
 narrow_rows : (group : Group) (form : OperandForm) (imm : ImmRule) → is_narrow imm ≡ true
     → every_extension (λ row. is_narrow row.imm) (extensions group form imm) ≡ true
@@ -94,20 +94,20 @@ bare_rows Group5 form imm bare e = rw e refl
 bare_rows Group11 form imm bare e = rw e refl
 bare_rows Group16 form imm bare e = rw e refl
 
-narrow_operand : (cell : Cell) (reg : ℕ) → narrow_cell cell ≡ true → is_narrow (operand_rule (operand_of cell reg)) ≡ true
+narrow_operand : (cell : Cell) (reg : ℕ) → narrow_cell cell ≡ true → is_narrow (operand_rule (modrm_opcode cell reg)) ≡ true
 unfolding group_operand
 narrow_operand Absent reg e = refl
-narrow_operand (NoModRm plain) reg e = refl
-narrow_operand (ModRm operand) reg e = e
+narrow_operand (NoModRm opcode) reg e = refl
+narrow_operand (ModRm opcode) reg e = e
 narrow_operand (Extended group form imm) reg e =
     narrow_option (extended_by reg (extensions group form imm))
     (extended (λ row. is_narrow row.imm) reg (extensions group form imm) (narrow_rows group form imm e))
 
-bare_operand : (cell : Cell) (reg : ℕ) → bare_cell cell ≡ true → is_no_rule (operand_rule (operand_of cell reg)) ≡ true
+bare_operand : (cell : Cell) (reg : ℕ) → bare_cell cell ≡ true → is_no_rule (operand_rule (modrm_opcode cell reg)) ≡ true
 unfolding group_operand
 bare_operand Absent reg e = refl
-bare_operand (NoModRm plain) reg e = refl
-bare_operand (ModRm operand) reg e = e
+bare_operand (NoModRm opcode) reg e = refl
+bare_operand (ModRm opcode) reg e = e
 bare_operand (Extended group form imm) reg e =
     let parts = and_parts (bare_group group) (is_no_rule imm) e in
     bare_option (extended_by reg (extensions group form imm))
@@ -179,14 +179,14 @@ tail_11 (One opcode) None sib displacement immediate lock rex is_modrm is_sib di
     omega (arith, no_sib sib is_sib, no_disp displacement disp_is, short)
 tail_11 (One opcode) (Some modrm) sib displacement immediate lock rex is_modrm is_sib disp_is imm_is =
     let short =
-    narrow_imm immediate (operand_rule (operand_of (one_byte opcode) (reg_field modrm))) rex
+    narrow_imm immediate (operand_rule (modrm_opcode (one_byte opcode) (reg_field modrm))) rex
     (narrow_operand (one_byte opcode) (reg_field modrm) (one_narrow opcode)) imm_is in
     omega (arith, one_field sib, any_disp displacement, short)
 tail_11 (Two opcode) None sib displacement immediate lock rex is_modrm is_sib disp_is imm_is = let short = any_imm immediate in
     omega (arith, no_sib sib is_sib, no_disp displacement disp_is, short)
 tail_11 (Two opcode) (Some modrm) sib displacement immediate lock rex is_modrm is_sib disp_is imm_is =
     let short =
-    no_imm immediate (operand_rule (operand_of (two_byte opcode) (reg_field modrm))) rex
+    no_imm immediate (operand_rule (modrm_opcode (two_byte opcode) (reg_field modrm))) rex
     (bare_operand (two_byte opcode) (reg_field modrm) (two_bare opcode)) imm_is in
     omega (arith, one_field sib, any_disp displacement, short)
 tail_11 Endbr None sib displacement immediate lock rex is_modrm is_sib disp_is imm_is =

@@ -5,16 +5,16 @@ use Rattle.std.specs.Prelude.{◌==◌}
 use Rattle.sb_insn.specs.declared.opcode_map.ModRmOpcode.{ModRmOpcode}
 use Rattle.sb_insn.specs.declared.opcode_map.Cell.{Cell}
 use Rattle.sb_insn.specs.declared.opcode_map.Cell.TheVariants.{Absent}
-use Rattle.sb_insn.specs.OpcodeMap.{Row, is_of, look_up}
+use Rattle.sb_insn.specs.OpcodeMap.{OpcodeRow, is_of, look_up}
 use Rattle.sb_insn.specs.Groups.{Extension, extended_by}
 
 -- ---- maps
 
-abbrev pub every : (Cell → Bool) → List Row → Bool
+abbrev pub every : (Cell → Bool) → List OpcodeRow → Bool
 every holds [] = true
 every holds (row ∷ rows) = holds row.cell && every holds rows
 
-pub looked_up : (holds : Cell → Bool) (opcode : ℕ) (rows : List Row) → holds Absent ≡ true → every holds rows ≡ true
+pub looked_up : (holds : Cell → Bool) (opcode : ℕ) (rows : List OpcodeRow) → holds Absent ≡ true → every holds rows ≡ true
     → holds (look_up opcode rows) ≡ true
 looked_up holds opcode [] absent e = absent
 looked_up holds opcode (row ∷ rows) absent e =
@@ -29,10 +29,10 @@ abbrev pub every_extension : (ModRmOpcode → Bool) → List Extension → Bool
 every_extension holds [] = true
 every_extension holds (row ∷ rows) = holds row.operand && every_extension holds rows
 
--- it holds of the operand, if there is one
+-- it holds of the opcode, if there is one
 abbrev pub some_holds : (ModRmOpcode → Bool) → Option ModRmOpcode → Bool
 some_holds holds None = true
-some_holds holds (Some operand) = holds operand
+some_holds holds (Some opcode) = holds opcode
 
 pub extended : (holds : ModRmOpcode → Bool) (reg : ℕ) (rows : List Extension) → every_extension holds rows ≡ true
     → some_holds holds (extended_by reg rows) ≡ true

@@ -10,7 +10,7 @@ use Rattle.sb_insn.specs.declared.opcode_map.OperandForm.TheVariants.{RmReg, Reg
 use Rattle.sb_insn.specs.declared.opcode_map.OperandForm.TheVariants.{RmCount, RmCl, Rm, Opcode, Imm as ImmForm, Relative}
 use Rattle.sb_insn.specs.declared.opcode_map.OperandForm.TheVariants.{Nothing}
 use Rattle.sb_insn.specs.Spelling.{spelling}
-use Rattle.sb_insn.specs.Listing.{instruction_of}
+use Rattle.sb_insn.specs.Lookup.{instruction_of}
 
 -- the immediate, sign-extended to 64 bits; 0 where there is none
 abbrev pub imm_value : Imm → ℕ

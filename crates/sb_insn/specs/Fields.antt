@@ -17,7 +17,7 @@ use Rattle.sb_insn.specs.declared.opcode_map.ImmRule.TheVariants as imm_rule
 use Rattle.sb_insn.specs.declared.opcode_map.ModRmOpcode.{ModRmOpcode}
 use Rattle.sb_insn.specs.declared.opcode_map.Cell.{Cell}
 use Rattle.sb_insn.specs.declared.opcode_map.Cell.TheVariants.{Absent, NoModRm, ModRm, Extended}
-use Rattle.sb_insn.specs.Groups.{operand_of}
+use Rattle.sb_insn.specs.Groups.{modrm_opcode}
 
 -- ---- REX
 
@@ -78,36 +78,45 @@ rm_field modrm = modrm % 8
 abbrev pub is_register : ℕ → Bool
 is_register modrm = mod_field modrm == 3
 
+-- rm names memory
+abbrev pub has_memory : Option ℕ → Bool
+has_memory None = false
+has_memory (Some modrm) = not (is_register modrm)
+
+-- mod 0 and rm 5: from the next instruction's address on
+abbrev pub is_from_next : ℕ → Bool
+is_from_next modrm = (mod_field modrm == 0) && (rm_field modrm == 5)
+
 abbrev pub permits_rm : RmRule → ℕ → Bool
 permits_rm rm_rule.Any modrm = true
 permits_rm rm_rule.Memory modrm = not (is_register modrm)
 
 -- without a REX byte the byte registers 4 to 7 are AH, CH, DH and BH
 abbrev pub needs_rex : ModRmOpcode → ℕ → Bool
-needs_rex operand modrm =
-    (operand.byte_reg && nat_le 4 (reg_field modrm))
-    || (operand.byte_rm && (is_register modrm && nat_le 4 (rm_field modrm)))
+needs_rex opcode modrm =
+    (opcode.byte_reg && nat_le 4 (reg_field modrm))
+    || (opcode.byte_rm && (is_register modrm && nat_le 4 (rm_field modrm)))
 
 -- the operands permit this ModRM byte behind these prefixes
 unfoldable pub permits : ModRmOpcode → Bool → Option ℕ → ℕ → Bool
-permits operand lock rex modrm =
-    (not lock || (operand.lock && not (is_register modrm)))
-    && (permits_rm operand.rm modrm && not (is_none rex && needs_rex operand modrm))
+permits opcode lock rex modrm =
+    (not lock || (opcode.lock && not (is_register modrm)))
+    && (permits_rm opcode.rm modrm && not (is_none rex && needs_rex opcode modrm))
 
 abbrev pub some_permits : Option ModRmOpcode → Bool → Option ℕ → ℕ → Bool
 some_permits None lock rex modrm = false
-some_permits (Some operand) lock rex modrm = permits operand lock rex modrm
+some_permits (Some opcode) lock rex modrm = permits opcode lock rex modrm
 
 -- the opcode has no ModRM byte, and permits these prefixes
 abbrev pub stands_alone : Cell → Bool → Option ℕ → Bool
 stands_alone Absent lock rex = false
-stands_alone (NoModRm plain) lock rex = not lock && permits_rex plain.rex rex
-stands_alone (ModRm operand) lock rex = false
+stands_alone (NoModRm opcode) lock rex = not lock && permits_rex opcode.rex rex
+stands_alone (ModRm opcode) lock rex = false
 stands_alone (Extended group form imm) lock rex = false
 
 abbrev pub is_modrm_field : Cell → Bool → Option ℕ → Option ℕ → Bool
 is_modrm_field cell lock rex None = stands_alone cell lock rex
-is_modrm_field cell lock rex (Some modrm) = some_permits (operand_of cell (reg_field modrm)) lock rex modrm
+is_modrm_field cell lock rex (Some modrm) = some_permits (modrm_opcode cell (reg_field modrm)) lock rex modrm
 
 -- ---- SIB and the displacement
 
@@ -156,17 +165,17 @@ kind_of_disp (disp.D32 value) = disp_kind.D32
 
 abbrev pub alone_rule : Cell → ImmRule
 alone_rule Absent = imm_rule.None
-alone_rule (NoModRm plain) = plain.imm
-alone_rule (ModRm operand) = imm_rule.None
+alone_rule (NoModRm opcode) = opcode.imm
+alone_rule (ModRm opcode) = imm_rule.None
 alone_rule (Extended group form imm) = imm_rule.None
 
 abbrev pub operand_rule : Option ModRmOpcode → ImmRule
 operand_rule None = imm_rule.None
-operand_rule (Some operand) = operand.imm
+operand_rule (Some opcode) = opcode.imm
 
 abbrev pub rule_of : Cell → Option ℕ → ImmRule
 rule_of cell None = alone_rule cell
-rule_of cell (Some modrm) = operand_rule (operand_of cell (reg_field modrm))
+rule_of cell (Some modrm) = operand_rule (modrm_opcode cell (reg_field modrm))
 
 abbrev pub imm_kind_of : ImmRule → Option ℕ → ImmKind
 imm_kind_of imm_rule.None rex = imm_kind.None

@@ -59,8 +59,8 @@ unfoldable pub group_operand : Group → OperandForm → ImmRule → ℕ → Opt
 group_operand group form imm reg = extended_by reg (extensions group form imm)
 
 -- what a ModRM byte with this reg field means behind an opcode
-abbrev pub operand_of : Cell → ℕ → Option ModRmOpcode
-operand_of Absent reg = None
-operand_of (NoModRm plain) reg = None
-operand_of (ModRm operand) reg = Some operand
-operand_of (Extended group form imm) reg = group_operand group form imm reg
+abbrev pub modrm_opcode : Cell → ℕ → Option ModRmOpcode
+modrm_opcode Absent reg = None
+modrm_opcode (NoModRm opcode) reg = None
+modrm_opcode (ModRm opcode) reg = Some opcode
+modrm_opcode (Extended group form imm) reg = group_operand group form imm reg

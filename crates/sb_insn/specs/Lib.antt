@@ -2,7 +2,9 @@ pub mod OpcodeMap
 pub mod Groups
 pub mod Spelling
 pub mod Fields
-pub mod Listing
+pub mod Rex
+pub mod RegisterNumbers
+pub mod Lookup
 pub mod Branch
 pub mod Grammar
 pub mod Registers

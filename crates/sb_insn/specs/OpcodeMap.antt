@@ -79,8 +79,8 @@ from_byte mnemonic form =
     }
 
 -- no ModRM byte
-abbrev pub plain : RexRule → Mnemonic → OperandForm → ImmRule → Cell
-plain rex mnemonic form imm = NoModRm (record { rex = rex; imm = imm; instruction = record { mnemonic = mnemonic; form = form } })
+abbrev pub no_modrm : RexRule → Mnemonic → OperandForm → ImmRule → Cell
+no_modrm rex mnemonic form imm = NoModRm (record { rex = rex; imm = imm; instruction = record { mnemonic = mnemonic; form = form } })
 
 -- ---- rows
 
@@ -89,7 +89,7 @@ pub data Opcodes : Type 0 where
   Single : ℕ → Opcodes
   Span : (low high : ℕ) → Opcodes
 
-pub record Row : Type 0 where
+pub record OpcodeRow : Type 0 where
   pub opcodes : Opcodes
   pub cell : Cell
 
@@ -98,45 +98,45 @@ is_of opcode (Single one) = opcode == one
 is_of opcode (Span low high) = nat_le low opcode && nat_le opcode high
 
 -- the cell of the first row that lists the opcode
-abbrev pub look_up : ℕ → List Row → Cell
+abbrev pub look_up : ℕ → List OpcodeRow → Cell
 look_up opcode [] = Absent
 look_up opcode (row ∷ rows) = if is_of opcode row.opcodes then row.cell else look_up opcode rows
 
-abbrev pub row : ℕ → Cell → Row
+abbrev pub row : ℕ → Cell → OpcodeRow
 row opcode cell = record { opcodes = Single opcode; cell = cell }
 
-abbrev pub span : ℕ → ℕ → Cell → Row
+abbrev pub span : ℕ → ℕ → Cell → OpcodeRow
 span low high cell = record { opcodes = Span low high; cell = cell }
 
 -- ---- the maps
 
-abbrev pub one_byte_rows : List Row
+abbrev pub one_byte_rows : List OpcodeRow
 one_byte_rows =
     row 0x01 (ModRm (lockable Add RmReg imm_rule.None))
     ∷ row 0x03 (ModRm (not_lockable Add RegRm imm_rule.None))
-    ∷ row 0x05 (plain Permitted Add AccImm imm_rule.I32)
+    ∷ row 0x05 (no_modrm Permitted Add AccImm imm_rule.I32)
     ∷ row 0x09 (ModRm (lockable Or RmReg imm_rule.None))
     ∷ row 0x0B (ModRm (not_lockable Or RegRm imm_rule.None))
-    ∷ row 0x0D (plain Permitted Or AccImm imm_rule.I32)
+    ∷ row 0x0D (no_modrm Permitted Or AccImm imm_rule.I32)
     ∷ row 0x21 (ModRm (lockable And RmReg imm_rule.None))
     ∷ row 0x23 (ModRm (not_lockable And RegRm imm_rule.None))
-    ∷ row 0x25 (plain Permitted And AccImm imm_rule.I32)
+    ∷ row 0x25 (no_modrm Permitted And AccImm imm_rule.I32)
     ∷ row 0x29 (ModRm (lockable Sub RmReg imm_rule.None))
     ∷ row 0x2B (ModRm (not_lockable Sub RegRm imm_rule.None))
-    ∷ row 0x2D (plain Permitted Sub AccImm imm_rule.I32)
+    ∷ row 0x2D (no_modrm Permitted Sub AccImm imm_rule.I32)
     ∷ row 0x31 (ModRm (lockable Xor RmReg imm_rule.None))
     ∷ row 0x33 (ModRm (not_lockable Xor RegRm imm_rule.None))
-    ∷ row 0x35 (plain Permitted Xor AccImm imm_rule.I32)
+    ∷ row 0x35 (no_modrm Permitted Xor AccImm imm_rule.I32)
     ∷ row 0x39 (ModRm (not_lockable Cmp RmReg imm_rule.None))
     ∷ row 0x3B (ModRm (not_lockable Cmp RegRm imm_rule.None))
-    ∷ row 0x3D (plain Permitted Cmp AccImm imm_rule.I32)
-    ∷ span 0x50 0x57 (plain Permitted Push Opcode imm_rule.None)
-    ∷ span 0x58 0x5F (plain Permitted Pop Opcode imm_rule.None)
-    ∷ row 0x68 (plain Refused Push Imm imm_rule.I32)
+    ∷ row 0x3D (no_modrm Permitted Cmp AccImm imm_rule.I32)
+    ∷ span 0x50 0x57 (no_modrm Permitted Push Opcode imm_rule.None)
+    ∷ span 0x58 0x5F (no_modrm Permitted Pop Opcode imm_rule.None)
+    ∷ row 0x68 (no_modrm Refused Push Imm imm_rule.I32)
     ∷ row 0x69 (ModRm (not_lockable Imul RegRmImm imm_rule.I32))
-    ∷ row 0x6A (plain Refused Push Imm imm_rule.I8)
+    ∷ row 0x6A (no_modrm Refused Push Imm imm_rule.I8)
     ∷ row 0x6B (ModRm (not_lockable Imul RegRmImm imm_rule.I8))
-    ∷ span 0x70 0x7F (plain Refused Jcc Relative imm_rule.I8)
+    ∷ span 0x70 0x7F (no_modrm Refused Jcc Relative imm_rule.I8)
     ∷ row 0x81 (Extended Group1 RmImm imm_rule.I32)
     ∷ row 0x83 (Extended Group1 RmImm imm_rule.I8)
     ∷ row 0x85 (ModRm (not_lockable Test RmReg imm_rule.None))
@@ -146,26 +146,26 @@ one_byte_rows =
     ∷ row 0x8A (ModRm (of_bytes Mov RegRm))
     ∷ row 0x8B (ModRm (not_lockable Mov RegRm imm_rule.None))
     ∷ row 0x8D (ModRm (address Lea RegRm))
-    ∷ row 0x90 (plain Refused Nop Nothing imm_rule.None)
-    ∷ span 0xB8 0xBF (plain Permitted Mov OpcodeImm imm_rule.Wide)
+    ∷ row 0x90 (no_modrm Refused Nop Nothing imm_rule.None)
+    ∷ span 0xB8 0xBF (no_modrm Permitted Mov OpcodeImm imm_rule.Wide)
     ∷ row 0xC1 (Extended Group2 RmCount imm_rule.I8)
-    ∷ row 0xC3 (plain Refused Ret Nothing imm_rule.None)
+    ∷ row 0xC3 (no_modrm Refused Ret Nothing imm_rule.None)
     ∷ row 0xC7 (Extended Group11 RmImm imm_rule.I32)
     ∷ row 0xD3 (Extended Group2 RmCl imm_rule.None)
-    ∷ row 0xE8 (plain Refused Call Relative imm_rule.I32)
-    ∷ row 0xE9 (plain Refused Jmp Relative imm_rule.I32)
-    ∷ row 0xEB (plain Refused Jmp Relative imm_rule.I8)
+    ∷ row 0xE8 (no_modrm Refused Call Relative imm_rule.I32)
+    ∷ row 0xE9 (no_modrm Refused Jmp Relative imm_rule.I32)
+    ∷ row 0xEB (no_modrm Refused Jmp Relative imm_rule.I8)
     ∷ row 0xF7 (Extended Group3 Rm imm_rule.None)
     ∷ row 0xFF (Extended Group5 Rm imm_rule.None)
     ∷ []
 
 -- behind 0F
-abbrev pub two_byte_rows : List Row
+abbrev pub two_byte_rows : List OpcodeRow
 two_byte_rows =
-    row 0x05 (plain Refused Syscall Nothing imm_rule.None)
-    ∷ row 0x0B (plain Refused Ud2 Nothing imm_rule.None)
+    row 0x05 (no_modrm Refused Syscall Nothing imm_rule.None)
+    ∷ row 0x0B (no_modrm Refused Ud2 Nothing imm_rule.None)
     ∷ row 0x1F (Extended Group16 Rm imm_rule.None)
-    ∷ span 0x80 0x8F (plain Refused Jcc Relative imm_rule.I32)
+    ∷ span 0x80 0x8F (no_modrm Refused Jcc Relative imm_rule.I32)
     ∷ row 0xAF (ModRm (not_lockable Imul RegRm imm_rule.None))
     ∷ row 0xB1 (ModRm (lockable Cmpxchg RmReg imm_rule.None))
     ∷ row 0xB6 (ModRm (from_byte Movzx RegRm))
@@ -183,5 +183,5 @@ two_byte opcode = look_up opcode two_byte_rows
 abbrev pub cell_of : Op → Cell
 cell_of (op.One opcode) = one_byte opcode
 cell_of (op.Two opcode) = two_byte opcode
-cell_of op.Endbr = plain Refused Endbr64 Nothing imm_rule.None
-cell_of op.Vmfunc = plain Refused Vmfunc Nothing imm_rule.None
+cell_of op.Endbr = no_modrm Refused Endbr64 Nothing imm_rule.None
+cell_of op.Vmfunc = no_modrm Refused Vmfunc Nothing imm_rule.None

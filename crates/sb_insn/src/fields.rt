@@ -18,6 +18,8 @@ ghost use Rattle.sb_insn.specs.Fields.{
   permits_rm,
   permits,
   is_register,
+  has_memory,
+  is_from_next,
   needs_rex,
   stands_alone,
   is_modrm_field,
@@ -33,7 +35,7 @@ ghost use Rattle.sb_insn.specs.Fields.{
 
 use crate::insn::{Disp, DispKind, Imm, ImmKind};
 use crate::opcode_map::{Cell, ImmRule, ModRmOpcode, RexRule, RmRule};
-use crate::opcodes::operand_of;
+use crate::opcodes::modrm_opcode;
 
 // ---- REX (SDM volume 2, section 2.2.1)
 
@@ -159,13 +161,32 @@ fn is_register(modrm: u8) -> bool
     mod_field(modrm) == 3
 }
 
+/// Whether rm names memory.
+#[inline(always)]
+pub fn has_memory(modrm: Option<u8>) -> bool
+    ensures { result ≡ has_memory modrm }
+{
+    match modrm {
+        None => false,
+        Some(modrm) => !is_register(modrm),
+    }
+}
+
+/// Whether the memory operand is at a distance from the next instruction: mod 0 and rm 5.
+#[inline(always)]
+pub fn is_from_next(modrm: u8) -> bool
+    ensures { result ≡ is_from_next modrm }
+{
+    mod_field(modrm) == 0 && rm_field(modrm) == 5
+}
+
 /// Whether a byte register is named that only a REX byte gives: without one, 4 to 7 are AH, CH, DH and BH.
 #[inline(always)]
-fn needs_rex(operand: &ModRmOpcode, modrm: u8) -> bool
-    ensures { result ≡ needs_rex operand.now modrm }
+fn needs_rex(opcode: &ModRmOpcode, modrm: u8) -> bool
+    ensures { result ≡ needs_rex opcode.now modrm }
 {
-    (operand.byte_reg && reg_field(modrm) >= 4)
-        || (operand.byte_rm && (is_register(modrm) && rm_field(modrm) >= 4))
+    (opcode.byte_reg && reg_field(modrm) >= 4)
+        || (opcode.byte_rm && (is_register(modrm) && rm_field(modrm) >= 4))
 }
 
 /// Whether this REX field may stand before an opcode without ModRM byte.
@@ -193,11 +214,11 @@ fn permits_rm(rule: RmRule, modrm: u8) -> bool
 /// Whether an opcode with these operands permits this ModRM byte behind these prefixes.
 #[inline(always)]
 #[tactic(auto, unfolding(crate::specs::Fields::permits))]
-fn permits(operand: &ModRmOpcode, lock: bool, rex: Option<u8>, modrm: u8) -> bool
-    ensures { result ≡ permits operand.now lock rex modrm }
+fn permits(opcode: &ModRmOpcode, lock: bool, rex: Option<u8>, modrm: u8) -> bool
+    ensures { result ≡ permits opcode.now lock rex modrm }
 {
-    (!lock || (operand.lock && !is_register(modrm)))
-        && (permits_rm(operand.rm, modrm) && !(rex.is_none() && needs_rex(operand, modrm)))
+    (!lock || (opcode.lock && !is_register(modrm)))
+        && (permits_rm(opcode.rm, modrm) && !(rex.is_none() && needs_rex(opcode, modrm)))
 }
 
 /// Whether an opcode behind these prefixes permits this ModRM byte.
@@ -205,9 +226,9 @@ fn permits(operand: &ModRmOpcode, lock: bool, rex: Option<u8>, modrm: u8) -> boo
 pub fn permits_modrm(cell: Cell, lock: bool, rex: Option<u8>, modrm: u8) -> bool
     ensures { result ≡ is_modrm_field cell lock rex (Some modrm) }
 {
-    match operand_of(cell, reg_field(modrm)) {
+    match modrm_opcode(cell, reg_field(modrm)) {
         None => false,
-        Some(operand) => permits(&operand, lock, rex, modrm),
+        Some(opcode) => permits(&opcode, lock, rex, modrm),
     }
 }
 
@@ -217,7 +238,7 @@ pub fn stands_alone(cell: Cell, lock: bool, rex: Option<u8>) -> bool
     ensures { result ≡ stands_alone cell lock rex }
 {
     match cell {
-        Cell::NoModRm(plain) => !lock && permits_rex(plain.rex, rex),
+        Cell::NoModRm(opcode) => !lock && permits_rex(opcode.rex, rex),
         Cell::Absent | Cell::ModRm(_) | Cell::Extended(..) => false,
     }
 }
@@ -291,12 +312,12 @@ fn rule_of(cell: Cell, modrm: Option<u8>) -> ImmRule
 {
     match modrm {
         None => match cell {
-            Cell::NoModRm(plain) => plain.imm,
+            Cell::NoModRm(opcode) => opcode.imm,
             _ => ImmRule::None,
         },
-        Some(modrm) => match operand_of(cell, reg_field(modrm)) {
+        Some(modrm) => match modrm_opcode(cell, reg_field(modrm)) {
             None => ImmRule::None,
-            Some(operand) => operand.imm,
+            Some(opcode) => opcode.imm,
         },
     }
 }

@@ -8,7 +8,7 @@ ghost use Rattle.sb_insn.specs.Branch.{imm_value, is_direct, direct_target};
 ghost use Rattle.sb_insn.specs.Grammar.{IsByte, FitsDisp, FitsImm, IsValid};
 
 use crate::fields::{disp_kind, imm_kind, is_rex, permits_modrm, stands_alone, wants_sib};
-use crate::listing::instruction_of;
+use crate::lookup::instruction_of;
 use crate::opcode_map::{Cell, OperandForm};
 use crate::opcodes::cell_of;
 

@@ -5,32 +5,39 @@
 //! reading bytes (`sb_decode`) and what an instruction does (`sb_exec`).
 //!
 //! For the decoder alone: `Cell`, `Group`, `RexRule`, `DispKind`, `ImmKind`, `cell_of`, `is_rex`, `permits_modrm`,
-//! `wants_sib`, `disp_kind` and `imm_kind`. For the encoders: `ByteSink` and `spell_into`.
+//! `wants_sib`, `disp_kind` and `imm_kind`. For the encoders: `ByteSink` and `spell_into`. For the rewriter: REX with other
+//! bits (`with_r_b`, `with_x_b_exchanged`), and the numbers of the registers that the fields name.
 //!
 //! The grammar goes field by field in the order LOCK, REX, opcode, ModRM, SIB, displacement, immediate (SDM volume 2,
 //! chapter 2): each field is one that the fields before it permit. So `31 C0` is `XOR EAX, EAX`: opcode `31` in the
 //! one-byte map has a ModRM byte, and `C0` is mod 3, reg 0, rm 0. The maps stand once, for the grammar and for the
-//! executor: `instruction_of` says which instruction an `Insn` is, and each valid one is listed (`valid_is_listed`).
+//! executor: `instruction_of` says which instruction an `Insn` is, and each valid one is in them (`valid_is_in_maps`).
 #![tactic(auto)]
 
 mod fields;
 mod insn;
-mod listing;
+mod lookup;
 mod opcode_map;
 mod opcodes;
+mod register_numbers;
 pub mod registers;
+mod rex;
 mod spell;
 
 pub use fields::{
-    base, disp_kind, imm_kind, index, is_rex, mod_field, permits_modrm, reg_field, rex_b, rex_r,
-    rex_w, rex_x, rm_field, scale, wants_sib,
+    base, disp_kind, has_memory, imm_kind, index, is_from_next, is_rex, mod_field, permits_modrm,
+    reg_field, rex_b, rex_r, rex_w, rex_x, rm_field, scale, wants_sib,
 };
 pub use insn::{Disp, DispKind, Imm, ImmKind, Insn, Op};
-pub use listing::{instruction_of, operand_for, valid_is_listed};
+pub use lookup::{instruction_of, modrm_opcode_of, valid_is_in_maps};
 pub use opcode_map::{
     Cell, Group, ImmRule, Instruction, Mnemonic, ModRmOpcode, NoModRmOpcode, OperandForm, RexRule,
     RmRule,
 };
 pub use opcodes::cell_of;
+pub use register_numbers::{
+    base_number, index_number, modrm_of, one_byte_opcode, opcode_number, reg_number, rm_number,
+};
 pub use registers::{Flags, Regs};
+pub use rex::{with_r_b, with_x_b_exchanged};
 pub use spell::{ByteSink, spell_into};

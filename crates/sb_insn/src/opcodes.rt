@@ -5,8 +5,8 @@
 //! and `D3` /6; `F7` /1 and /5.
 
 ghost use Rattle.std.specs.Prelude.{◌≡◌};
-ghost use Rattle.sb_insn.specs.OpcodeMap.{one_byte, two_byte, cell_of, lockable, not_lockable, address, of_bytes, from_byte, plain};
-ghost use Rattle.sb_insn.specs.Groups.{group_operand, operand_of};
+ghost use Rattle.sb_insn.specs.OpcodeMap.{one_byte, two_byte, cell_of, lockable, not_lockable, address, of_bytes, from_byte, no_modrm};
+ghost use Rattle.sb_insn.specs.Groups.{group_operand, modrm_opcode};
 
 use crate::insn::Op;
 use crate::opcode_map::Mnemonic::{
@@ -94,8 +94,8 @@ const fn from_byte(mnemonic: Mnemonic, form: OperandForm) -> ModRmOpcode
 }
 
 /// An opcode without ModRM byte.
-const fn plain(rex: RexRule, mnemonic: Mnemonic, form: OperandForm, imm: ImmRule) -> Cell
-    ensures { result ≡ plain rex mnemonic form imm }
+const fn no_modrm(rex: RexRule, mnemonic: Mnemonic, form: OperandForm, imm: ImmRule) -> Cell
+    ensures { result ≡ no_modrm rex mnemonic form imm }
 {
     Cell::NoModRm(NoModRmOpcode {
         rex,
@@ -112,29 +112,29 @@ fn one_byte(opcode: u8) -> Cell
     match opcode {
         0x01 => Cell::ModRm(lockable(Add, RmReg, ImmRule::None)),
         0x03 => Cell::ModRm(not_lockable(Add, RegRm, ImmRule::None)),
-        0x05 => plain(Permitted, Add, AccImm, ImmRule::I32),
+        0x05 => no_modrm(Permitted, Add, AccImm, ImmRule::I32),
         0x09 => Cell::ModRm(lockable(Or, RmReg, ImmRule::None)),
         0x0B => Cell::ModRm(not_lockable(Or, RegRm, ImmRule::None)),
-        0x0D => plain(Permitted, Or, AccImm, ImmRule::I32),
+        0x0D => no_modrm(Permitted, Or, AccImm, ImmRule::I32),
         0x21 => Cell::ModRm(lockable(And, RmReg, ImmRule::None)),
         0x23 => Cell::ModRm(not_lockable(And, RegRm, ImmRule::None)),
-        0x25 => plain(Permitted, And, AccImm, ImmRule::I32),
+        0x25 => no_modrm(Permitted, And, AccImm, ImmRule::I32),
         0x29 => Cell::ModRm(lockable(Sub, RmReg, ImmRule::None)),
         0x2B => Cell::ModRm(not_lockable(Sub, RegRm, ImmRule::None)),
-        0x2D => plain(Permitted, Sub, AccImm, ImmRule::I32),
+        0x2D => no_modrm(Permitted, Sub, AccImm, ImmRule::I32),
         0x31 => Cell::ModRm(lockable(Xor, RmReg, ImmRule::None)),
         0x33 => Cell::ModRm(not_lockable(Xor, RegRm, ImmRule::None)),
-        0x35 => plain(Permitted, Xor, AccImm, ImmRule::I32),
+        0x35 => no_modrm(Permitted, Xor, AccImm, ImmRule::I32),
         0x39 => Cell::ModRm(not_lockable(Cmp, RmReg, ImmRule::None)),
         0x3B => Cell::ModRm(not_lockable(Cmp, RegRm, ImmRule::None)),
-        0x3D => plain(Permitted, Cmp, AccImm, ImmRule::I32),
-        0x50..=0x57 => plain(Permitted, Push, Opcode, ImmRule::None),
-        0x58..=0x5F => plain(Permitted, Pop, Opcode, ImmRule::None),
-        0x68 => plain(Refused, Push, Imm, ImmRule::I32),
+        0x3D => no_modrm(Permitted, Cmp, AccImm, ImmRule::I32),
+        0x50..=0x57 => no_modrm(Permitted, Push, Opcode, ImmRule::None),
+        0x58..=0x5F => no_modrm(Permitted, Pop, Opcode, ImmRule::None),
+        0x68 => no_modrm(Refused, Push, Imm, ImmRule::I32),
         0x69 => Cell::ModRm(not_lockable(Imul, RegRmImm, ImmRule::I32)),
-        0x6A => plain(Refused, Push, Imm, ImmRule::I8),
+        0x6A => no_modrm(Refused, Push, Imm, ImmRule::I8),
         0x6B => Cell::ModRm(not_lockable(Imul, RegRmImm, ImmRule::I8)),
-        0x70..=0x7F => plain(Refused, Jcc, Relative, ImmRule::I8),
+        0x70..=0x7F => no_modrm(Refused, Jcc, Relative, ImmRule::I8),
         0x81 => Cell::Extended(Group::Group1, RmImm, ImmRule::I32),
         0x83 => Cell::Extended(Group::Group1, RmImm, ImmRule::I8),
         0x85 => Cell::ModRm(not_lockable(Test, RmReg, ImmRule::None)),
@@ -144,15 +144,15 @@ fn one_byte(opcode: u8) -> Cell
         0x8A => Cell::ModRm(of_bytes(Mov, RegRm)),
         0x8B => Cell::ModRm(not_lockable(Mov, RegRm, ImmRule::None)),
         0x8D => Cell::ModRm(address(Lea, RegRm)),
-        0x90 => plain(Refused, Nop, Nothing, ImmRule::None),
-        0xB8..=0xBF => plain(Permitted, Mov, OpcodeImm, ImmRule::Wide),
+        0x90 => no_modrm(Refused, Nop, Nothing, ImmRule::None),
+        0xB8..=0xBF => no_modrm(Permitted, Mov, OpcodeImm, ImmRule::Wide),
         0xC1 => Cell::Extended(Group::Group2, RmCount, ImmRule::I8),
-        0xC3 => plain(Refused, Ret, Nothing, ImmRule::None),
+        0xC3 => no_modrm(Refused, Ret, Nothing, ImmRule::None),
         0xC7 => Cell::Extended(Group::Group11, RmImm, ImmRule::I32),
         0xD3 => Cell::Extended(Group::Group2, RmCl, ImmRule::None),
-        0xE8 => plain(Refused, Call, Relative, ImmRule::I32),
-        0xE9 => plain(Refused, Jmp, Relative, ImmRule::I32),
-        0xEB => plain(Refused, Jmp, Relative, ImmRule::I8),
+        0xE8 => no_modrm(Refused, Call, Relative, ImmRule::I32),
+        0xE9 => no_modrm(Refused, Jmp, Relative, ImmRule::I32),
+        0xEB => no_modrm(Refused, Jmp, Relative, ImmRule::I8),
         0xF7 => Cell::Extended(Group::Group3, Rm, ImmRule::None),
         0xFF => Cell::Extended(Group::Group5, Rm, ImmRule::None),
         _ => Cell::Absent,
@@ -165,10 +165,10 @@ fn two_byte(opcode: u8) -> Cell
     ensures { result ≡ two_byte opcode }
 {
     match opcode {
-        0x05 => plain(Refused, Syscall, Nothing, ImmRule::None),
-        0x0B => plain(Refused, Ud2, Nothing, ImmRule::None),
+        0x05 => no_modrm(Refused, Syscall, Nothing, ImmRule::None),
+        0x0B => no_modrm(Refused, Ud2, Nothing, ImmRule::None),
         0x1F => Cell::Extended(Group::Group16, Rm, ImmRule::None),
-        0x80..=0x8F => plain(Refused, Jcc, Relative, ImmRule::I32),
+        0x80..=0x8F => no_modrm(Refused, Jcc, Relative, ImmRule::I32),
         0xAF => Cell::ModRm(not_lockable(Imul, RegRm, ImmRule::None)),
         0xB1 => Cell::ModRm(lockable(Cmpxchg, RmReg, ImmRule::None)),
         0xB6 => Cell::ModRm(from_byte(Movzx, RegRm)),
@@ -185,8 +185,8 @@ pub fn cell_of(op: Op) -> Cell
     match op {
         Op::One(opcode) => one_byte(opcode),
         Op::Two(opcode) => two_byte(opcode),
-        Op::Endbr => plain(Refused, Endbr64, Nothing, ImmRule::None),
-        Op::Vmfunc => plain(Refused, Vmfunc, Nothing, ImmRule::None),
+        Op::Endbr => no_modrm(Refused, Endbr64, Nothing, ImmRule::None),
+        Op::Vmfunc => no_modrm(Refused, Vmfunc, Nothing, ImmRule::None),
     }
 }
 
@@ -222,12 +222,12 @@ fn group_operand(group: Group, form: OperandForm, imm: ImmRule, digit: u8) -> Op
 
 /// What a ModRM byte with this reg field means behind an opcode.
 #[inline(always)]
-pub fn operand_of(cell: Cell, reg: u8) -> Option<ModRmOpcode>
-    ensures { result ≡ operand_of cell reg }
+pub fn modrm_opcode(cell: Cell, reg: u8) -> Option<ModRmOpcode>
+    ensures { result ≡ modrm_opcode cell reg }
 {
     match cell {
         Cell::Absent | Cell::NoModRm(_) => None,
-        Cell::ModRm(operand) => Some(operand),
+        Cell::ModRm(opcode) => Some(opcode),
         Cell::Extended(group, form, imm) => group_operand(group, form, imm, reg),
     }
 }

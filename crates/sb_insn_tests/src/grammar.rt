@@ -2,7 +2,7 @@
 
 use sb_insn::{
     Disp, Flags, Imm, Insn, Mnemonic, Op, OperandForm, base, index, instruction_of, mod_field,
-    operand_for, reg_field, rex_b, rex_r, rex_w, rex_x, rm_field, scale,
+    modrm_opcode_of, reg_field, rex_b, rex_r, rex_w, rex_x, rm_field, scale,
 };
 
 const ADD: Insn = Insn {
@@ -109,8 +109,8 @@ fn finds_instructions_in_the_maps(rt: HostRuntime) {
         let found = instruction_of(&insn).map(|found| (found.mnemonic, found.form));
         assert_eq!(rt; found, expected, "{name}");
     }
-    assert!(rt; operand_for(&MOV_BYTE).is_some_and(|operand| operand.byte_reg && operand.byte_rm));
-    assert!(rt; operand_for(&RET).is_none());
+    assert!(rt; modrm_opcode_of(&MOV_BYTE).is_some_and(|operand| operand.byte_reg && operand.byte_rm));
+    assert!(rt; modrm_opcode_of(&RET).is_none());
 }
 
 /// Names, instructions, their addresses, and where they lead.

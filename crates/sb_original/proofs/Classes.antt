@@ -14,9 +14,9 @@ use Rattle.sb_insn.specs.declared.opcode_map.ModRmOpcode.{ModRmOpcode}
 use Rattle.sb_insn.specs.declared.opcode_map.Cell.{Cell}
 use Rattle.sb_insn.specs.declared.opcode_map.Cell.TheVariants.{Absent, NoModRm, ModRm, Extended}
 use Rattle.sb_insn.specs.OpcodeMap.{one_byte, one_byte_rows, two_byte, two_byte_rows, cell_of}
-use Rattle.sb_insn.specs.Groups.{group_operand, operand_of}
-use Rattle.sb_insn.specs.Fields.{reg_field, some_permits, is_modrm_field, rex_w}
-use Rattle.sb_insn.specs.Listing.{named_instruction, instruction_in, instruction_of, operand_in, operand_for}
+use Rattle.sb_insn.specs.Groups.{group_operand, modrm_opcode}
+use Rattle.sb_insn.specs.Fields.{reg_field, some_permits, is_modrm_field, rex_w, has_memory}
+use Rattle.sb_insn.specs.Lookup.{named_instruction, instruction_in, instruction_of, modrm_opcode_in, modrm_opcode_of}
 use Rattle.sb_insn.specs.Grammar.{IsValid}
 use Rattle.sb_insn.proofs.Rows.{looked_up, some_holds}
 use Rattle.sb_alu.specs.declared.operation.Operation.TheVariants as operation
@@ -25,9 +25,10 @@ use Rattle.sb_exec.specs.declared.action.Action.TheVariants.{Compute, ZeroExtend
 use Rattle.sb_alu.specs.declared.size.Size.TheVariants.{Doubleword, Quadword}
 use Rattle.sb_exec.specs.Operand.{reg_number, operand_size, last_opcode_byte}
 use Rattle.sb_exec.specs.Actions.{byte_or, moved_size, condition_number, action_by, action_for, action_of}
-use Rattle.sb_forms.specs.Registers as forms
-use Rattle.sb_forms.specs.Registers.{byte_of, is_number, rm_number, base_number, index_number, form_number, is_named}
-use Rattle.sb_forms.specs.Table.{has_memory, is_call, is_jump}
+use Rattle.sb_insn.specs.RegisterNumbers as encoded
+use Rattle.sb_insn.specs.RegisterNumbers.{byte_of, rm_number, base_number, index_number}
+use Rattle.sb_forms.specs.Registers.{is_number, form_number, is_named}
+use Rattle.sb_forms.specs.Table.{is_call, is_jump}
 use Rattle.sb_forms.proofs.Maps.{of_cell, of_operand}
 use Rattle.sb_original.specs.Alike.{is_rm_form, is_rm_action, FormShown, ActionShown, hides, NamesNone}
 use Rattle.sb_original.proofs.Fields.{reg_number_same}
@@ -233,11 +234,11 @@ number_shown named form insn (one ∷ others) is none =
     (ap (λ (number : Option ℕ). is_number number one) (sym is) ∙ names_not form insn one none.0)
     (number_shown named form insn others is none.1)
 
-reg_is_shown : (form : OperandForm) (insn : Insn) (numbers : List ℕ) → form_number form insn ≡ Some (forms.reg_number insn)
+reg_is_shown : (form : OperandForm) (insn : Insn) (numbers : List ℕ) → form_number form insn ≡ Some (encoded.reg_number insn)
     → NamesNone form insn numbers → hides numbers (reg_number insn) ≡ false
 reg_is_shown form insn numbers is none =
     ap (λ (number : ℕ). hides numbers number) (sym (reg_number_same insn))
-    ∙ number_shown (forms.reg_number insn) form insn numbers is none
+    ∙ number_shown (encoded.reg_number insn) form insn numbers is none
 
 pub form_shown : (form : OperandForm) (insn : Insn) (numbers : List ℕ) → NamesNone form insn numbers
     → FormShown (hides numbers) form insn
@@ -267,9 +268,9 @@ instruction_same (Extended group form imm) (Some modrm) byte memory same =
     ap (λ (reg : ℕ). named_instruction (group_operand group form imm reg)) same
 
 operand_same : (cell : Cell) (modrm : Option ℕ) (byte : ℕ) → has_memory modrm ≡ true
-    → reg_field byte ≡ reg_field (byte_of modrm) → operand_in cell (Some byte) ≡ operand_in cell modrm
+    → reg_field byte ≡ reg_field (byte_of modrm) → modrm_opcode_in cell (Some byte) ≡ modrm_opcode_in cell modrm
 operand_same cell None byte memory same = absurd cc
-operand_same cell (Some modrm) byte memory same = ap (λ (reg : ℕ). operand_of cell reg) same
+operand_same cell (Some modrm) byte memory same = ap (λ (reg : ℕ). modrm_opcode cell reg) same
 
 action_by_same : (name : Mnemonic) (form : OperandForm) (insn main : Insn) → operand_size main ≡ operand_size insn
     → moved_size main ≡ moved_size insn → condition_number main ≡ condition_number insn
@@ -316,15 +317,15 @@ action_same insn main same size moved number =
 -- an instruction with another ModRM byte whose reg field is the same, and the same REX.W
 pub same_work : (insn main : Insn) (byte : ℕ) → has_memory insn.modrm ≡ true → main.op ≡ insn.op → main.modrm ≡ Some byte
     → reg_field byte ≡ reg_field (byte_of insn.modrm) → rex_w main.rex ≡ rex_w insn.rex → action_of main ≡ action_of insn
-unfolding instruction_of operand_for
+unfolding instruction_of modrm_opcode_of
 same_work insn main byte memory op modrm reg wide =
     let size : operand_size main ≡ operand_size insn = ap (λ (bit : ℕ). if bit == 1 then Quadword else Doubleword) wide in
     let found : instruction_of main ≡ instruction_of insn =
     ap (λ o. instruction_in (cell_of o) main.modrm) op ∙ ap (λ m. instruction_in (cell_of insn.op) m) modrm
     ∙ instruction_same (cell_of insn.op) insn.modrm byte memory reg in
-    let operand : operand_for main ≡ operand_for insn =
-    ap (λ o. operand_in (cell_of o) main.modrm) op ∙ ap (λ m. operand_in (cell_of insn.op) m) modrm
+    let operand : modrm_opcode_of main ≡ modrm_opcode_of insn =
+    ap (λ o. modrm_opcode_in (cell_of o) main.modrm) op ∙ ap (λ m. modrm_opcode_in (cell_of insn.op) m) modrm
     ∙ operand_same (cell_of insn.op) insn.modrm byte memory reg in
     let moved : moved_size main ≡ moved_size insn =
-    ap (λ o. byte_or o (operand_size main)) operand ∙ ap (λ s. byte_or (operand_for insn) s) size in
+    ap (λ o. byte_or o (operand_size main)) operand ∙ ap (λ s. byte_or (modrm_opcode_of insn) s) size in
     action_same insn main found size moved (ap (λ o. last_opcode_byte o % 16) op)

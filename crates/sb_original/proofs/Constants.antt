@@ -17,9 +17,9 @@ use Rattle.sb_insn.specs.declared.opcode_map.Instruction.{Instruction}
 use Rattle.sb_insn.specs.declared.opcode_map.ModRmOpcode.{ModRmOpcode}
 use Rattle.sb_insn.specs.declared.opcode_map.Cell.{Cell}
 use Rattle.sb_insn.specs.OpcodeMap.{one_byte, one_byte_rows, two_byte, two_byte_rows, cell_of}
-use Rattle.sb_insn.specs.Groups.{operand_of}
+use Rattle.sb_insn.specs.Groups.{modrm_opcode}
 use Rattle.sb_insn.specs.Fields.{reg_field, operand_rule, rule_of, imm_kind_of, kind_of_imm}
-use Rattle.sb_insn.specs.Listing.{instruction_of, operand_in, operand_for}
+use Rattle.sb_insn.specs.Lookup.{instruction_of, modrm_opcode_in, modrm_opcode_of}
 use Rattle.sb_insn.specs.Grammar.{IsValid}
 use Rattle.sb_insn.proofs.Rows.{looked_up, some_holds}
 use Rattle.sb_alu.specs.declared.size.Size.{Size}
@@ -67,7 +67,7 @@ main_action : (name : Mnemonic) (kind : Operation) (insn : Insn) (operand : RmOp
     → constant_operation name ≡ Some kind
     → action_of (with_constant name insn operand helper)
     ≡ Compute kind form.RmReg (operand_size (with_constant name insn operand helper))
-unfolding action_of instruction_of operand_for one_byte action_by with_constant
+unfolding action_of instruction_of modrm_opcode_of one_byte action_by with_constant
 main_action mnemonic.Add kind insn operand helper is =
     ap (λ o. compute_of o (operand_size (with_constant mnemonic.Add insn operand helper))) is
 main_action mnemonic.Or kind insn operand helper is =
@@ -113,10 +113,10 @@ sized_by true rules.I32 rex value size e k = absurd cc
 sized_by true rules.Wide rex value size e k = absurd cc
 
 sized_in : (cell : Cell) (modrm rex : Option ℕ) (value : ℤ) (size : Size) → of_cell wide_or_bare cell ≡ true
-    → kind_of_imm (imm.I32 value) ≡ imm_kind_of (rule_of cell modrm) rex → byte_or (operand_in cell modrm) size ≡ size
+    → kind_of_imm (imm.I32 value) ≡ imm_kind_of (rule_of cell modrm) rex → byte_or (modrm_opcode_in cell modrm) size ≡ size
 sized_in cell None rex value size e k = refl
 sized_in cell (Some modrm) rex value size e k =
-    some_sized (operand_of cell (reg_field modrm)) (of_operand wide_or_bare cell (reg_field modrm) e) k
+    some_sized (modrm_opcode cell (reg_field modrm)) (of_operand wide_or_bare cell (reg_field modrm) e) k
   where
     some_sized : (operand : Option ModRmOpcode) → some_holds wide_or_bare operand ≡ true
         → kind_of_imm (imm.I32 value) ≡ imm_kind_of (operand_rule operand) rex → byte_or operand size ≡ size
@@ -124,7 +124,7 @@ sized_in cell (Some modrm) rex value size e k =
     some_sized (Some operand) e k = sized_by operand.byte_rm operand.imm rex value size e k
 
 pub moved_whole : (insn : Insn) (value : ℤ) → IsValid insn → insn.imm ≡ imm.I32 value → moved_size insn ≡ operand_size insn
-unfolding operand_for
+unfolding modrm_opcode_of
 moved_whole insn value valid is =
     sized_in (cell_of insn.op) insn.modrm insn.rex value (operand_size insn) (op_sized insn.op) (sym (ap (λ i. kind_of_imm i) is)
     ∙ valid.imm)
@@ -139,10 +139,10 @@ eight_sized true rules.I32 rex value size e k = absurd cc
 eight_sized true rules.Wide rex value size e k = absurd cc
 
 eight_in : (cell : Cell) (modrm rex : Option ℕ) (value : ℤ) (size : Size) → of_cell wide_or_bare cell ≡ true
-    → kind_of_imm (imm.I64 value) ≡ imm_kind_of (rule_of cell modrm) rex → byte_or (operand_in cell modrm) size ≡ size
+    → kind_of_imm (imm.I64 value) ≡ imm_kind_of (rule_of cell modrm) rex → byte_or (modrm_opcode_in cell modrm) size ≡ size
 eight_in cell None rex value size e k = refl
 eight_in cell (Some modrm) rex value size e k =
-    some_sized (operand_of cell (reg_field modrm)) (of_operand wide_or_bare cell (reg_field modrm) e) k
+    some_sized (modrm_opcode cell (reg_field modrm)) (of_operand wide_or_bare cell (reg_field modrm) e) k
   where
     some_sized : (operand : Option ModRmOpcode) → some_holds wide_or_bare operand ≡ true
         → kind_of_imm (imm.I64 value) ≡ imm_kind_of (operand_rule operand) rex → byte_or operand size ≡ size
@@ -150,7 +150,7 @@ eight_in cell (Some modrm) rex value size e k =
     some_sized (Some operand) e k = eight_sized operand.byte_rm operand.imm rex value size e k
 
 pub moved_eight : (insn : Insn) (value : ℤ) → IsValid insn → insn.imm ≡ imm.I64 value → moved_size insn ≡ operand_size insn
-unfolding operand_for
+unfolding modrm_opcode_of
 moved_eight insn value valid is =
     eight_in (cell_of insn.op) insn.modrm insn.rex value (operand_size insn) (op_sized insn.op) (sym (ap (λ i. kind_of_imm i) is)
     ∙ valid.imm)

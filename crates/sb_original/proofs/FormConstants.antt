@@ -10,9 +10,9 @@ use Rattle.sb_insn.specs.declared.opcode_map.Mnemonic.TheVariants as mnemonic
 use Rattle.sb_insn.specs.declared.opcode_map.OperandForm.{OperandForm}
 use Rattle.sb_insn.specs.declared.opcode_map.OperandForm.TheVariants as form
 use Rattle.sb_insn.specs.declared.opcode_map.Instruction.{Instruction}
-use Rattle.sb_insn.specs.Fields.{mod_field, rm_field}
+use Rattle.sb_insn.specs.Fields.{mod_field, rm_field, rex_b, has_memory}
 use Rattle.sb_insn.specs.Spelling.{spelling}
-use Rattle.sb_insn.specs.Listing.{instruction_of}
+use Rattle.sb_insn.specs.Lookup.{instruction_of}
 use Rattle.sb_exec.specs.declared.action.Action.TheVariants.{Compute}
 use Rattle.sb_alu.specs.declared.operation.Operation.{Operation}
 use Rattle.sb_exec.specs.declared.action.Location.{Location}
@@ -26,12 +26,13 @@ use Rattle.sb_exec.specs.Actions.{action_of}
 use Rattle.sb_exec.specs.Rows.{after_action, row_of}
 use Rattle.sb_forms.specs.declared.helper.Helper.{Helper}
 use Rattle.sb_forms.specs.declared.slots.Site.{Site}
-use Rattle.sb_forms.specs.Rex.{rex_b, with_r_b}
-use Rattle.sb_forms.specs.Registers.{number_of, byte_of, is_number, is_named, first_helper, second_helper}
-use Rattle.sb_forms.specs.Registers as forms
+use Rattle.sb_insn.specs.Rex.{with_r_b}
+use Rattle.sb_insn.specs.RegisterNumbers.{byte_of}
+use Rattle.sb_forms.specs.Registers.{number_of, is_number, is_named, first_helper, second_helper}
+use Rattle.sb_insn.specs.RegisterNumbers as encoded
 use Rattle.sb_forms.specs.Pieces.{first_saved, second_saved, save, restore, load_constant, load_address_of_operand, jump_insn}
 use Rattle.sb_forms.specs.Mains.{at_helper, own_register, with_constant, on_register, behind_main}
-use Rattle.sb_forms.specs.Table.{spelled_bytes, has_memory, move_outcome, bytes_of, constant_form, address_and_constant_form}
+use Rattle.sb_forms.specs.Table.{spelled_bytes, move_outcome, bytes_of, constant_form, address_and_constant_form}
 use Rattle.sb_forms.specs.Answers.{IsSmall}
 use Rattle.sb_forms.proofs.Leads.{b_1}
 use Rattle.sb_original.specs.Words.{FirstSaved, SecondSaved, Words, HasWords}
@@ -87,15 +88,15 @@ none_behind _ kind insn helper is = absurd cc
 -- ---- where the operand is
 
 rm_is : (insn : Insn) (modrm : ℕ) → insn.modrm ≡ Some modrm
-    → forms.register_number (rm_field modrm) (rex_b insn.rex) ≡ rm_number insn
+    → encoded.register_number (rm_field modrm) (rex_b insn.rex) ≡ rm_number insn
 rm_is insn modrm is =
     let byte : modrm_of insn ≡ modrm = ap (λ (m : Option ℕ). unwrap_or m 0) is in
     omega (arith, byte)
 
 rm_unnamed : (kinds : OperandForm) (insn : Insn) (number : ℕ) → is_named kinds insn number ≡ false
-    → is_number (forms.rm_number insn.modrm insn.rex) number ≡ false
+    → is_number (encoded.rm_number insn.modrm insn.rex) number ≡ false
 unfolding is_named
-rm_unnamed kinds insn number e = (or_parts (is_number (forms.rm_number insn.modrm insn.rex) number) _ e).0
+rm_unnamed kinds insn number e = (or_parts (is_number (encoded.rm_number insn.modrm insn.rex) number) _ e).0
 
 -- the bit that extends the operand
 own_bit : (kinds : OperandForm) (insn : Insn) → (own_register kinds insn).rex_b ≤ 1
@@ -123,7 +124,7 @@ rm_shown numbers kinds insn modrm is none = hides_not (rm_number insn) numbers (
     rm_not : (one : ℕ) → is_named kinds insn one ≡ false → (rm_number insn == one) ≡ false
     rm_not one free =
         ap (λ (n : ℕ). n == one) (sym (rm_is insn modrm is))
-        ∙ ap (λ n. is_number n one) (sym (ap (λ m. forms.rm_number m insn.rex) is)) ∙ rm_unnamed kinds insn one free
+        ∙ ap (λ n. is_number n one) (sym (ap (λ m. encoded.rm_number m insn.rex) is)) ∙ rm_unnamed kinds insn one free
 
     hides_not : (named : ℕ) (numbers : List ℕ) → ((one : ℕ) → is_named kinds insn one ≡ false → (named == one) ≡ false)
         → NamesNone kinds insn numbers → hides numbers named ≡ false
@@ -147,17 +148,17 @@ own_stays numbers name insn instruction form.AccImm old other helper found is e 
     }
 own_stays numbers name insn instruction form.OpcodeImm old other helper found is e none accumulator stands =
     let operand = own_register form.OpcodeImm insn in
-    let low = forms.one_byte_opcode insn.op % 8 in
+    let low = encoded.one_byte_opcode insn.op % 8 in
     let known : IsRegister operand low 0 = record { mod_rm = refl; within = omega arith; rex = b_1 insn.rex } in
     let one = opcode_is_one insn instruction found is in
     let number : low + 8 * rex_b (with_r_b insn.rex 0 (rex_b insn.rex)) ≡ opcode_number insn =
     omega (arith, one, with_b insn.rex 0 (omega arith)) in
-    let same : forms.opcode_number insn ≡ opcode_number insn = omega (arith, one) in record {
+    let same : encoded.opcode_number insn ≡ opcode_number insn = omega (arith, one) in record {
       place = own_place name insn operand helper low 0 (opcode_number insn) other known number;
       shown = (
         omega (arith, b_1 insn.rex),
         ap (λ (n : ℕ). hides numbers n) (sym same)
-            ∙ number_shown (forms.opcode_number insn) form.OpcodeImm insn numbers refl none,
+            ∙ number_shown (encoded.opcode_number insn) form.OpcodeImm insn numbers refl none,
       );
       reg = own_reg name insn operand helper low 0 known;
     }

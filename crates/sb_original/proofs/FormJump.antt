@@ -8,7 +8,7 @@ use Rattle.sb_insn.specs.declared.registers.Regs.{Regs}
 use Rattle.sb_insn.specs.declared.opcode_map.OperandForm.TheVariants as form
 use Rattle.sb_insn.specs.declared.opcode_map.Instruction.{Instruction}
 use Rattle.sb_insn.specs.OpcodeMap.{one_byte}
-use Rattle.sb_insn.specs.Listing.{instruction_of, operand_for}
+use Rattle.sb_insn.specs.Lookup.{instruction_of, modrm_opcode_of}
 use Rattle.sb_alu.specs.declared.size.Size.TheVariants.{Quadword}
 use Rattle.sb_exec.specs.declared.action.Action.TheVariants.{Jump}
 use Rattle.sb_exec.specs.declared.action.Location.{Location}
@@ -55,7 +55,7 @@ target_is : (helper : Helper) (regs : Regs)
     → row_of (load_target helper) regs
     ≡ load_row ((general regs (number_of helper) + 0) % 2 ^ 64) Quadword
     (λ loaded. without_store (with_general (number_of helper) (loaded % 2 ^ 64) (regs_at_next (load_target helper) regs)))
-unfolding row_of action_of action_by instruction_of operand_for one_byte load_target load_of store_of after_action effect_of
+unfolding row_of action_of action_by instruction_of modrm_opcode_of one_byte load_target load_of store_of after_action effect_of
     compute_result destination first_operand last_operand operation_outcome result_or_nothing write_result rm_use rm_location
     operand_address low register_after_write
 target_is Rcx regs = refl

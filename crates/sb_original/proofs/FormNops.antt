@@ -2,7 +2,7 @@
 use Rattle.std.proofs.Common.{◌≡◌, ◌+◌, ◌%◌, ◌^◌, [], ◌∷◌, refl, arith}
 use Rattle.sb_insn.specs.declared.registers.Regs.{Regs}
 use Rattle.sb_insn.specs.OpcodeMap.{one_byte}
-use Rattle.sb_insn.specs.Listing.{instruction_of}
+use Rattle.sb_insn.specs.Lookup.{instruction_of}
 use Rattle.sb_exec.specs.Interface.{Interface}
 use Rattle.sb_exec.specs.WriteBack.{regs_at_next, without_store}
 use Rattle.sb_exec.specs.Actions.{action_by, action_of}

@@ -10,8 +10,8 @@ use Rattle.sb_insn.specs.declared.insn.Imm.TheVariants as imm
 use Rattle.sb_insn.specs.declared.registers.Regs.{Regs}
 use Rattle.sb_insn.specs.declared.registers.Flags.{Flags}
 use Rattle.sb_insn.specs.OpcodeMap.{one_byte}
-use Rattle.sb_insn.specs.Fields.{reg_field, rex_w, rex_b}
-use Rattle.sb_insn.specs.Listing.{instruction_of, operand_for}
+use Rattle.sb_insn.specs.Fields.{reg_field, rex_w, rex_b, rex_r}
+use Rattle.sb_insn.specs.Lookup.{instruction_of, modrm_opcode_of}
 use Rattle.sb_insn.specs.declared.opcode_map.OperandForm.TheVariants as form
 use Rattle.sb_alu.specs.declared.operation.Operation.TheVariants as operation
 use Rattle.sb_exec.specs.declared.action.Action.TheVariants.{Compute}
@@ -36,8 +36,9 @@ use Rattle.sb_exec.specs.Row.{Row}
 use Rattle.sb_exec.specs.Actions.{action_by, action_of}
 use Rattle.sb_exec.specs.Rows.{rm_use, load_by, store_by, load_of, store_of, after_action, effect_of, row_of, row_by}
 use Rattle.sb_forms.specs.declared.helper.Helper.{Helper}
-use Rattle.sb_forms.specs.Rex.{rex_r, with_r_b}
-use Rattle.sb_forms.specs.Registers.{number_of, byte_of}
+use Rattle.sb_insn.specs.Rex.{with_r_b}
+use Rattle.sb_insn.specs.RegisterNumbers.{byte_of}
+use Rattle.sb_forms.specs.Registers.{number_of}
 use Rattle.sb_forms.specs.Mains.{move_product}
 use Rattle.sb_original.specs.Words.{Words}
 use Rattle.sb_original.specs.Kept.{AgreeBut, FollowBut, IsShown}
@@ -117,7 +118,7 @@ move_by : (insn : Insn) (helper : Helper) (regs : Regs)
     → row_of (move_product insn helper) regs
     ≡ move_row (move_product insn helper) regs (rm_location (move_product insn helper) regs)
     (operand_size (move_product insn helper)) (reg_number (move_product insn helper))
-unfolding row_of action_of action_by instruction_of operand_for one_byte move_product load_of store_of after_action effect_of
+unfolding row_of action_of action_by instruction_of modrm_opcode_of one_byte move_product load_of store_of after_action effect_of
     compute_result destination first_operand last_operand operation_outcome rm_use
 move_by insn helper regs = refl
 

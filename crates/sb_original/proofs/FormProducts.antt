@@ -15,11 +15,12 @@ use Rattle.sb_original.proofs.Saves.{save_done_first, save_done_second, staged_d
 use Rattle.sb_original.specs.Work.{IsEntered}
 use Rattle.sb_forms.proofs.Leads.{b_1}
 use Rattle.sb_forms.specs.Answers.{IsSmall}
-use Rattle.sb_forms.specs.Table.{spelled_bytes, has_memory, move_outcome, bytes_of, constant_form, address_and_constant_form}
+use Rattle.sb_forms.specs.Table.{spelled_bytes, move_outcome, bytes_of, constant_form, address_and_constant_form}
 use Rattle.sb_forms.specs.Registers as forms
-use Rattle.sb_forms.specs.Rex.{rex_b, with_r_b}
+use Rattle.sb_insn.specs.RegisterNumbers as encoded
+use Rattle.sb_insn.specs.Rex.{with_r_b}
 use Rattle.sb_forms.specs.declared.slots.Site.{Site}
-use Rattle.sb_insn.specs.Fields.{mod_field}
+use Rattle.sb_insn.specs.Fields.{mod_field, rex_b, has_memory}
 use Rattle.sb_insn.specs.declared.opcode_map.Instruction.{Instruction}
 use Rattle.sb_insn.specs.declared.opcode_map.OperandForm.{OperandForm}
 use Rattle.sb_insn.specs.declared.opcode_map.Mnemonic.{Mnemonic}
@@ -32,7 +33,7 @@ use Rattle.std.specs.Int.{w64, cast_unsigned, w32}
 use Rattle.sb_insn.specs.declared.insn.Insn.{Insn}
 use Rattle.sb_insn.specs.declared.registers.Regs.{Regs}
 use Rattle.sb_insn.specs.Spelling.{spelling}
-use Rattle.sb_insn.specs.Listing.{instruction_of}
+use Rattle.sb_insn.specs.Lookup.{instruction_of}
 use Rattle.sb_exec.specs.declared.action.Action.TheVariants.{Compute}
 use Rattle.sb_exec.specs.declared.action.Location.{Location}
 use Rattle.sb_exec.specs.declared.action.Location.TheVariants.{Register, Memory}
@@ -44,7 +45,8 @@ use Rattle.sb_exec.specs.WriteBack.{regs_at_next, with_flags, without_store, wri
 use Rattle.sb_exec.specs.Actions.{action_for, action_of, action_by}
 use Rattle.sb_exec.specs.Rows.{row_of, row_by, load_by, store_by}
 use Rattle.sb_forms.specs.declared.helper.Helper.{Helper}
-use Rattle.sb_forms.specs.Registers.{number_of, byte_of, is_number, is_named, first_helper, second_helper}
+use Rattle.sb_insn.specs.RegisterNumbers.{byte_of}
+use Rattle.sb_forms.specs.Registers.{number_of, is_number, is_named, first_helper, second_helper}
 use Rattle.sb_forms.specs.Pieces.{first_saved, second_saved, restore, jump_insn, save, load_constant, load_address_of_operand}
 use Rattle.sb_forms.specs.Mains.{with_constant, move_product, at_helper, own_register, on_register, behind_main}
 use Rattle.sb_original.specs.Words.{Words, HasWords, FirstSaved, SecondSaved}
@@ -255,7 +257,7 @@ product_free : (numbers : List ℕ) (insn : Insn) (instruction : Instruction) (v
     → NamesNone instruction.form insn numbers → hides numbers (reg_number insn) ≡ false
 product_free numbers insn instruction value work none =
     ap (λ (n : ℕ). hides numbers n) (sym (reg_number_same insn))
-    ∙ number_shown (forms.reg_number insn) instruction.form insn numbers (ap (λ k. forms.form_number k insn) work.form) none
+    ∙ number_shown (encoded.reg_number insn) instruction.form insn numbers (ap (λ k. forms.form_number k insn) work.form) none
 
 pub product_slot : {M A N : Type 0} (bus : Interface M A) (Holds : Words → M → N
     → Type 0) (insn : Insn) (instruction : Instruction) (value : ℤ) (helper : Helper) (site : Site) (start : ℕ) (state : Slotted)

@@ -11,7 +11,7 @@ use Rattle.sb_insn.specs.declared.opcode_map.OperandForm.{OperandForm}
 use Rattle.sb_insn.specs.declared.opcode_map.OperandForm.TheVariants as form
 use Rattle.sb_insn.specs.declared.opcode_map.Instruction.{Instruction}
 use Rattle.sb_insn.specs.OpcodeMap.{one_byte}
-use Rattle.sb_insn.specs.Listing.{instruction_of}
+use Rattle.sb_insn.specs.Lookup.{instruction_of}
 use Rattle.sb_insn.specs.Spelling.{spelling}
 use Rattle.sb_alu.specs.declared.size.Size.TheVariants.{Quadword}
 use Rattle.sb_exec.specs.declared.action.Action.TheVariants.{Push}

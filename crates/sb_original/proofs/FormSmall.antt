@@ -5,7 +5,7 @@ use Rattle.sb_insn.specs.declared.insn.Disp.TheVariants as disp
 use Rattle.sb_insn.specs.declared.insn.Imm.TheVariants as imm
 use Rattle.sb_insn.specs.declared.registers.Regs.{Regs}
 use Rattle.sb_insn.specs.OpcodeMap.{one_byte}
-use Rattle.sb_insn.specs.Listing.{instruction_of, operand_for}
+use Rattle.sb_insn.specs.Lookup.{instruction_of, modrm_opcode_of}
 use Rattle.sb_insn.specs.Grammar.{IsValid}
 use Rattle.sb_exec.specs.Size.{low}
 use Rattle.sb_exec.specs.Operand.{register_after_write}
@@ -19,7 +19,7 @@ use Rattle.sb_original.specs.Original.{InPlaceLaw}
 use Rattle.sb_forms.proofs.AddToRm.{add_to_rm, add_is}
 
 pub add_rows : (regs : Regs) → InPlaceLaw (row_of add_to_rm regs) add_from_rm regs
-unfolding row_of action_of action_by instruction_of operand_for one_byte load_of store_of after_action effect_of compute_result
+unfolding row_of action_of action_by instruction_of modrm_opcode_of one_byte load_of store_of after_action effect_of compute_result
     destination first_operand last_operand operation_outcome result_or_nothing write_result rm_use rm_location operand_address low
     register_after_write
 add_rows regs =

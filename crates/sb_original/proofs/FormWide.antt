@@ -11,7 +11,7 @@ use Rattle.sb_insn.specs.declared.registers.Regs.{Regs}
 use Rattle.sb_insn.specs.declared.opcode_map.OperandForm.TheVariants as form
 use Rattle.sb_insn.specs.declared.opcode_map.Instruction.{Instruction}
 use Rattle.sb_insn.specs.OpcodeMap.{one_byte}
-use Rattle.sb_insn.specs.Listing.{instruction_of, operand_for}
+use Rattle.sb_insn.specs.Lookup.{instruction_of, modrm_opcode_of}
 use Rattle.sb_insn.specs.Spelling.{spelling}
 use Rattle.sb_alu.specs.declared.size.Size.TheVariants.{Quadword}
 use Rattle.sb_insn.specs.Branch.{imm_value}
@@ -32,9 +32,10 @@ use Rattle.sb_exec.specs.Actions.{action_by, action_of}
 use Rattle.sb_exec.specs.Rows.{rm_use, load_of, store_of, after_action, effect_of, row_by, row_of}
 use Rattle.sb_forms.specs.declared.helper.Helper.{Helper}
 use Rattle.sb_forms.specs.declared.slots.Site.{Site}
-use Rattle.sb_forms.specs.Rex.{rex_b}
+use Rattle.sb_insn.specs.Fields.{rex_b}
 use Rattle.sb_forms.specs.Registers.{number_of, is_named, first_helper}
 use Rattle.sb_forms.specs.Registers as forms
+use Rattle.sb_insn.specs.RegisterNumbers as encoded
 use Rattle.sb_forms.specs.Pieces.{first_saved, scratch_word, upper_half, save, restore, save_half, load_constant, low_half, high_half, wide_at_address, jump_insn}
 use Rattle.sb_forms.specs.Mains.{load_word}
 use Rattle.sb_forms.specs.Table.{spelled_bytes, bytes_of, wide_constant_form}
@@ -99,7 +100,7 @@ abbrev word_to : ℕ → ℕ → Insn
 word_to low b = record (wide_at_address 0x8B low scratch_word) { rex = Some (0x48 + 4 * b) }
 
 word_is : (low b : ℕ) (regs : Regs) → low < 8 → b ≤ 1 → row_of (word_to low b) regs ≡ word_row (low + 8 * b) regs
-unfolding row_of action_of action_by instruction_of operand_for one_byte load_of store_of after_action effect_of compute_result
+unfolding row_of action_of action_by instruction_of modrm_opcode_of one_byte load_of store_of after_action effect_of compute_result
     destination first_operand last_operand operation_outcome result_or_nothing write_result rm_use rm_location operand_address low
     register_after_write word_row
 word_is zero zero regs a c = refl
@@ -121,7 +122,7 @@ word_is (suc (suc (suc (suc (suc (suc (suc zero))))))) (suc zero) regs a c = ref
 word_is (suc (suc (suc (suc (suc (suc (suc (suc k)))))))) b regs a c = absurd (omega arith)
 word_is k (suc (suc b)) regs a c = absurd (omega arith)
 
-load_word_is : (insn : Insn) → load_word insn ≡ word_to (forms.one_byte_opcode insn.op % 8) (rex_b insn.rex)
+load_word_is : (insn : Insn) → load_word insn ≡ word_to (encoded.one_byte_opcode insn.op % 8) (rex_b insn.rex)
 unfolding load_word
 load_word_is insn = refl
 
@@ -172,9 +173,9 @@ main_row : (insn : Insn) (instruction : Instruction) (value : ℤ) (regs : Regs)
 unfolding word_row
 main_row insn instruction value regs work =
     let one = opcode_is_one insn instruction work.named work.form in
-    let number : forms.one_byte_opcode insn.op % 8 + 8 * rex_b insn.rex ≡ opcode_number insn = omega (arith, one) in
+    let number : encoded.one_byte_opcode insn.op % 8 + 8 * rex_b insn.rex ≡ opcode_number insn = omega (arith, one) in
     ap (λ (i : Insn). row_of i regs) (load_word_is insn)
-    ∙ word_is (forms.one_byte_opcode insn.op % 8) (rex_b insn.rex) regs (omega arith) (b_1 insn.rex)
+    ∙ word_is (encoded.one_byte_opcode insn.op % 8) (rex_b insn.rex) regs (omega arith) (b_1 insn.rex)
     ∙ ap (λ (n : ℕ). word_row n regs) number
 
 own_row : (insn : Insn) (instruction : Instruction) (value : ℤ) (regs : Regs) → IsWideWork insn instruction value
@@ -275,11 +276,11 @@ wide_law bus Holds insn instruction value site start state has work entered smal
           with_general number (ready.words.third % 2 ^ 64) (record (ready.regs) { rip = (ready.regs.rip + 8) % 2 ^ 64 });
       words = ready.words;
     } in
-    let same : forms.opcode_number insn ≡ number = omega (arith, opcode_is_one insn instruction work.named work.form) in
+    let same : encoded.opcode_number insn ≡ number = omega (arith, opcode_is_one insn instruction work.named work.form) in
     let free = first_unnamed instruction.form insn work.valid in
     let shown : hides numbers number ≡ false =
     ap (λ (n : ℕ). hides numbers n) (sym same)
-    ∙ number_shown (forms.opcode_number insn) instruction.form insn numbers
+    ∙ number_shown (encoded.opcode_number insn) instruction.form insn numbers
     (ap (λ k. forms.form_number k insn) work.form) (free, tt) in
     let start_follow : FollowBut (hides numbers) old (regs_at_next insn old)
     (record (ready.regs) { rip = (ready.regs.rip + 8) % 2 ^ 64 }) = record {

@@ -16,7 +16,7 @@ use Rattle.sb_insn.specs.declared.opcode_map.Cell.TheVariants.{Absent, NoModRm, 
 use Rattle.sb_insn.specs.OpcodeMap.{two_byte, two_byte_rows, cell_of}
 use Rattle.sb_insn.specs.Groups.{extensions, group_operand}
 use Rattle.sb_insn.specs.Fields.{mod_field, reg_field, rex_r, rex_b}
-use Rattle.sb_insn.specs.Listing.{named_instruction, instruction_in, instruction_of}
+use Rattle.sb_insn.specs.Lookup.{named_instruction, instruction_in, instruction_of}
 use Rattle.sb_insn.proofs.Rows.{looked_up, some_holds, every_extension, extended}
 use Rattle.sb_exec.specs.declared.action.Location.TheVariants.{Register, Memory}
 use Rattle.sb_exec.specs.Operand.{modrm_of, reg_number, rm_number, opcode_number, general}
@@ -24,9 +24,10 @@ use Rattle.sb_exec.specs.Operand as exec
 use Rattle.sb_exec.specs.Address.{linear, disp_value, operand_address, rm_location}
 use Rattle.sb_forms.specs.declared.helper.Helper.{Helper}
 use Rattle.sb_forms.specs.declared.mains.RmOperand.{RmOperand}
-use Rattle.sb_forms.specs.Rex.{with_r_b}
-use Rattle.sb_forms.specs.Registers.{number_of, byte_of, is_number, is_named}
-use Rattle.sb_forms.specs.Registers as forms
+use Rattle.sb_insn.specs.Rex.{with_r_b}
+use Rattle.sb_insn.specs.RegisterNumbers.{byte_of}
+use Rattle.sb_forms.specs.Registers.{number_of, is_number, is_named}
+use Rattle.sb_insn.specs.RegisterNumbers as encoded
 use Rattle.sb_forms.specs.Mains.{at_helper, with_constant}
 use Rattle.sb_original.proofs.Fields.{with_b_0, helper_not_4, at_mod, at_reg, at_rm}
 use Rattle.sb_original.proofs.Memory.{memory_place, rm_base}
@@ -177,7 +178,7 @@ unfolding two_byte
 two_no_opcode opcode = looked_up (λ cell. all_of no_opcode cell) opcode two_byte_rows refl refl
 
 opcode_by : (op : Op) (modrm : Option ℕ) (instruction : Instruction) → instruction_in (cell_of op) modrm ≡ Some instruction
-    → is_opcode_form instruction.form ≡ true → forms.one_byte_opcode op ≡ exec.last_opcode_byte op
+    → is_opcode_form instruction.form ≡ true → encoded.one_byte_opcode op ≡ exec.last_opcode_byte op
 opcode_by (One opcode) modrm instruction is e = refl
 opcode_by (Two opcode) modrm instruction is e =
     absurd (both_ways (no_opcode instruction) (ap (λ t. not t) e)
@@ -189,6 +190,6 @@ opcode_by Vmfunc modrm instruction is e =
     (found_all no_opcode (cell_of Vmfunc) modrm instruction refl is))
 
 pub opcode_is_one : (insn : Insn) (instruction : Instruction) → instruction_of insn ≡ Some instruction
-    → instruction.form ≡ form.OpcodeImm → forms.one_byte_opcode insn.op ≡ exec.last_opcode_byte insn.op
+    → instruction.form ≡ form.OpcodeImm → encoded.one_byte_opcode insn.op ≡ exec.last_opcode_byte insn.op
 unfolding instruction_of
 opcode_is_one insn instruction is e = opcode_by insn.op insn.modrm instruction is (ap (λ f. is_opcode_form f) e)

@@ -8,7 +8,7 @@ use Rattle.sb_insn.specs.declared.insn.Insn.{Insn}
 use Rattle.sb_insn.specs.declared.registers.Regs.{Regs}
 use Rattle.sb_insn.specs.OpcodeMap.{one_byte}
 use Rattle.sb_insn.specs.Groups.{group_operand}
-use Rattle.sb_insn.specs.Listing.{instruction_of, operand_for}
+use Rattle.sb_insn.specs.Lookup.{instruction_of, modrm_opcode_of}
 use Rattle.sb_alu.specs.declared.size.Size.{Size}
 use Rattle.sb_alu.specs.declared.size.Size.TheVariants.{Doubleword, Quadword}
 use Rattle.sb_exec.specs.declared.action.Effect.TheVariants.{Next}
@@ -228,7 +228,7 @@ restore_is : (helper : Helper) (which : ScratchWord) (regs : Regs)
     ≡ load_row (place_of which) Quadword
     (λ loaded. without_store
     (with_general (number_of helper) (loaded % 2 ^ 64) (regs_at_next (restore helper (address_of which)) regs)))
-unfolding row_of action_of action_by instruction_of operand_for one_byte restore load_of store_of after_action effect_of
+unfolding row_of action_of action_by instruction_of modrm_opcode_of one_byte restore load_of store_of after_action effect_of
     compute_result destination first_operand last_operand operation_outcome result_or_nothing write_result rm_use rm_location
     operand_address low register_after_write
 restore_is Rcx FirstSaved regs = refl
@@ -265,7 +265,7 @@ load_number_is : (helper : Helper) (value : ℤ) (regs : Regs)
     (λ loaded. without_store
     (with_general (number_of helper) (cast_unsigned w64 value % 2 ^ 64)
     (regs_at_next (load_number helper value) regs)))
-unfolding row_of action_of action_by instruction_of operand_for one_byte group_operand load_number load_of store_of after_action
+unfolding row_of action_of action_by instruction_of modrm_opcode_of one_byte group_operand load_number load_of store_of after_action
     effect_of compute_result destination first_operand last_operand operation_outcome result_or_nothing write_result rm_use
     rm_location operand_address low register_after_write
 load_number_is Rcx value regs = refl
@@ -287,7 +287,7 @@ add_number_is : (helper : Helper) (amount : ℤ) (regs : Regs)
     (λ loaded. without_store
     (with_general (number_of helper) ((general regs (number_of helper) + cast_unsigned w64 amount) % 2 ^ 64)
     (regs_at_next (add_number helper amount) regs)))
-unfolding row_of action_of action_by instruction_of operand_for one_byte add_number load_of store_of after_action effect_of rm_use
+unfolding row_of action_of action_by instruction_of modrm_opcode_of one_byte add_number load_of store_of after_action effect_of rm_use
     rm_location operand_address low register_after_write
 add_number_is Rcx amount regs = refl
 add_number_is Rdx amount regs = refl
@@ -308,7 +308,7 @@ low_half_is : (helper : Helper) (regs : Regs)
     → row_of (save_half helper scratch_word) regs
     ≡ store_row 0x70004010 Doubleword
     (λ loaded. with_store (regs_at_next (save_half helper scratch_word) regs) (general regs (number_of helper) % 2 ^ 32))
-unfolding row_of action_of action_by instruction_of operand_for one_byte save_half load_of store_of after_action effect_of
+unfolding row_of action_of action_by instruction_of modrm_opcode_of one_byte save_half load_of store_of after_action effect_of
     compute_result destination first_operand last_operand operation_outcome result_or_nothing write_result rm_use rm_location
     operand_address low register_after_write
 low_half_is Rcx regs = refl
@@ -321,7 +321,7 @@ high_half_is : (helper : Helper) (regs : Regs)
     → row_of (save_half helper upper_half) regs
     ≡ store_row 0x70004014 Doubleword
     (λ loaded. with_store (regs_at_next (save_half helper upper_half) regs) (general regs (number_of helper) % 2 ^ 32))
-unfolding row_of action_of action_by instruction_of operand_for one_byte save_half load_of store_of after_action effect_of
+unfolding row_of action_of action_by instruction_of modrm_opcode_of one_byte save_half load_of store_of after_action effect_of
     compute_result destination first_operand last_operand operation_outcome result_or_nothing write_result rm_use rm_location
     operand_address low register_after_write
 high_half_is Rcx regs = refl
@@ -353,14 +353,14 @@ pub jump_is : (from to : ℕ) (regs : Regs)
     ≡ plain_row
     (λ loaded. without_store
     (at_rip (((regs.rip + 5) % 2 ^ 64 + cast_unsigned w64 (pos to -ℤ pos (from + 5))) % 2 ^ 64 % 2 ^ 64) regs))
-unfolding row_of action_of action_by instruction_of operand_for one_byte jump_insn load_of store_of after_action effect_of
+unfolding row_of action_of action_by instruction_of modrm_opcode_of one_byte jump_insn load_of store_of after_action effect_of
     last_operand rm_use rm_location operand_address low
 jump_is from to regs = refl
 
 jump_through_is : (regs : Regs)
     → row_of (jump_through scratch_word) regs
     ≡ load_row 0x70004010 Quadword (λ loaded. without_store (at_rip (loaded % 2 ^ 64) regs))
-unfolding row_of action_of action_by instruction_of operand_for one_byte group_operand jump_through load_of store_of after_action
+unfolding row_of action_of action_by instruction_of modrm_opcode_of one_byte group_operand jump_through load_of store_of after_action
     effect_of last_operand rm_use rm_location operand_address low
 jump_through_is regs = refl
 

@@ -23,8 +23,8 @@ use Rattle.sb_insn.specs.declared.opcode_map.Cell.{Cell}
 use Rattle.sb_insn.specs.declared.opcode_map.Cell.TheVariants.{Absent, NoModRm, ModRm, Extended}
 use Rattle.sb_insn.specs.OpcodeMap.{one_byte, one_byte_rows, two_byte, two_byte_rows, cell_of}
 use Rattle.sb_insn.specs.Spelling.{number, spelling}
-use Rattle.sb_insn.specs.Fields.{is_register, is_wide, mod_field, is_modrm_field, is_sib_field, disp_kind_of, kind_of_disp, rule_of, imm_kind_of, kind_of_imm, rex_w}
-use Rattle.sb_insn.specs.Listing.{instruction_in, instruction_of}
+use Rattle.sb_insn.specs.Fields.{is_register, is_wide, mod_field, is_modrm_field, is_sib_field, disp_kind_of, kind_of_disp, rule_of, imm_kind_of, kind_of_imm, rex_w, has_memory}
+use Rattle.sb_insn.specs.Lookup.{instruction_in, instruction_of}
 use Rattle.sb_insn.specs.Grammar.{IsValid, FitsImm}
 use Rattle.sb_insn.proofs.Rows.{looked_up}
 use Rattle.sb_alu.specs.declared.size.Size.{Size}
@@ -43,7 +43,7 @@ use Rattle.sb_forms.specs.Pieces.{is_sib_0f, sib_exchanged}
 use Rattle.sb_forms.specs.Mains.{with_displacement}
 use Rattle.sb_insn.specs.Branch.{is_distance, is_direct}
 use Rattle.sb_forms.specs.Places.{HasForm}
-use Rattle.sb_forms.specs.Table.{Replacement, Keep, InPlace, Moved, Unmovable, move_outcome, is_vmfunc, is_modrm, is_add_esp_edx, completes_pattern, begins_with_01_d4, begins_at_modrm, has_memory, is_call, is_jump, jump_form, wide_constant_form, address_and_constant_form, address_form, constant_form, form_by, slot_form, slot_form_of, is_exchangeable, held_form, nop, add_from_rm, replacement}
+use Rattle.sb_forms.specs.Table.{Replacement, Keep, InPlace, Moved, Unmovable, move_outcome, is_vmfunc, is_modrm, is_add_esp_edx, completes_pattern, begins_with_01_d4, begins_at_modrm, is_call, is_jump, jump_form, wide_constant_form, address_and_constant_form, address_form, constant_form, form_by, slot_form, slot_form_of, is_exchangeable, held_form, nop, add_from_rm, replacement}
 use Rattle.sb_forms.proofs.Held.{none_held}
 use Rattle.sb_forms.proofs.Operands.{modrm_is}
 use Rattle.sb_forms.proofs.ByTable.{IsHeld}

@@ -8,8 +8,10 @@ use Rattle.sb_insn.specs.declared.insn.Disp.{Disp}
 use Rattle.sb_insn.specs.declared.insn.Disp.TheVariants as disp
 use Rattle.sb_forms.specs.declared.helper.Helper.{Helper}
 use Rattle.sb_forms.specs.declared.helper.Helper.TheVariants.{Rcx, Rdx, Rbx, Rsi, Rdi}
-use Rattle.sb_forms.specs.Registers.{number_of, modrm_of}
-use Rattle.sb_forms.specs.Pieces.{scratch_word, upper_half, save, save_half, load_number, add_number, is_lowered, lowered_displacement, lacking, add_step_back, load_constant, without_sib_0f, is_from_next, load_address, address_from, address_at, address_by, load_address_of_operand}
+use Rattle.sb_insn.specs.RegisterNumbers.{modrm_of}
+use Rattle.sb_forms.specs.Registers.{number_of}
+use Rattle.sb_insn.specs.Fields.{is_from_next}
+use Rattle.sb_forms.specs.Pieces.{scratch_word, upper_half, save, save_half, load_number, add_number, is_lowered, lowered_displacement, lacking, add_step_back, load_constant, without_sib_0f, load_address, address_from, address_at, address_by, load_address_of_operand}
 use Rattle.sb_original.specs.Words.{FirstSaved, SecondSaved}
 use Rattle.sb_original.specs.Slot.{address_of}
 use Rattle.sb_original.specs.Original.{Save, Stage, saved_by, AreDone, staged}

@@ -5,7 +5,7 @@ use Rattle.sb_insn.specs.declared.insn.Insn.{Insn}
 use Rattle.sb_insn.specs.declared.registers.Regs.{Regs}
 use Rattle.sb_insn.specs.declared.opcode_map.OperandForm.TheVariants as form
 use Rattle.sb_insn.specs.declared.opcode_map.Instruction.{Instruction}
-use Rattle.sb_insn.specs.Fields.{mod_field}
+use Rattle.sb_insn.specs.Fields.{mod_field, has_memory}
 use Rattle.sb_insn.specs.Grammar.{IsValid}
 use Rattle.sb_bus.specs.declared.stop.BusStop.{BusStop}
 use Rattle.sb_alu.specs.declared.operation.Operation.{Operation}
@@ -17,7 +17,7 @@ use Rattle.sb_forms.specs.declared.helper.Helper.{Helper}
 use Rattle.sb_forms.specs.declared.slots.Site.{Site}
 use Rattle.sb_forms.specs.Pieces.{is_sib_0f, sib_exchanged, save, restore, load_number, add_number, save_half, scratch_word, upper_half, jump_insn, jump_through}
 use Rattle.sb_forms.specs.Mains.{with_displacement}
-use Rattle.sb_forms.specs.Table.{nop, InPlace, move_outcome, bytes_of, is_modrm, is_add_esp_edx, add_from_rm, replacement, jump_form, wide_constant_form, has_memory, address_form, constant_form, address_and_constant_form}
+use Rattle.sb_forms.specs.Table.{nop, InPlace, move_outcome, bytes_of, is_modrm, is_add_esp_edx, add_from_rm, replacement, jump_form, wide_constant_form, address_form, constant_form, address_and_constant_form}
 use Rattle.sb_forms.specs.Answers.{IsSmall}
 use Rattle.sb_forms.specs.Places.{HasForm}
 use Rattle.sb_original.specs.Words.{ScratchWord, Words, HasWords}

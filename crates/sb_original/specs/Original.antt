@@ -12,7 +12,8 @@ use Rattle.sb_exec.specs.Operand.{general, next_rip}
 use Rattle.sb_exec.specs.Row.{Row}
 use Rattle.sb_exec.specs.Rows.{row_of}
 use Rattle.sb_forms.specs.declared.helper.Helper.{Helper}
-use Rattle.sb_forms.specs.Registers.{number_of, modrm_of}
+use Rattle.sb_insn.specs.RegisterNumbers.{modrm_of}
+use Rattle.sb_forms.specs.Registers.{number_of}
 use Rattle.sb_forms.specs.Table.{Replacement, Moved, InPlace, is_one_byte, is_modrm}
 use Rattle.sb_original.specs.Words.{ScratchWord, FirstSaved, SecondSaved, Words, word_of}
 use Rattle.sb_original.specs.Kept.{AgreeBut}

@@ -8,11 +8,12 @@ use Rattle.sb_insn.specs.declared.insn.Imm.{Imm}
 use Rattle.sb_insn.specs.declared.insn.Imm.TheVariants as imm
 use Rattle.sb_insn.specs.declared.opcode_map.Instruction.{Instruction}
 use Rattle.sb_insn.specs.Spelling.{number, spelling}
-use Rattle.sb_insn.specs.Listing.{instruction_of}
+use Rattle.sb_insn.specs.Lookup.{instruction_of}
 use Rattle.sb_forms.specs.declared.slots.Site.{Site}
 use Rattle.sb_forms.specs.declared.answer.Form.TheVariants as form
 use Rattle.sb_forms.specs.Holding.{holds_pattern}
-use Rattle.sb_forms.specs.Table.{Replacement, Keep, InPlace, Moved, Unmovable, is_vmfunc, completes_pattern, is_exchangeable, begins_at_modrm, has_memory, is_call, is_jump, jump_form, wide_constant_form, address_and_constant_form, address_form, constant_form, form_by, slot_form, slot_form_of, held_form, replacement, bytes_of, site_of, form_of}
+use Rattle.sb_insn.specs.Fields.{has_memory}
+use Rattle.sb_forms.specs.Table.{Replacement, Keep, InPlace, Moved, Unmovable, is_vmfunc, completes_pattern, is_exchangeable, begins_at_modrm, is_call, is_jump, jump_form, wide_constant_form, address_and_constant_form, address_form, constant_form, form_by, slot_form, slot_form_of, held_form, replacement, bytes_of, site_of, form_of}
 
 abbrev is_unmovable : Replacement → Bool
 is_unmovable Unmovable = true

@@ -14,7 +14,7 @@ use crate::listing::Starts;
 use crate::refusal::RewriteRefusal;
 use crate::rewritten::Rewritten;
 use sb_abi::{AREA_ADDRESS, AREA_PAGES, TEXT_ADDRESS};
-use sb_forms::{Code, Form};
+use sb_forms::{Code, Form, jump_code};
 use sb_memory::PAGE_SIZE;
 use sb_scan::find_pattern;
 use std::alloc::{AllocError, Global};
@@ -46,16 +46,13 @@ impl Model for Draft {
 }
 
 /// Puts the jump to a slot into a text, and NOPs for the further bytes of the instruction.
-#[tactic(auto, unfolding(sb_forms::specs::Pieces::jump_insn))]
 fn put_jump(text: &mut Vec<u8>, from: u64, to: u64, length: usize) -> Result<(), AllocError>
     requires from { from ≤ 0x600000 }
     requires to { to ≤ 0x11000 }
     requires room { 5 ≤ length }
     ensures { IfOk result (λ done. text.new.items ≡ text.old.items ++ (spelling (jump_insn from to) ++ replicate (length - 5) 0x90)) }
 {
-    let distance = to as i32 - (from as i32 + 5);
-    text.push(0xE9)?;
-    text.extend_from_slice(&distance.to_le_bytes())?;
+    text.extend_from_slice(jump_code(from, to).bytes())?;
     put_nops(text, length - 5)
 }
 

@@ -3,7 +3,7 @@ use Rattle.std.specs.Prelude.{ℕ, ◌<◌, Ok}
 use Rattle.std.proofs.Common.{refl, arith}
 use Rattle.sb_insn.specs.OpcodeMap.{one_byte, two_byte}
 use Rattle.sb_insn.specs.Groups.{group_operand}
-use Rattle.sb_insn.specs.Listing.{instruction_of}
+use Rattle.sb_insn.specs.Lookup.{instruction_of}
 use Rattle.sb_forms.specs.Holding.{holds_pattern}
 use Rattle.sb_forms.proofs.QuietPieces.{small_holds}
 use Rattle.sb_rewrite.specs.Target.{direct_target}

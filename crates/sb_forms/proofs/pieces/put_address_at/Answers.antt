@@ -4,8 +4,9 @@ use Rattle.std.proofs.Math.Facts.{to_z-of_z}
 use Rattle.std.proofs.lemmas.Bool.{cond-false}
 use Rattle.sb_insn.specs.declared.insn.Insn.{Insn}
 use Rattle.sb_insn.specs.declared.insn.Disp.TheVariants as disp
-use Rattle.sb_forms.specs.Registers.{modrm_of}
-use Rattle.sb_forms.specs.Pieces.{is_from_next, load_address, lowered_displacement, add_step_back, address_from, address_at}
+use Rattle.sb_insn.specs.RegisterNumbers.{modrm_of}
+use Rattle.sb_insn.specs.Fields.{is_from_next}
+use Rattle.sb_forms.specs.Pieces.{load_address, lowered_displacement, add_step_back, address_from, address_at}
 use Rattle.sb_forms.specs.Table.{spelled_bytes}
 use Rattle.sb_forms.proofs.Spelled.{one_then}
 use Rattle.sb_forms.proofs.pieces.put_address_at.Goals as goal

@@ -1,6 +1,6 @@
 -- REX prefixes with other bits (SDM volume 2, section 2.2.1).
 use Rattle.std.specs.Prelude.{ℕ, ◌+◌, ◌*◌, Option, Some, None}
-pub use Rattle.sb_insn.specs.Fields.{rex_w, rex_r, rex_x, rex_b}
+use Rattle.sb_insn.specs.Fields.{rex_w, rex_r, rex_x, rex_b}
 
 -- a REX byte with the W of another
 abbrev pub rex_byte : ℕ → ℕ → ℕ → ℕ → ℕ

@@ -1,9 +1,9 @@
 //! REX prefixes with other bits (SDM volume 2, section 2.2.1).
 
 ghost use Rattle.std.specs.Prelude.{◌≡◌, ◌≤◌};
-ghost use Rattle.sb_forms.specs.Rex.{rex_byte, with_r_b, with_x_b_exchanged};
+ghost use Rattle.sb_insn.specs.Rex.{rex_byte, with_r_b, with_x_b_exchanged};
 
-use sb_insn::{rex_b, rex_r, rex_w, rex_x};
+use crate::fields::{rex_b, rex_r, rex_w, rex_x};
 
 /// A REX byte with the W of another.
 fn rex_byte(rex: u8, r: u8, x: u8, b: u8) -> u8
