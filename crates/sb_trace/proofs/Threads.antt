@@ -1,5 +1,6 @@
 -- Threads and flights by number, where one is set.
-use Rattle.std.proofs.Common.{◌≡◌, ◌≢◌, ◌∙◌, ap, ℕ, Bool, true, false, List, ◌==◌, refl}
+use Rattle.std.proofs.Common.{◌≡◌, ◌≢◌, ◌∙◌, ap, ℕ, Bool, true, false, List, length, ◌==◌, refl}
+use Rattle.std.proofs.lemmas.List.{length-set}
 use Rattle.std.specs.Prelude.{Option, Some, None, slice_get, unwrap_or, if◌then◌else◌}
 use Rattle.std.specs.Option.{option_map}
 use Rattle.sb_state.specs.declared.state.Binding.{Binding}
@@ -18,6 +19,7 @@ use Rattle.sb_trace.specs.Changes.{OnlyThread}
 pub only_thread : (state : State) (number : ℕ) (thread : Thread) → thread.home ≡ (thread_at state number).home
     → OnlyThread state number (with_thread state number thread)
 only_thread state number thread home = record {
+  count = length-set state.threads number thread;
   threads = λ other apart. set_other state.threads number other thread apart;
   flights = λ other apart. refl;
   home = thread_set (λ (one : Thread). one.home ≡ (thread_at state number).home) state number thread home refl;
@@ -27,6 +29,7 @@ pub only_flight : (state : State) (number : ℕ) (flight : Option Flight)
     → OnlyThread state number (with_flight state number flight)
 unfolding with_flight thread_at
 only_flight state number flight = record {
+  count = refl;
   threads = λ other apart. refl;
   flights = λ other apart. set_other state.flights number other flight apart;
   home = refl;
@@ -35,6 +38,7 @@ only_flight state number flight = record {
 pub only_both : (first : State) (number : ℕ) (second third : State) → OnlyThread first number second
     → OnlyThread second number third → OnlyThread first number third
 only_both first number second third one other = record {
+  count = other.count ∙ one.count;
   threads = λ number' apart. other.threads number' apart ∙ one.threads number' apart;
   flights = λ number' apart. other.flights number' apart ∙ one.flights number' apart;
   home = other.home ∙ one.home;
@@ -45,6 +49,7 @@ pub only_none : (old : State) (number : ℕ) (new : State) → new.threads ≡ o
     → OnlyThread old number new
 unfolding thread_at
 only_none old number new threads flights = record {
+  count = ap length threads;
   threads = λ other apart. ap (λ list. slice_get list other) threads;
   flights = λ other apart. ap (λ list. slice_get list other) flights;
   home = ap (λ list. (unwrap_or (slice_get list number) no_thread).home) threads;

@@ -22,6 +22,7 @@ use Rattle.sb_trace.specs.SyscallBind.{binding_pages}
 
 -- Only this thread's registers, view, bindings, state and flight may change: the other threads stay, and its home stays.
 pub record OnlyThread (old : State) (number : ℕ) (new : State) : Type 0 where
+  pub count : length new.threads ≡ length old.threads
   pub threads : (other : ℕ) → other ≢ number → slice_get new.threads other ≡ slice_get old.threads other
   pub flights : (other : ℕ) → other ≢ number → slice_get new.flights other ≡ slice_get old.flights other
   pub home : (thread_at new number).home ≡ (thread_at old number).home

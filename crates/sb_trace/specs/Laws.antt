@@ -1,5 +1,5 @@
 -- The laws of runs of the plain machine (docs/LAWS.md).
-use Rattle.std.specs.Prelude.{◌≡◌, ℕ, ◌%◌, ◌^◌, List, take, Option, Some, None}
+use Rattle.std.specs.Prelude.{◌≡◌, ℕ, ◌%◌, ◌^◌, ◌<◌, ◌≤◌, List, length, take, Option, Some, None}
 use Rattle.std.specs.List.{AllByRecursion}
 use Rattle.sb_scan.specs.Pattern.{pattern, HasNoPattern}
 use Rattle.sb_exec.specs.Fetching.{Stands, fetch_of}
@@ -27,6 +27,21 @@ use Rattle.sb_trace.specs.Sound.{IsSound, vmfunc_address}
 use Rattle.sb_trace.specs.Changes.{StepChanges}
 
 -- ---- sound states
+
+-- VMFUNC's bytes stand nowhere in text and rewrite area, starts are words, initial data are bytes, and each is within its window
+pub record IsImageSound (image : ProcessImage) : Type 0 where
+  pub text : HasNoPattern image.text
+  pub area : HasNoPattern image.area
+  pub starts : AllByRecursion (λ start. start < 2 ^ 64) image.starts
+  pub initial : AllByRecursion (λ byte. byte < 256) image.initial
+  pub text_length : length image.text ≤ 0x200000
+  pub area_length : length image.area ≤ 0x10000
+  pub initial_length : length image.initial ≤ 0x200000
+  pub heap : image.heap_pages ≤ 512
+
+-- the thread's home is one of so many processes, and it starts at an address
+abbrev pub IsEntrySound : ℕ → ThreadEntry → Type 0
+IsEntrySound processes entry = (entry.home < processes) × (entry.address < 2 ^ 64)
 
 abbrev pub HasCleanCode : ProcessImage → Type 0
 HasCleanCode image = HasNoPattern image.text × HasNoPattern image.area
