@@ -1,5 +1,5 @@
 -- The laws of runs of the plain machine (docs/LAWS.md).
-use Rattle.std.specs.Prelude.{◌≡◌, ℕ, ◌%◌, ◌^◌, List, take, Option, Some, None}
+use Rattle.std.specs.Prelude.{◌≡◌, ℕ, ◌%◌, ◌^◌, ◌<◌, ◌≤◌, List, length, take, drop, Option, Some, None}
 use Rattle.std.specs.List.{AllByRecursion}
 use Rattle.sb_scan.specs.Pattern.{pattern, HasNoPattern}
 use Rattle.sb_exec.specs.Fetching.{Stands, fetch_of}
@@ -10,7 +10,8 @@ use Rattle.sb_trace.specs.declared.event.Line.{Line}
 use Rattle.sb_state.specs.declared.state.Decision.{Decision}
 use Rattle.sb_state.specs.declared.state.Decision.TheVariants as decision
 use Rattle.sb_state.specs.declared.state.Flight.{Flight}
-use Rattle.sb_state.specs.State.{State, thread_at, flight_at}
+use Rattle.sb_state.specs.declared.page.Page.{Page}
+use Rattle.sb_state.specs.State.{State, find_page, thread_at, flight_at}
 use Rattle.sb_state.specs.Registers.{rsi}
 use Rattle.sb_trace.specs.Flight.{flight_binding, is_key, bound_pool, decided_at}
 use Rattle.sb_state.specs.Windows.{process_shown}
@@ -28,14 +29,28 @@ use Rattle.sb_trace.specs.Changes.{StepChanges}
 
 -- ---- sound states
 
-abbrev pub HasCleanCode : ProcessImage → Type 0
-HasCleanCode image = HasNoPattern image.text × HasNoPattern image.area
+-- VMFUNC's bytes stand nowhere in text and rewrite area, starts are words, initial data are bytes, and each is within its window
+pub record IsImageSound (image : ProcessImage) : Type 0 where
+  pub text : HasNoPattern image.text
+  pub area : HasNoPattern image.area
+  pub starts : AllByRecursion (λ start. start < 2 ^ 64) image.starts
+  pub initial : AllByRecursion (λ byte. byte < 256) image.initial
+  pub text_length : length image.text ≤ 0x200000
+  pub area_length : length image.area ≤ 0x10000
+  pub initial_length : length image.initial ≤ 0x200000
+  pub heap : image.heap_pages ≤ 512
 
--- images whose texts and rewrite areas hold VMFUNC's bytes nowhere start a sound state
+-- the thread's home is one of so many processes, and it starts at an address
+abbrev pub IsEntrySound : ℕ → ThreadEntry → Type 0
+IsEntrySound processes entry = (entry.home < processes) × (entry.address < 2 ^ 64)
+
+-- sound images, entries in them, and key words start a sound state
 abbrev pub StartIsSound : Type 0
 StartIsSound =
-    (images : List ProcessImage) (entries : List ThreadEntry) (free : ℕ) (keys : List ℕ)
-    → AllByRecursion HasCleanCode images → IsSound (start_state images entries free keys)
+    (images : List ProcessImage) (entries : List ThreadEntry) (free : ℕ) (keys : List ℕ) → AllByRecursion IsImageSound images
+    → AllByRecursion (IsEntrySound (length images)) entries
+    → length entries ≤ 2 ^ 32
+    → AllByRecursion (λ key. key < 2 ^ 64) keys → IsSound (start_state images entries free keys)
 
 abbrev pub StepsKeepSound : Type 0
 StepsKeepSound = (old : State) (core : ℕ) (event : Event) (new : State) → IsSound old → Steps old core event new → IsSound new
@@ -43,6 +58,12 @@ StepsKeepSound = (old : State) (core : ℕ) (event : Event) (new : State) → Is
 abbrev pub RunsKeepSound : Type 0
 RunsKeepSound = (old : State) (cores : List ℕ) (lines : List Line) (new : State) → IsSound old → Runs old cores lines new
     → IsSound new
+
+-- each page that a step adds has a name that no page had
+abbrev pub AddedPagesAreNew : Type 0
+AddedPagesAreNew =
+    (old : State) (core : ℕ) (event : Event) (new : State) → IsSound old → Steps old core event new
+    → AllByRecursion (λ (page : Page). find_page old.pages page.name ≡ None) (drop (length old.pages) new.pages)
 
 -- ---- the laws
 
