@@ -1,8 +1,9 @@
 -- What a step may change, by its line.
-use Rattle.std.specs.Prelude.{◌≡◌, ◌≢◌, ◌⊎◌, ℕ, ◌-◌, ◌*◌, ◌^◌, ◌≤◌, Bool, true, List, [], ◌∷◌, ◌++◌, length, map, None, Some, slice_get, slice_set}
+use Rattle.std.specs.Prelude.{◌≡◌, ◌≢◌, ◌⊎◌, ℕ, ◌-◌, ◌*◌, ◌^◌, ◌<◌, ◌≤◌, Bool, true, List, [], ◌∷◌, ◌++◌, length, map, None, Some, slice_get, slice_set}
 use Rattle.sb_abi.specs.declared.frames.TheConstants.{BIND_FRAMES}
 use Rattle.sb_abi.specs.declared.space.TheConstants.{STACK_PAGES}
 use Rattle.std.specs.Option.{option_map}
+use Rattle.std.specs.List.{AllByRecursion}
 use Rattle.sb_memory.specs.declared.address.Access.TheVariants.{Write}
 use Rattle.sb_memory.specs.Words.{put_word}
 use Rattle.sb_trace.specs.declared.event.Event.{Event}
@@ -68,11 +69,16 @@ shape_of page = record { executable = page.executable; size = length page.bytes 
 abbrev pub page_name : Page → PageName
 page_name page = page.name
 
--- Only bytes of pages change that the thread may write in the view. No page comes or goes, and each keeps its mode.
+abbrev pub AreBytes : List ℕ → Type 0
+AreBytes bytes = AllByRecursion (λ byte. byte < 256) bytes
+
+-- Only bytes of pages change that the thread may write in the view, and bytes they stay. No page comes or goes, and each keeps
+-- its mode.
 pub record WritesOpen (old : State) (thread view : ℕ) (new : State) : Type 0 where
   pub closed : (name : PageName) → IsClosed old thread view name → find_page new.pages name ≡ find_page old.pages name
   pub shapes : (name : PageName) → option_map shape_of (find_page new.pages name) ≡ option_map shape_of (find_page old.pages name)
   pub names : map page_name new.pages ≡ map page_name old.pages
+  pub bytes : (name : PageName) → AreBytes (contents old name) → AreBytes (contents new name)
   pub bindings : BindingsStay old new
   pub processes : new.processes ≡ old.processes
   pub free : new.free ≡ old.free
