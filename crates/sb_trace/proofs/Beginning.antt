@@ -19,11 +19,12 @@ use Rattle.sb_state.specs.State.{find_page, thread_at, no_thread, flight_at, pag
 use Rattle.sb_state.specs.PageWords.{zeros}
 use Rattle.sb_state.specs.Start.{ProcessImage, ThreadEntry, page_padded, page_of, padded_page, page_count, padded_pages, heap_page, heap_pages, process_pages, home_words, thread_pages, trampoline_pages, images_pages, threads_pages, start_threads, start_state}
 use Rattle.sb_trace.specs.Code.{fetched_byte, code_byte, HasNoCodePattern}
-use Rattle.sb_trace.specs.Sound.{HasPage, ArePagesSound, HasView, IsFlightSound}
+use Rattle.sb_trace.specs.Sound.{HasPage, HasView, IsFlightSound}
 use Rattle.sb_trace.specs.Laws.{HasCleanCode, StartIsSound}
 use Rattle.sb_state.proofs.Names.{name_same}
 use Rattle.sb_state.proofs.PageLists.{either, found_added}
 use Rattle.sb_state.proofs.Start.{zeros_size, record_size, EachPage, found_each, each_both, each_from}
+use Rattle.sb_trace.proofs.CodeSound.{AreCodePagesSound}
 
 -- ---- bytes that fill pages
 
@@ -305,7 +306,7 @@ no_heap images process number offset byte (Some page) starts is =
     never_by page.executable process number (get_or page.bytes offset 0) byte (starts page refl).0 is
 
 start_pages_sound : (images : List ProcessImage) (entries : List ThreadEntry) → AllByRecursion HasCleanCode images
-    → ArePagesSound (first_pages images entries)
+    → AreCodePagesSound (first_pages images entries)
 unfolding code_byte
 start_pages_sound images entries clean = record {
   sizes = λ name page there. (found_start images (first_pages images entries) name page (pages_start images entries) there).1;
