@@ -6,7 +6,7 @@ use Rattle.std.proofs.lemmas.Bool.Decides.{Decides-eqb, Decides-ltb, leb_tells}
 use Rattle.sb_abi.specs.declared.call.CallRefusal.{CallRefusal}
 use Rattle.sb_abi.specs.declared.frames.TheConstants.{BIND_FRAMES}
 use Rattle.sb_abi.specs.declared.space.TheConstants.{MAX_BINDINGS, MAX_STACKS, STACK_PAGES}
-use Rattle.sb_calls.specs.Refusals.{register_refusal, bind_refusal}
+use Rattle.sb_calls.specs.Refusals.{register_refusal, bind_refusal, protect_refusal}
 use Rattle.sb_state.specs.declared.state.Registration.{Registration}
 use Rattle.sb_state.specs.declared.state.Thread.{Thread}
 use Rattle.sb_state.specs.State.{State, Process, is_listed, process_at, registration_of, registration_at}
@@ -45,10 +45,15 @@ not_most first second is = elim (leb_tells first second) [
 not_equal : (first second : ℕ) → (first == second) ≡ false → first ≢ second
 not_equal first second is same = clash (first == second) ((Decides-eqb first second).1 same) is
 
+-- where it is no other view, it is the home view
+at_home : (view : ℕ) → not (view == 0) ≡ false → view ≡ 0
+at_home view home = (Decides-eqb view 0).0 (not_false (view == 0) home)
+
 -- ---- register
 
--- a process that is no server, a handler that is a start, one to sixteen stacks, and frames for them
-pub record IsRegisterAccepted (registered starts : Bool) (stacks free : ℕ) : Type 0 where
+-- the home view, a process that is no server, a handler that is a start, one to sixteen stacks, and frames for them
+pub record IsRegisterAccepted (view : ℕ) (registered starts : Bool) (stacks free : ℕ) : Type 0 where
+  pub home : view ≡ 0
   pub fresh : registered ≡ false
   pub start : starts ≡ true
   pub some : 1 ≤ stacks
@@ -56,10 +61,10 @@ pub record IsRegisterAccepted (registered starts : Bool) (stacks free : ℕ) : T
   pub room : STACK_PAGES * stacks ≤ free
 
 register_accepted : (view : ℕ) (registered start : Bool) (stacks free : ℕ)
-    → register_refusal view registered start stacks free ≡ None → IsRegisterAccepted registered start stacks free
+    → register_refusal view registered start stacks free ≡ None → IsRegisterAccepted view registered start stacks free
 unfolding register_refusal
 register_accepted view registered start stacks free =
-    let Goal : Type 0 = IsRegisterAccepted registered start stacks free in
+    let Goal : Type 0 = IsRegisterAccepted view registered start stacks free in
     none_if Goal (not (view == 0)) _ _
     (λ home. none_if Goal registered _ _
     (λ fresh. none_if Goal (not start) _ _
@@ -69,6 +74,7 @@ register_accepted view registered start stacks free =
     let counted = or_parts (stacks == 0) (nat_lt MAX_STACKS stacks) count in
     let some : stacks ≢ 0 = not_equal stacks 0 counted.0 in
     record {
+      home = at_home view home;
       fresh = fresh;
       start = not_false start starts;
       some = omega (arith, some);
@@ -76,8 +82,9 @@ register_accepted view registered start stacks free =
       room = not_less free (STACK_PAGES * stacks) room;
     })))))
 
--- what a registration found: the process, which told nothing, and of which the handler is a start
-pub record IsRegistering (state : State) (process handler stacks : ℕ) : Type 0 where
+-- what a registration found: the home view, the process, which told nothing, and of which the handler is a start
+pub record IsRegistering (state : State) (view process handler stacks : ℕ) : Type 0 where
+  pub home : view ≡ 0
   pub found : Process
   pub there : process_at state process ≡ Some found
   pub none : found.registration ≡ None
@@ -90,12 +97,13 @@ no_registration : (registration : Option Registration) → is_registered registr
 no_registration None is = refl
 no_registration (Some registration) is = absurd cc
 
-registering_by : (state : State) (process handler stacks : ℕ) (one : Option Process) → process_at state process ≡ one
-    → IsRegisterAccepted (is_registered (registration_of one)) (is_start one handler) stacks state.free
-    → IsRegistering state process handler stacks
-registering_by state process handler stacks None is accepted =
+registering_by : (state : State) (view process handler stacks : ℕ) (one : Option Process) → process_at state process ≡ one
+    → IsRegisterAccepted view (is_registered (registration_of one)) (is_start one handler) stacks state.free
+    → IsRegistering state view process handler stacks
+registering_by state view process handler stacks None is accepted =
     absurd (let start : false ≡ true = accepted.start in cc)
-registering_by state process handler stacks (Some found) is accepted = record {
+registering_by state view process handler stacks (Some found) is accepted = record {
+  home = accepted.home;
   found = found;
   there = is;
   none = no_registration found.registration accepted.fresh;
@@ -107,17 +115,18 @@ registering_by state process handler stacks (Some found) is accepted = record {
 
 -- a registration that is not refused
 pub registering : (state : State) (view process handler stacks : ℕ)
-    → refusal_of_register state view process handler stacks ≡ None → IsRegistering state process handler stacks
+    → refusal_of_register state view process handler stacks ≡ None → IsRegistering state view process handler stacks
 unfolding registration_at
 registering state view process handler stacks accepted =
-    registering_by state process handler stacks (process_at state process) refl
+    registering_by state view process handler stacks (process_at state process) refl
     (register_accepted view (is_registered (registration_at state process)) (is_start (process_at state process) handler) stacks
     state.free accepted)
 
 -- ---- bind
 
--- what a bind found: a server that is not the thread's home, fewer than fifteen bindings, a key word, and frames
+-- what a bind found: the home view, a server that is not the thread's home, fewer than fifteen bindings, a key word, and frames
 pub record IsBinding (state : State) (thread : Thread) (server : ℕ) : Type 0 where
+  pub home : thread.view ≡ 0
   pub away : server ≢ thread.home
   pub registration : Registration
   pub registered : registration_at state server ≡ Some registration
@@ -150,6 +159,7 @@ binding state thread server =
     let parts = and_parts (not (server == thread.home)) registered (not_false _ serves) in
     let there = has_registration (registration_at state server) parts.1 in
     record {
+      home = at_home thread.view home;
       away = not_equal server thread.home (not_true (server == thread.home) parts.0);
       registration = there.0;
       registered = there.1;
@@ -157,3 +167,10 @@ binding state thread server =
       key = some_keys state.keys keys;
       room = not_less state.free BIND_FRAMES room;
     })))))
+
+-- ---- protect
+
+-- a page that is not refused is one of the heap's
+pub protecting : (count page mode : ℕ) → protect_refusal count page mode ≡ None → page < count
+unfolding protect_refusal
+protecting count page mode = none_if (page < count) (nat_le count page) _ _ (λ inside rest. not_most count page inside)

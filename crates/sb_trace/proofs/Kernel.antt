@@ -1,18 +1,18 @@
 -- What the kernel does in a step: faults, calls through VMFUNC, and system calls, each by its cases.
-use Rattle.std.proofs.Common.{◌≡◌, ◌≢◌, ◌∙◌, sym, ap, subst, ℕ, ◌-◌, ◌^◌, Bool, true, false, List, [], ◌∷◌, ◌++◌, ◌==◌, refl, inl, inr}
+use Rattle.std.proofs.Common.{◌≡◌, ◌≢◌, ◌∙◌, sym, ap, subst, ℕ, ◌-◌, ◌^◌, ◌<◌, Bool, true, false, List, [], ◌∷◌, ◌++◌, ◌==◌, refl, inl, inr}
 use Rattle.std.specs.Prelude.{Option, Some, None, if◌then◌else◌}
 use Rattle.std.specs.Option.{option_map}
 use Rattle.sb_insn.specs.declared.registers.Regs.{Regs}
 use Rattle.sb_bus.specs.declared.stop.FaultKind.{FaultKind}
 use Rattle.sb_bus.specs.declared.stop.FaultKind.TheVariants as kind
 use Rattle.sb_trace.specs.declared.event.Event.{Event}
-use Rattle.sb_trace.specs.declared.event.Event.TheVariants.{Fault, ServerFault, ServerExit, Exit, Printed, Sys, Entered, WrongKey, PoolEmpty, Unbound, BadLeaf, Return, Turn, Landing}
+use Rattle.sb_trace.specs.declared.event.Event.TheVariants.{Fault, ServerFault, ServerExit, Exit, Printed, Sys, Entered, WrongKey, PoolEmpty, Unbound, BadLeaf, Return, Turn, Landing, Idle}
 use Rattle.sb_state.specs.declared.end_kind.EndKind.{EndKind}
 use Rattle.sb_state.specs.declared.end_kind.EndKind.TheVariants.{Ended, Faulted}
 use Rattle.sb_state.specs.declared.page.PageName.TheVariants.{Pool}
 use Rattle.sb_state.specs.declared.state.Binding.{Binding}
 use Rattle.sb_state.specs.declared.state.Thread.{Thread}
-use Rattle.sb_state.specs.State.{State, thread_at, no_thread, with_thread, with_regs, with_end, with_view, registration_at, with_contents}
+use Rattle.sb_state.specs.State.{State, thread_at, no_thread, with_thread, with_regs, with_end, with_view, process_at, registration_at, with_contents}
 use Rattle.sb_state.specs.PageWords.{with_word}
 use Rattle.sb_state.specs.Registers.{rax, rsi, rdi, eax, ecx}
 use Rattle.sb_trace.specs.Home.{Outcome, fault_outcome, server_fault_regs, home_address}
@@ -22,24 +22,27 @@ use Rattle.sb_state.specs.Pattern.{heap_pattern}
 use Rattle.sb_abi.specs.declared.call.CallRefusal.{CallRefusal}
 use Rattle.sb_abi.specs.declared.call.CallRefusal.TheVariants as refusal
 use Rattle.sb_abi.specs.Numbers.{refusal_number}
+use Rattle.sb_calls.specs.Refusals.{protect_refusal}
 use Rattle.sb_calls.specs.SyscallRegisters.{regs_with_answer, regs_after_bind}
 use Rattle.sb_trace.specs.SyscallAnswer.{syscall_refusal, syscall_acceptance}
 use Rattle.sb_trace.specs.SyscallRegister.{refusal_of_register, with_registration, with_server, register_outcome}
 use Rattle.sb_trace.specs.SyscallBind.{refusal_of_bind, new_binding, binding_pages, with_binding, binding_outcome, bind_outcome, server_words}
-use Rattle.sb_trace.specs.SyscallProtect.{with_heap_mode, execute_mode_outcome, protect_outcome_by}
+use Rattle.sb_trace.specs.SyscallProtect.{heap_count, with_heap_mode, execute_mode_outcome, protect_outcome_by}
 use Rattle.sb_trace.specs.Syscall.{exit_outcome, outcome_by_number, syscall_outcome}
 use Rattle.sb_trace.specs.Sound.{HasView}
-use Rattle.sb_trace.specs.Changes.{OnlyThreads, LineChanges, StepChanges}
-use Rattle.sb_state.proofs.Cases.{claim_if}
+use Rattle.sb_trace.specs.Changes.{OnlyThreads, AddsStacks, LineChanges, StepChanges}
+use Rattle.std.proofs.lemmas.Bool.Decides.{Decides-eqb}
+use Rattle.sb_state.proofs.Cases.{claim_if, clash}
 use Rattle.sb_state.proofs.Names.{number}
 use Rattle.sb_state.proofs.Indices.{indices_are_free}
 use Rattle.sb_state.proofs.Threads.{thread_set, thread_set_there}
-use Rattle.sb_trace.proofs.Accepted.{IsRegistering, registering, IsBinding, binding}
+use Rattle.sb_trace.proofs.Accepted.{IsRegistering, registering, IsBinding, binding, protecting}
 use Rattle.sb_trace.proofs.Threads.{HasThread, set_found, bindings_set, bindings_both, only_thread, only_both, only_none, bound_there, view_bound}
 
--- a line of no landing
+-- a line of a step that the kernel does: none of a landing, and not idle
 abbrev pub IsOwn : Event → Type 0
 IsOwn (Landing phase) = ⊥
+IsOwn Idle = ⊥
 IsOwn _ = Unit {0}
 
 -- what is said of each outcome of the kernel, by the thread that makes the step: what changes, that flights stay, that its
@@ -147,11 +150,16 @@ enters state core binding word = record (thread_at state core) {
   regs = entry_regs (thread_at state core).regs (lowest_bit word) (handler_in (registration_at state binding.server));
 }
 
-did_entered : (state : State) (core : ℕ) (binding : Binding) (word : ℕ)
-    → server_of (thread_at state core).bindings binding.index ≡ Some binding.server
-    → Did state core (Entered binding.index (lowest_bit word), state_at_handler state core (thread_at state core) binding word)
+did_entered : (state : State) (core : ℕ) (binding : Binding)
+    → server_of (thread_at state core).bindings binding.index ≡ Some binding.server → pool_word state binding.server ≢ 0
+    → Did state core (
+      Entered binding.index (lowest_bit (pool_word state binding.server)),
+      state_at_handler state core (thread_at state core) binding (pool_word state binding.server),
+    )
 unfolding with_view with_word with_contents thread_at
-did_entered state core binding word bound = let mid = with_word state (Pool binding.server) 0 (word - 2 ^ lowest_bit word) in
+did_entered state core binding bound some =
+    let word : ℕ = pool_word state binding.server in
+    let mid = with_word state (Pool binding.server) 0 (word - 2 ^ lowest_bit word) in
     record {
       changes = λ there. record {
         thread =
@@ -159,8 +167,11 @@ did_entered state core binding word bound = let mid = with_word state (Pool bind
             (only_thread mid core (enters state core binding word) refl);
         rest = record {
           server = binding.server;
-          word = word - 2 ^ lowest_bit word;
           bound = bound;
+          some = some;
+          lowest = refl;
+          view = ap (λ (thread : Thread). thread.view)
+              (thread_set_there mid core (thread_at state core) (enters state core binding word) there);
           only = record {
             become = refl;
             bindings = bindings_set mid core (enters state core binding word) refl;
@@ -176,12 +187,14 @@ did_entered state core binding word bound = let mid = with_word state (Pool bind
           (view_bound (enters state core binding word) binding.server bound) given;
     }
 
-did_taken : (state : State) (core : ℕ) (binding : Binding) (word : ℕ)
+did_taken : (state : State) (core : ℕ) (binding : Binding)
     → server_of (thread_at state core).bindings binding.index ≡ Some binding.server
-    → Did state core (entry_outcome state core (thread_at state core) binding word)
-did_taken state core binding word bound =
-    claim_if (Did state core) (word == 0) _ _ (λ none. did_refused state core (PoolEmpty binding.index) 2 tt)
-    (λ some. did_entered state core binding word bound)
+    → Did state core (entry_outcome state core (thread_at state core) binding (pool_word state binding.server))
+did_taken state core binding bound =
+    claim_if (Did state core) (pool_word state binding.server == 0) _ _
+    (λ none. did_refused state core (PoolEmpty binding.index) 2 tt)
+    (λ some. did_entered state core binding bound
+    (λ none. clash (pool_word state binding.server == 0) ((Decides-eqb (pool_word state binding.server) 0).1 none) some))
 
 did_through : (state : State) (core index : ℕ) (found : Option Binding)
     → binding_with (thread_at state core).bindings index ≡ found
@@ -190,7 +203,7 @@ did_through state core index None is = did_not_switched state core (Unbound inde
 did_through state core index (Some binding) is =
     let there = bound_there (thread_at state core).bindings index binding is in
     claim_if (Did state core) (rsi (thread_at state core).regs == binding.key) _ _
-    (λ fits. did_taken state core binding (pool_word state binding.server)
+    (λ fits. did_taken state core binding
     (subst (λ (n : ℕ). server_of (thread_at state core).bindings n ≡ Some binding.server) (sym there.0) there.1))
     (λ wrong. did_refused state core (WrongKey binding.index) 1 tt)
 
@@ -265,12 +278,16 @@ did_exit state core next =
 
 -- ---- register
 
-did_server : (state : State) (core : ℕ) (next : Regs) → rax next ≡ 2
-    → IsRegistering state (process_now (thread_at state core)) (rdi next) (rsi next)
-    → Did state core (syscall_acceptance (with_server state (process_now (thread_at state core)) (rdi next) (rsi next)) core next)
+-- in the home view a thread's process is its home
+home_now : (thread : Thread) → thread.view ≡ 0 → process_now thread ≡ thread.home
+home_now thread home = rw home refl
+
+did_server : (state : State) (core : ℕ) (next : Regs) (process : ℕ) → rax next ≡ 2
+    → process ≡ (thread_at state core).home → IsRegistering state (thread_at state core).view process (rdi next) (rsi next)
+    → Did state core (syscall_acceptance (with_server state process (rdi next) (rsi next)) core next)
 unfolding with_server with_word with_contents with_regs thread_at
-did_server state core next call asks =
-    let mid = with_server state (process_now (thread_at state core)) (rdi next) (rsi next) in
+did_server state core next process call home asks =
+    let mid = with_server state process (rdi next) (rsi next) in
     let thread : Thread = record (thread_at state core) { regs = regs_with_answer next 0 0 } in
     record {
       changes = λ there. record {
@@ -280,7 +297,8 @@ did_server state core next call asks =
         rest = inr (inl (
           refl,
           call,
-          record {
+          asks.home,
+          subst (λ (number : ℕ). AddsStacks state number (with_thread mid core thread)) home (record {
             found = asks.found;
             there = asks.there;
             none = asks.none;
@@ -291,12 +309,12 @@ did_server state core next call asks =
             few = asks.few;
             room = asks.room;
             pages = refl;
-            processes = ap (λ one. with_registration one state.processes (process_now (thread_at state core))
+            processes = ap (λ one. with_registration one state.processes process
                 (record { handler = rdi next; stacks = rsi next })) asks.there;
             bindings = bindings_set mid core thread refl;
             free = refl;
             keys = refl;
-          },
+          }),
         ));
       };
       flights = refl;
@@ -309,8 +327,8 @@ did_registered : (state : State) (core : ℕ) (next : Regs) (refusal : Option Ca
     → Did state core (register_outcome state core next (process_now (thread_at state core)) refusal)
 did_registered state core next (Some refusal) call is = did_declined state core next refusal 0
 did_registered state core next None call is =
-    did_server state core next call
-    (registering state (thread_at state core).view (process_now (thread_at state core)) (rdi next) (rsi next) is)
+    let asks = registering state (thread_at state core).view (process_now (thread_at state core)) (rdi next) (rsi next) is in
+    did_server state core next (process_now (thread_at state core)) call (home_now (thread_at state core) asks.home) asks
 
 -- ---- bind
 
@@ -385,6 +403,7 @@ did_binding state core next server call asks =
         rest = inr (inr (inl (
           refl,
           call,
+          asks.home,
           record {
             there = there;
             binding = binding;
@@ -419,10 +438,11 @@ did_bound state core next None call is =
 -- ---- protect
 
 did_mode : (state : State) (core : ℕ) (next : Regs) (page : ℕ) (executable : Bool) → rax next ≡ 4
+    → page < heap_count (process_at state (process_now (thread_at state core)))
     → (executable ≡ true → heap_pattern state (process_now (thread_at state core)) page ≡ None)
     → Did state core (syscall_acceptance (with_heap_mode state (process_now (thread_at state core)) page executable) core next)
 unfolding with_heap_mode with_regs thread_at
-did_mode state core next page executable call harmless =
+did_mode state core next page executable call inside harmless =
     let mid = with_heap_mode state (process_now (thread_at state core)) page executable in
     let thread : Thread = record (thread_at state core) { regs = regs_with_answer next 0 0 } in
     record {
@@ -435,6 +455,7 @@ did_mode state core next page executable call harmless =
           call,
           record {
             page = page;
+            there = inside;
             executable = executable;
             harmless = harmless;
             only = record {
@@ -453,18 +474,22 @@ did_mode state core next page executable call harmless =
     }
 
 did_executable : (state : State) (core : ℕ) (next : Regs) (page : ℕ) (found : Option ℕ) → rax next ≡ 4
+    → page < heap_count (process_at state (process_now (thread_at state core)))
     → heap_pattern state (process_now (thread_at state core)) page ≡ found
     → Did state core (execute_mode_outcome state core next (process_now (thread_at state core)) page found)
-did_executable state core next page (Some address) call is = did_declined state core next refusal.Pattern address
-did_executable state core next page None call is = did_mode state core next page true call (λ executable. is)
+did_executable state core next page (Some address) call inside is = did_declined state core next refusal.Pattern address
+did_executable state core next page None call inside is = did_mode state core next page true call inside (λ executable. is)
 
 did_protects_by : (state : State) (core : ℕ) (next : Regs) (page mode : ℕ) (refusal : Option CallRefusal) → rax next ≡ 4
+    → protect_refusal (heap_count (process_at state (process_now (thread_at state core)))) page mode ≡ refusal
     → Did state core (protect_outcome_by state core next (process_now (thread_at state core)) page mode refusal)
-did_protects_by state core next page mode (Some refusal) call = did_declined state core next refusal 0
-did_protects_by state core next page mode None call =
+did_protects_by state core next page mode (Some refusal) call is = did_declined state core next refusal 0
+did_protects_by state core next page mode None call is =
+    let inside = protecting (heap_count (process_at state (process_now (thread_at state core)))) page mode is in
     claim_if (Did state core) (mode == 1) _ _
-    (λ executed. did_executable state core next page (heap_pattern state (process_now (thread_at state core)) page) call refl)
-    (λ written. did_mode state core next page false call (λ executable. absurd cc))
+    (λ executed. did_executable state core next page (heap_pattern state (process_now (thread_at state core)) page) call inside
+    refl)
+    (λ written. did_mode state core next page false call inside (λ executable. absurd cc))
 
 -- ---- by number
 
@@ -478,7 +503,7 @@ did_called_by state core next =
     (λ more. claim_if (Did state core) (rax next == 3) _ _
     (λ is. did_bound state core next _ (number (rax next) 3 is) refl)
     (λ more. claim_if (Did state core) (rax next == 4) _ _
-    (λ is. did_protects_by state core next (rdi next) (rsi next) _ (number (rax next) 4 is))
+    (λ is. did_protects_by state core next (rdi next) (rsi next) _ (number (rax next) 4 is) refl)
     (λ more. did_declined state core next refusal.NoCall 0)))))
 
 pub did_syscall : (state : State) (core : ℕ) (next : Regs) → Did state core (syscall_outcome state core next)

@@ -13,7 +13,7 @@ use Rattle.sb_exec.specs.Fetching.{Stands, FetchesOn, fetch_of}
 use Rattle.sb_exec.proofs.Stopping.{switch_ends}
 use Rattle.sb_scan.specs.Pattern.{pattern}
 use Rattle.sb_trace.specs.declared.event.Event.{Event}
-use Rattle.sb_trace.specs.declared.event.Event.TheVariants.{Step as StepLine, Idle, Landing, Sys, Entered}
+use Rattle.sb_trace.specs.declared.event.Event.TheVariants.{Step as StepLine, Extra, Stray, Idle, Landing, Sys, Entered}
 use Rattle.sb_state.specs.declared.page.Page.{Page}
 use Rattle.sb_state.specs.declared.end_kind.EndKind.{EndKind}
 use Rattle.sb_state.specs.declared.end_kind.EndKind.TheVariants.{Running, Ended, Faulted}
@@ -36,7 +36,7 @@ use Rattle.sb_trace.proofs.Stores.{execution_written}
 use Rattle.sb_trace.proofs.Vmfunc.{vmfunc_stands}
 use Rattle.sb_exec.specs.Operand.{next_rip}
 use Rattle.sb_calls.specs.SyscallRegisters.{after_syscall}
-use Rattle.sb_trace.proofs.Kernel.{Did, did_fault, did_call, did_syscall}
+use Rattle.sb_trace.proofs.Kernel.{IsOwn, Did, did_fault, did_call, did_syscall}
 
 -- ---- an instruction
 
@@ -129,7 +129,7 @@ flight_changes : (state : State) (core phase : ℕ) (flight : Option Flight)
 unfolding with_flight thread_at
 flight_changes state core phase flight = record {
   thread = only_flight state core flight;
-  rest = record { become = refl; bindings = λ number. refl; processes = refl; free = refl; keys = refl };
+  rest = (record { become = refl; bindings = λ number. refl; processes = refl; free = refl; keys = refl }, refl);
 }
 
 -- ---- a flight that changes too, in a step of the kernel
@@ -149,9 +149,10 @@ too_call : (old : State) (core number answer : ℕ) (new : State) (flight : Opti
     → CallChanges old core number answer (with_flight new core flight)
 unfolding with_flight thread_at
 too_call old core number answer new flight (inl (refused, only)) = inl (refused, too_pages old old.pages new core flight only)
-too_call old core number answer new flight (inr (inl (done, call, adds))) = inr (inl (
+too_call old core number answer new flight (inr (inl (done, call, home, adds))) = inr (inl (
   done,
   call,
+  home,
   record {
     found = adds.found;
     there = adds.there;
@@ -169,9 +170,10 @@ too_call old core number answer new flight (inr (inl (done, call, adds))) = inr 
     keys = adds.keys;
   },
 ))
-too_call old core number answer new flight (inr (inr (inl (done, call, adds)))) = inr (inr (inl (
+too_call old core number answer new flight (inr (inr (inl (done, call, home, adds)))) = inr (inr (inl (
   done,
   call,
+  home,
   record {
     there = adds.there;
     binding = adds.binding;
@@ -193,16 +195,18 @@ too_call old core number answer new flight (inr (inr (inr (done, call, changes))
       call,
       record {
         page = changes.page;
+        there = changes.there;
         executable = changes.executable;
         harmless = changes.harmless;
         only = too_pages old _ new core flight changes.only;
       },
     )))
 
-too_line : (old : State) (core : ℕ) (event : Event) (new : State) (flight : Option Flight) → LineChanges old core event new
-    → LineChanges old core event (with_flight new core flight)
+-- a thread's view is as it was
+too_writes : (old : State) (core view : ℕ) (new : State) (flight : Option Flight) → WritesOpen old core view new
+    → WritesOpen old core view (with_flight new core flight)
 unfolding with_flight thread_at contents
-too_line old core (StepLine rip) new flight writes = record {
+too_writes old core view new flight writes = record {
   closed = writes.closed;
   shapes = writes.shapes;
   names = writes.names;
@@ -212,20 +216,31 @@ too_line old core (StepLine rip) new flight writes = record {
   free = writes.free;
   keys = writes.keys;
 }
-too_line old core (Entered index slot) new flight enters = record {
+
+too_line : (old : State) (core : ℕ) (event : Event) (new : State) (flight : Option Flight) → IsOwn event
+    → LineChanges old core event new → LineChanges old core event (with_flight new core flight)
+unfolding with_flight thread_at
+too_line old core (StepLine rip) new flight own writes = too_writes old core (thread_at old core).view new flight writes
+too_line old core (Extra rip) new flight own writes = too_writes old core (thread_at old core).view new flight writes
+too_line old core (Stray rip) new flight own writes = too_writes old core (thread_at old core).view new flight writes
+too_line old core (Entered index slot) new flight own enters = record {
   server = enters.server;
-  word = enters.word;
   bound = enters.bound;
+  some = enters.some;
+  lowest = enters.lowest;
+  view = enters.view;
   only = too_pages old _ new core flight enters.only;
 }
-too_line old core (Sys number answer) new flight changes = too_call old core number answer new flight changes
-too_line old core _ new flight only = too_pages old old.pages new core flight only
+too_line old core (Sys number answer) new flight own changes = too_call old core number answer new flight changes
+too_line old core (Landing phase) new flight own only = absurd own
+too_line old core Idle new flight own same = absurd own
+too_line old core _ new flight own only = too_pages old old.pages new core flight only
 
-flight_too : (old : State) (core : ℕ) (event : Event) (new : State) (flight : Option Flight) → StepChanges old core event new
-    → StepChanges old core event (with_flight new core flight)
-flight_too old core event new flight changes = record {
+flight_too : (old : State) (core : ℕ) (event : Event) (new : State) (flight : Option Flight) → IsOwn event
+    → StepChanges old core event new → StepChanges old core event (with_flight new core flight)
+flight_too old core event new flight own changes = record {
   thread = only_both old core new (with_flight new core flight) changes.thread (only_flight new core flight);
-  rest = too_line old core event new flight changes.rest;
+  rest = too_line old core event new flight own changes.rest;
 }
 
 -- ---- a step
@@ -247,7 +262,7 @@ landed_changes : (state : State) (core : ℕ) (flight : Flight) (decided : Optio
 landed_changes state core flight None there = flight_changes state core flight.phase (next_flight flight)
 landed_changes state core flight (Some decided) there =
     flight_too state core (kernel_call state core).0 (kernel_call state core).1
-    (next_flight (record flight { decided = Some decided })) ((did_call state core).changes there)
+    (next_flight (record flight { decided = Some decided })) (did_call state core).own ((did_call state core).changes there)
 
 flown_changes : (state : State) (core : ℕ) (flight : Flight) → HasThread state core
     → Changes state core (landing_step state core flight)
@@ -266,7 +281,7 @@ idle_changes : (state : State) (core : ℕ) → Changes state core (Idle, state)
 idle_changes state core =
     record {
       thread = only_none state core state refl refl;
-      rest = record { become = refl; bindings = λ number. refl; processes = refl; free = refl; keys = refl };
+      rest = refl;
     }
 
 by_changes : (state : State) (core : ℕ) (end : EndKind) (outcome : Outcome) → (thread_at state core).state ≡ end
