@@ -1,6 +1,6 @@
 -- What a sound state says of a binding: the pages that a landing reads, and the words in them.
-use Rattle.std.proofs.Common.{◌≡◌, ◌∙◌, sym, ap, subst, ℕ, zero, suc, ◌^◌, ◌<◌, ◌≤◌, Bool, true, false, List, [], ◌∷◌, ◌==◌, ◌||◌, length, refl, arith}
-use Rattle.std.specs.Prelude.{Option, Some, None, is_some, nat_lt, slice_get}
+use Rattle.std.proofs.Common.{◌≡◌, ◌∙◌, ap, subst, ℕ, zero, suc, ◌^◌, ◌<◌, ◌≤◌, Bool, true, false, List, [], ◌∷◌, ◌==◌, ◌||◌, length, refl, arith}
+use Rattle.std.specs.Prelude.{Option, Some, None, is_some, slice_get}
 use Rattle.std.specs.List.{AllByRecursion}
 use Rattle.std.proofs.lemmas.Bool.Decides.{Decides-eqb, Decides-ltb}
 use Rattle.sb_state.specs.declared.page.Page.{Page}
@@ -13,7 +13,7 @@ use Rattle.sb_trace.specs.State.{State, Process, find_page, thread_at, flight_at
 use Rattle.sb_trace.specs.KernelCall.{binding_with, handler_in}
 use Rattle.sb_trace.specs.Start.{record_bytes}
 use Rattle.sb_trace.specs.SyscallBind.{server_words}
-use Rattle.sb_trace.specs.Table.{is_in_table, is_there}
+use Rattle.sb_trace.specs.Table.{is_in_table, is_of_image}
 use Rattle.sb_trace.specs.Sound.{HasPage, words_of_view, IsProcessSound, IsBindingSound, IsThreadSound, IsInFlight, IsFlightSound, IsSound}
 use Rattle.sb_trace.proofs.Threads.{bound_there}
 use Rattle.sb_landing.proofs.Exchange.{not_zero}
@@ -76,12 +76,12 @@ page_of (Some page) is = (page, refl)
 -- its pool page is there
 pool_there : (state : State) (server : ℕ) (registration : Registration) → IsSound state
     → registration_at state server ≡ Some registration → (page : Page) × (find_page state.pages (Pool server) ≡ Some page)
-unfolding process_at is_in_table
+unfolding process_at is_in_table is_of_image
 pool_there state server registration sound is =
     let there = server_there state server registration is in
     let below = below_length state.processes server there.0 there.1 in
     page_of (find_page state.pages (Pool server))
-    (sound.table.exactly (Pool server) ∙ (Decides-ltb server (length state.processes)).1 below)
+    (sound.table.exactly (Pool server) refl ∙ (Decides-ltb server (length state.processes)).1 below)
 
 -- ---- a binding
 
