@@ -16,27 +16,20 @@ use Rattle.sb_trace.specs.Home.{Outcome}
 use Rattle.sb_trace.specs.KernelCall.{binding_with, pool_word, call_outcome, outcome_by_index, kernel_call, lowest_bit}
 use Rattle.sb_trace.specs.Flight.{flight_binding, is_key, bound_pool, decided_at, phase_outcome, landing_step}
 use Rattle.sb_trace.specs.Step.{GoesOn, StepsBy}
-use Rattle.sb_trace.specs.Sound.{StandsAtSwitch, IsUndecided, IsDecidedSound, IsFlightSound}
+use Rattle.sb_trace.specs.Sound.{StandsAtSwitch, IsFlightSound}
 use Rattle.sb_trace.specs.Laws.{IsLineOf, IsFlightLine, FlightLines, decision_at}
 use Rattle.sb_state.proofs.Cases.{claim_if, clash, none_some}
 use Rattle.sb_trace.proofs.Threads.{bound_there}
-use Rattle.sb_trace.proofs.Phases.{other_number, Decides, decides, decides_no_more}
-use Rattle.sb_trace.proofs.Flights.{flight_of, mask_after}
+use Rattle.sb_trace.proofs.InFlight.{flight_of, IsDecidedSound, decided_of}
+use Rattle.sb_trace.proofs.Phases.{other_number, decides, decides_no_more}
+use Rattle.sb_trace.proofs.Deciding.{Sees, decided_sees}
+use Rattle.sb_trace.proofs.Flights.{mask_after}
 
 -- ---- the kernel's call at the VMFUNC
 
 -- the line of a decision, as that of an outcome
 abbrev HasLine : Decision → ℕ → Outcome → Type 0
 HasLine decided index outcome = IsLineOf decided index outcome.0
-
-is_number : (first second : ℕ) → first ≡ second → (first == second) ≡ true
-is_number first second same = (Decides-eqb first second).1 same
-
--- what the call sees: whether the key fits, and the pool word
-abbrev Sees : Decision → Bool → ℕ → Type 0
-Sees decision.WrongKey fits word = fits ≡ false
-Sees decision.PoolEmpty fits word = (fits ≡ true) × (word ≡ 0)
-Sees decision.Entered fits word = (fits ≡ true) × (word ≢ 0)
 
 bound_line : (state : State) (core index : ℕ) (binding : Binding) (decided : Decision) → binding.index ≡ index
     → Sees decided (rsi (thread_at state core).regs == binding.key) (pool_word state binding.server)
@@ -91,40 +84,6 @@ call_line state core index stands decided sees =
     (λ zero. stands.away (sym stands.names ∙ zero))
     (subst (λ n. binding_with (thread_at state core).bindings n ≡ Some stands.binding) (sym stands.names) stands.bound) sees)
 
--- ---- a phase that decides
-
--- with the binding of the flight
-fits_is : (found : Option Binding) (word : ℕ) (binding : Binding) → found ≡ Some binding
-    → is_key found word ≡ (word == binding.key)
-fits_is None word binding is = absurd cc
-fits_is (Some one) word binding is = let same : one ≡ binding = cc in ap (λ (b : Binding). word == b.key) same
-
-pool_is : (state : State) (found : Option Binding) (binding : Binding) → found ≡ Some binding
-    → bound_pool state found ≡ pool_word state binding.server
-pool_is state None binding is = absurd cc
-pool_is state (Some one) binding is = let same : one ≡ binding = cc in ap (λ (b : Binding). pool_word state b.server) same
-
-decided_sees : (state : State) (thread : Thread) (index phase mask : ℕ)
-    (undecided : IsUndecided thread (flight_of index phase mask None)) (decided : Decision)
-    → Decides phase (is_key (binding_with thread.bindings index) (rsi thread.regs))
-    (bound_pool state (binding_with thread.bindings index)) mask decided
-    → Sees decided (rsi thread.regs == undecided.stands.binding.key) (pool_word state undecided.stands.binding.server)
-decided_sees state thread index phase mask undecided decision.WrongKey at =
-    sym (fits_is (binding_with thread.bindings index) (rsi thread.regs) undecided.stands.binding undecided.stands.bound) ∙ at.1
-decided_sees state thread index phase mask undecided decision.PoolEmpty at =
-    let two : phase ≡ 2 = at.0 in (
-      is_number (rsi thread.regs) undecided.stands.binding.key (undecided.key (λ zero. omega arith)),
-      sym (pool_is state (binding_with thread.bindings index) undecided.stands.binding undecided.stands.bound) ∙ at.1,
-    )
-decided_sees state thread index phase mask undecided decision.Entered at =
-    let eight : phase ≡ 8 = at.0 in (
-      is_number (rsi thread.regs) undecided.stands.binding.key (undecided.key (λ zero. omega arith)),
-      λ zero.
-          undecided.mask (omega arith)
-          (sym at.1
-          ∙ (pool_is state (binding_with thread.bindings index) undecided.stands.binding undecided.stands.bound ∙ zero)),
-    )
-
 -- ---- a step in flight
 
 landed_line : (state : State) (core index phase mask pool : ℕ) (before : Option Decision) (decided : Option Decision)
@@ -147,7 +106,7 @@ unfolding landing_step
 flown_line state core flight sound =
     landed_line state core flight.index flight.phase flight.mask
     (bound_pool state (flight_binding (thread_at state core) flight)) flight.decided
-    (decision_at state core flight) refl sound.1
+    (decision_at state core flight) refl (decided_of (thread_at state core) flight sound)
 
 on_line : (state : State) (core : ℕ) (flight : Flight) (found : Option Flight) (outcome : Outcome) → found ≡ Some flight
     → IsFlightSound (thread_at state core) (Some flight)
@@ -171,9 +130,9 @@ by_line : (state : State) (core : ℕ) (flight : Flight) (end : EndKind) (outcom
 by_line state core flight Running outcome ended at sound runs =
     on_line state core flight (flight_at state core) outcome at sound runs
 by_line state core flight (Ended status) outcome ended at sound is =
-    absurd (ended_line (thread_at state core) (Ended status) ended sound.0 (λ same. cc))
+    absurd (ended_line (thread_at state core) (Ended status) ended sound.running (λ same. cc))
 by_line state core flight (Faulted kind address) outcome ended at sound is =
-    absurd (ended_line (thread_at state core) (Faulted kind address) ended sound.0 (λ same. cc))
+    absurd (ended_line (thread_at state core) (Faulted kind address) ended sound.running (λ same. cc))
 
 pub flight_lines : FlightLines
 flight_lines old core event new flight sound steps at =
