@@ -17,3 +17,4 @@ pub mod Rows
 pub mod LoadThenStore
 pub mod Fetching
 pub mod Simulation
+pub mod Words

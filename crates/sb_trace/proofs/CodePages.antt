@@ -15,12 +15,13 @@ use Rattle.sb_state.specs.PageName.{same_name, mode_of, permits}
 use Rattle.sb_state.specs.State.{State, find_page, with_page_bytes, bytes_of, contents}
 use Rattle.sb_state.specs.Windows.{page_for, page_by_name, page_and_mode, name_at, process_shown}
 use Rattle.sb_trace.specs.Code.{fetched_byte, code_byte, HasNoCodePattern}
-use Rattle.sb_trace.specs.Sound.{HasPage, ArePagesSound}
+use Rattle.sb_trace.specs.Sound.{HasPage}
 use Rattle.sb_trace.specs.Changes.{IsClosed, Shape, shape_of, WritesOpen, with_first_word}
 use Rattle.sb_state.proofs.Cases.{clash, same_found}
 use Rattle.sb_state.proofs.Names.{name_same, name_other}
 use Rattle.sb_state.proofs.PageLists.{with_bytes, found_other, found_same, either, found_added}
 use Rattle.sb_state.proofs.Start.{EachPage, found_each}
+use Rattle.sb_trace.proofs.CodeSound.{AreCodePagesSound}
 
 -- ---- where the same bytes may be fetched
 
@@ -131,8 +132,8 @@ written_page : (old : State) (thread view : ℕ) (new : State) (name : PageName)
 written_page old thread view new name bytes writes fetched (page, there, has) =
     (page, writes.closed name (code_closed old thread view name page there (fetched page.executable)) ∙ there, has)
 
-pub written_sound : (old : State) (thread view : ℕ) (new : State) → WritesOpen old thread view new → ArePagesSound old.pages
-    → ArePagesSound new.pages
+pub written_sound : (old : State) (thread view : ℕ) (new : State) → WritesOpen old thread view new → AreCodePagesSound old.pages
+    → AreCodePagesSound new.pages
 unfolding mode_of
 written_sound old thread view new writes sound = record {
   sizes = λ name page' is.
@@ -177,8 +178,8 @@ replaced_page : (pages : List Page) (name other : PageName) (bytes held : List �
     → HasPage (with_page_bytes pages name bytes) other held
 replaced_page pages name other bytes held apart (page, there, has) = (page, found_other pages name other bytes apart ∙ there, has)
 
-pub pool_sound : (state : State) (process word : ℕ) → ArePagesSound state.pages
-    → ArePagesSound (with_first_word state (Pool process) word)
+pub pool_sound : (state : State) (process word : ℕ) → AreCodePagesSound state.pages
+    → AreCodePagesSound (with_first_word state (Pool process) word)
 unfolding same_name contents
 pool_sound state process word sound =
     let bytes = put_word (bytes_of (find_page state.pages (Pool process))) 0 word in
@@ -243,7 +244,7 @@ added_page : (pages new : List Page) (name : PageName) (bytes : List ℕ) → Ha
 added_page pages new name bytes (page, there, has) =
     (page, found_added pages new name ∙ ap (λ found. either found (find_page new name)) there, has)
 
-pub added_sound : (pages new : List Page) → EachPage IsDataPage new → ArePagesSound pages → ArePagesSound (pages ++ new)
+pub added_sound : (pages new : List Page) → EachPage IsDataPage new → AreCodePagesSound pages → AreCodePagesSound (pages ++ new)
 added_sound pages new each sound = record {
   sizes = λ name page is.
       either_size (find_page pages name) (find_page new name) page (sound.sizes name)

@@ -16,27 +16,20 @@ use Rattle.sb_trace.specs.Home.{Outcome}
 use Rattle.sb_trace.specs.KernelCall.{binding_with, pool_word, call_outcome, outcome_by_index, kernel_call, lowest_bit}
 use Rattle.sb_trace.specs.Flight.{flight_binding, is_key, bound_pool, decided_at, phase_outcome, landing_step}
 use Rattle.sb_trace.specs.Step.{GoesOn, StepsBy}
-use Rattle.sb_trace.specs.Sound.{StandsAtSwitch, IsUndecided, IsDecidedSound, IsFlightSound}
+use Rattle.sb_trace.specs.Sound.{IsFlightSound}
 use Rattle.sb_trace.specs.Laws.{IsLineOf, IsFlightLine, FlightLines, decision_at}
 use Rattle.sb_state.proofs.Cases.{claim_if, clash, none_some}
 use Rattle.sb_trace.proofs.Threads.{bound_there}
-use Rattle.sb_trace.proofs.Phases.{other_number, Decides, decides, decides_no_more}
-use Rattle.sb_trace.proofs.Flights.{flight_of, mask_after}
+use Rattle.sb_trace.proofs.InFlight.{flight_of, StandsAtCall, IsDecidedSound, decided_of, flight_away}
+use Rattle.sb_trace.proofs.Phases.{other_number, decides, decides_no_more}
+use Rattle.sb_trace.proofs.Deciding.{Sees, decided_sees}
+use Rattle.sb_trace.proofs.Flights.{mask_after}
 
 -- ---- the kernel's call at the VMFUNC
 
 -- the line of a decision, as that of an outcome
 abbrev HasLine : Decision → ℕ → Outcome → Type 0
 HasLine decided index outcome = IsLineOf decided index outcome.0
-
-is_number : (first second : ℕ) → first ≡ second → (first == second) ≡ true
-is_number first second same = (Decides-eqb first second).1 same
-
--- what the call sees: whether the key fits, and the pool word
-abbrev Sees : Decision → Bool → ℕ → Type 0
-Sees decision.WrongKey fits word = fits ≡ false
-Sees decision.PoolEmpty fits word = (fits ≡ true) × (word ≡ 0)
-Sees decision.Entered fits word = (fits ≡ true) × (word ≢ 0)
 
 bound_line : (state : State) (core index : ℕ) (binding : Binding) (decided : Decision) → binding.index ≡ index
     → Sees decided (rsi (thread_at state core).regs == binding.key) (pool_word state binding.server)
@@ -79,7 +72,7 @@ called_line state core leaf index binding decided none away bound sees =
     (bound_there (thread_at state core).bindings index binding bound).0 sees))
     (λ bad. absurd (other_number leaf 0 bad none))
 
-call_line : (state : State) (core index : ℕ) (stands : StandsAtSwitch (thread_at state core) index) (decided : Decision)
+call_line : (state : State) (core index : ℕ) (stands : StandsAtCall (thread_at state core) index) (decided : Decision)
     → Sees decided (rsi (thread_at state core).regs == stands.binding.key) (pool_word state stands.binding.server)
     → HasLine decided index (kernel_call state core)
 unfolding kernel_call
@@ -90,40 +83,6 @@ call_line state core index stands decided sees =
     (called_line state core (eax (thread_at state core).regs) (ecx (thread_at state core).regs) stands.binding decided stands.leaf
     (λ zero. stands.away (sym stands.names ∙ zero))
     (subst (λ n. binding_with (thread_at state core).bindings n ≡ Some stands.binding) (sym stands.names) stands.bound) sees)
-
--- ---- a phase that decides
-
--- with the binding of the flight
-fits_is : (found : Option Binding) (word : ℕ) (binding : Binding) → found ≡ Some binding
-    → is_key found word ≡ (word == binding.key)
-fits_is None word binding is = absurd cc
-fits_is (Some one) word binding is = let same : one ≡ binding = cc in ap (λ (b : Binding). word == b.key) same
-
-pool_is : (state : State) (found : Option Binding) (binding : Binding) → found ≡ Some binding
-    → bound_pool state found ≡ pool_word state binding.server
-pool_is state None binding is = absurd cc
-pool_is state (Some one) binding is = let same : one ≡ binding = cc in ap (λ (b : Binding). pool_word state b.server) same
-
-decided_sees : (state : State) (thread : Thread) (index phase mask : ℕ)
-    (undecided : IsUndecided thread (flight_of index phase mask None)) (decided : Decision)
-    → Decides phase (is_key (binding_with thread.bindings index) (rsi thread.regs))
-    (bound_pool state (binding_with thread.bindings index)) mask decided
-    → Sees decided (rsi thread.regs == undecided.stands.binding.key) (pool_word state undecided.stands.binding.server)
-decided_sees state thread index phase mask undecided decision.WrongKey at =
-    sym (fits_is (binding_with thread.bindings index) (rsi thread.regs) undecided.stands.binding undecided.stands.bound) ∙ at.1
-decided_sees state thread index phase mask undecided decision.PoolEmpty at =
-    let two : phase ≡ 2 = at.0 in (
-      is_number (rsi thread.regs) undecided.stands.binding.key (undecided.key (λ zero. omega arith)),
-      sym (pool_is state (binding_with thread.bindings index) undecided.stands.binding undecided.stands.bound) ∙ at.1,
-    )
-decided_sees state thread index phase mask undecided decision.Entered at =
-    let eight : phase ≡ 8 = at.0 in (
-      is_number (rsi thread.regs) undecided.stands.binding.key (undecided.key (λ zero. omega arith)),
-      λ zero.
-          undecided.mask (omega arith)
-          (sym at.1
-          ∙ (pool_is state (binding_with thread.bindings index) undecided.stands.binding undecided.stands.bound ∙ zero)),
-    )
 
 -- ---- a step in flight
 
@@ -141,24 +100,25 @@ landed_line state core index phase mask pool None (Some decided) is sound =
 landed_line state core index phase mask pool (Some one) (Some decided) is sound =
     absurd (none_some (decided_at phase _ _ mask) decided (decides_no_more one phase _ _ mask mask sound) is)
 
-flown_line : (state : State) (core : ℕ) (flight : Flight) → IsFlightSound (thread_at state core) (Some flight)
+flown_line : (state : State) (core : ℕ) (flight : Flight) → flight.index ≢ 0
+    → IsFlightSound (thread_at state core) (Some flight)
     → IsFlightLine flight.phase (decision_at state core flight) flight.index (landing_step state core flight).0
 unfolding landing_step
-flown_line state core flight sound =
+flown_line state core flight away sound =
     landed_line state core flight.index flight.phase flight.mask
     (bound_pool state (flight_binding (thread_at state core) flight)) flight.decided
-    (decision_at state core flight) refl sound.1
+    (decision_at state core flight) refl (decided_of (thread_at state core) flight away sound)
 
 on_line : (state : State) (core : ℕ) (flight : Flight) (found : Option Flight) (outcome : Outcome) → found ≡ Some flight
-    → IsFlightSound (thread_at state core) (Some flight)
+    → flight.index ≢ 0 → IsFlightSound (thread_at state core) (Some flight)
     → GoesOn state core (thread_at state core) found outcome
     → IsFlightLine flight.phase (decision_at state core flight) flight.index outcome.0
-on_line state core flight None outcome at sound runs = absurd cc
-on_line state core flight (Some one) outcome at sound is =
+on_line state core flight None outcome at away sound runs = absurd cc
+on_line state core flight (Some one) outcome at away sound is =
     let same : one ≡ flight = cc in
     subst (λ (end : Outcome). IsFlightLine flight.phase (decision_at state core flight) flight.index end.0)
     (ap (landing_step state core) (sym same) ∙ sym is)
-    (flown_line state core flight sound)
+    (flown_line state core flight away sound)
 
 -- a thread that has ended is in no flight
 ended_line : (thread : Thread) (end : EndKind) → thread.state ≡ end → thread.state ≡ Running → end ≢ Running → ⊥
@@ -166,18 +126,18 @@ ended_line thread end ended running other = other (sym ended ∙ running)
 
 by_line : (state : State) (core : ℕ) (flight : Flight) (end : EndKind) (outcome : Outcome)
     → (thread_at state core).state ≡ end → flight_at state core ≡ Some flight
-    → IsFlightSound (thread_at state core) (Some flight) → StepsBy state core (thread_at state core) end outcome
+    → flight.index ≢ 0 → IsFlightSound (thread_at state core) (Some flight) → StepsBy state core (thread_at state core) end outcome
     → IsFlightLine flight.phase (decision_at state core flight) flight.index outcome.0
-by_line state core flight Running outcome ended at sound runs =
-    on_line state core flight (flight_at state core) outcome at sound runs
-by_line state core flight (Ended status) outcome ended at sound is =
-    absurd (ended_line (thread_at state core) (Ended status) ended sound.0 (λ same. cc))
-by_line state core flight (Faulted kind address) outcome ended at sound is =
-    absurd (ended_line (thread_at state core) (Faulted kind address) ended sound.0 (λ same. cc))
+by_line state core flight Running outcome ended at away sound runs =
+    on_line state core flight (flight_at state core) outcome at away sound runs
+by_line state core flight (Ended status) outcome ended at away sound is =
+    absurd (ended_line (thread_at state core) (Ended status) ended sound.running (λ same. cc))
+by_line state core flight (Faulted kind address) outcome ended at away sound is =
+    absurd (ended_line (thread_at state core) (Faulted kind address) ended sound.running (λ same. cc))
 
 pub flight_lines : FlightLines
 flight_lines old core event new flight sound steps at =
-    by_line old core flight (thread_at old core).state (
-      event,
-      new,
-    ) refl at (subst (IsFlightSound (thread_at old core)) at (sound.flights core)) steps
+    let flies : IsFlightSound (thread_at old core) (Some flight) =
+    subst (IsFlightSound (thread_at old core)) at (sound.flights core) in
+    by_line old core flight (thread_at old core).state (event, new) refl at (flight_away old core flight sound.threads flies)
+    flies steps

@@ -1,5 +1,5 @@
 -- Each step keeps what holds of flights.
-use Rattle.std.proofs.Common.{◌≡◌, ◌≢◌, ◌∙◌, sym, ap, subst, ℕ, zero, suc, Bool, true, false, List, [], ◌∷◌, ◌==◌, ◌&&◌, ◌≤◌, refl, inl, inr, slice_set, arith}
+use Rattle.std.proofs.Common.{◌≡◌, ◌≢◌, ◌∙◌, sym, ap, subst, ℕ, zero, suc, Bool, true, false, List, [], ◌∷◌, ◌==◌, ◌&&◌, ◌^◌, ◌<◌, ◌≤◌, refl, inl, inr, slice_set, arith}
 use Rattle.std.specs.Prelude.{Option, Some, None, if◌then◌else◌, slice_get, unwrap_or, not}
 use Rattle.std.specs.Option.{option_map}
 use Rattle.std.proofs.lemmas.Bool.{cases_eq, and_parts}
@@ -12,6 +12,7 @@ use Rattle.sb_state.specs.declared.end_kind.EndKind.{EndKind}
 use Rattle.sb_state.specs.declared.end_kind.EndKind.TheVariants.{Running, Ended, Faulted}
 use Rattle.sb_state.specs.declared.state.Binding.{Binding}
 use Rattle.sb_state.specs.declared.state.Decision.{Decision}
+use Rattle.sb_state.specs.declared.state.Decision.TheVariants as decision
 use Rattle.sb_state.specs.declared.state.Flight.{Flight}
 use Rattle.sb_state.specs.declared.state.Thread.{Thread}
 use Rattle.sb_state.specs.State.{State, thread_at, with_view, flight_at, with_flight}
@@ -23,14 +24,17 @@ use Rattle.sb_trace.specs.Home.{Outcome}
 use Rattle.sb_trace.specs.KernelCall.{binding_with, pool_word, state_at_handler, call_outcome, outcome_by_index, kernel_call, lowest_bit}
 use Rattle.sb_trace.specs.Flight.{flight_binding, is_key, bound_pool, decided_at, phase_after, at_phase, next_flight, phase_outcome, landing_step, first_flight, called_binding, vmfunc_outcome_by, vmfunc_outcome}
 use Rattle.sb_trace.specs.Step.{GoesOn, StepsBy, Steps}
-use Rattle.sb_trace.specs.Sound.{ArePagesSound, StandsAtSwitch, IsUndecided, FollowsDecision, IsDecidedSound, IsFlightSound, IsSound}
+use Rattle.sb_trace.specs.Sound.{ArePagesSound, IsMask, IsThreadOfFlight, IsInFlight, IsFlightSound, IsSound}
 use Rattle.sb_state.proofs.Names.{number}
 use Rattle.sb_state.proofs.Cases.{claim_if, none_some}
 use Rattle.sb_state.proofs.Threads.{set_same, thread_set, flight_there}
-use Rattle.sb_trace.proofs.Threads.{thread_other, flight_other, bound_there}
+use Rattle.sb_trace.proofs.Threads.{running_there, thread_other, flight_other, bound_there}
 use Rattle.sb_trace.proofs.Kernel.{Did, did_call}
 use Rattle.sb_trace.proofs.Steps.{instruction_claims, did_next, steps_change}
-use Rattle.sb_trace.proofs.Phases.{other_number, some_if, Saw, saw, loads_no_more, follows_on, follows_first, decides_no_more, stays_undecided}
+use Rattle.sb_trace.proofs.InFlight.{flight_of, StandsAtCall, IsUndecided, follows_of, decided_of, flight_away, listed_early, listed_on, listed_first, deciding_phase}
+use Rattle.sb_trace.proofs.Phases.{other_number, some_if, Saw, saw, Decides, decides, loads_no_more, decides_no_more, stays_undecided}
+use Rattle.sb_trace.proofs.Deciding.{IsDecidedView, IsBehindCall, call_behind, decided_sees}
+use Rattle.sb_trace.proofs.PoolWords.{pool_below}
 use Rattle.sb_trace.proofs.Fetchable.{one_pattern}
 
 -- what holds of the flight of the thread that made the step
@@ -87,7 +91,7 @@ is_called thread binding =
 stands_there : (state : State) (core : ℕ) (binding : Binding) → ArePagesSound state.pages
     → Stands (fetch_of (plain core (thread_at state core).view) state) (thread_at state core).regs.rip pattern
     → IsCalled (thread_at state core) binding
-    → StandsAtSwitch (thread_at state core) binding.index
+    → StandsAtCall (thread_at state core) binding.index
 stands_there state core binding sound stands calls =
     let there = bound_there (thread_at state core).bindings (ecx (thread_at state core).regs) binding calls.bound in
     record {
@@ -99,9 +103,30 @@ stands_there state core binding sound stands calls =
       bound = subst (λ n. binding_with (thread_at state core).bindings n ≡ Some binding) (sym there.0) calls.bound;
     }
 
-first_undecided : (thread : Thread) (index : ℕ) → StandsAtSwitch thread index → IsUndecided thread (first_flight index)
-first_undecided thread index stands =
-    record { stands = stands; early = omega arith; key = λ late. absurd (late refl); mask = λ late. absurd (omega (arith, late)) }
+-- a running thread before the decision is in flight
+undecided_flies : (thread : Thread) (index phase mask : ℕ) → thread.state ≡ Running
+    → IsUndecided thread (flight_of index phase mask None) → mask < 2 ^ 64 → IsInFlight thread (flight_of index phase mask None)
+undecided_flies thread index phase mask running undecided word = record {
+  running = running;
+  binding = undecided.stands.binding;
+  bound = undecided.stands.bound;
+  phase = listed_early phase undecided.early;
+  word = word;
+  mask = undecided.mask;
+  stage = (
+    record { address = undecided.stands.address; leaf = undecided.stands.leaf; names = undecided.stands.names },
+    undecided.key,
+  );
+}
+
+first_flies : (thread : Thread) (index : ℕ) → thread.state ≡ Running → StandsAtCall thread index
+    → IsInFlight thread (first_flight index)
+first_flies thread index running stands = undecided_flies thread index 0 0 running (record {
+  stands = stands;
+  early = omega arith;
+  key = λ late. absurd (late refl);
+  mask = λ late. absurd (omega (arith, late));
+}) (omega arith)
 
 begun : (state : State) (core : ℕ) (found : Option Binding) → called_binding (thread_at state core) ≡ found
     → ArePagesSound state.pages
@@ -111,11 +136,9 @@ begun : (state : State) (core : ℕ) (found : Option Binding) → called_binding
 unfolding with_flight flight_at thread_at
 begun state core None is sound running none stands = did_no_flight state core (kernel_call state core) none (did_call state core)
 begun state core (Some binding) is sound running none stands =
-    set_same (IsFlightSound (thread_at state core)) state.flights core (Some (first_flight binding.index)) None (
-      running,
-      first_undecided (thread_at state core) binding.index
-          (stands_there state core binding sound stands (is_called (thread_at state core) binding is)),
-    )
+    set_same (IsFlightSound (thread_at state core)) state.flights core (Some (first_flight binding.index)) None
+    (first_flies (thread_at state core) binding.index running
+    (stands_there state core binding sound stands (is_called (thread_at state core) binding is)))
     (subst (IsFlightSound (thread_at state core)) (sym none) tt)
 
 switch_begins : (state : State) (core : ℕ) → ArePagesSound state.pages → (thread_at state core).state ≡ Running
@@ -126,56 +149,7 @@ unfolding vmfunc_outcome
 switch_begins state core sound running none stands =
     begun state core (called_binding (thread_at state core)) refl sound running none stands
 
--- ---- the decision leaves the thread running
-
-abbrev IsRunning : ℕ → Outcome → Type 0
-IsRunning core outcome = (thread_at outcome.1 core).state ≡ Running
-
-runs_in : (state : State) (core view : ℕ) (event : Event) (regs : Regs) → (thread_at state core).state ≡ Running
-    → IsRunning core (event, with_view state core view regs)
-unfolding with_view
-runs_in state core view event regs running =
-    thread_set (λ (thread : Thread). thread.state ≡ Running) state core
-    (record (thread_at state core) { view = view; regs = regs }) running running
-
-runs_entered : (state : State) (core : ℕ) (binding : Binding) (word : ℕ) → (thread_at state core).state ≡ Running
-    → IsRunning core (Entered binding.index (lowest_bit word), state_at_handler state core (thread_at state core) binding word)
-unfolding with_word with_contents thread_at
-runs_entered state core binding word running =
-    runs_in (with_word state _ 0 _) core binding.index (Entered binding.index (lowest_bit word)) _ running
-
-runs_through : (state : State) (core index : ℕ) (found : Option Binding) (binding : Binding) → found ≡ Some binding
-    → (thread_at state core).state ≡ Running
-    → IsRunning core (call_outcome state core (thread_at state core) index found)
-runs_through state core index None binding is running = absurd cc
-runs_through state core index (Some one) binding is running =
-    claim_if (IsRunning core) (rsi (thread_at state core).regs == one.key) _ _
-    (λ fits. claim_if (IsRunning core) (pool_word state one.server == 0) _ _
-    (λ none. runs_in state core 0 (PoolEmpty one.index) _ running)
-    (λ some. runs_entered state core one (pool_word state one.server) running))
-    (λ wrong. runs_in state core 0 (WrongKey one.index) _ running)
-
-runs_called : (state : State) (core leaf index : ℕ) (binding : Binding) → leaf ≡ 0
-    → binding_with (thread_at state core).bindings index ≡ Some binding
-    → (thread_at state core).state ≡ Running → IsRunning core (outcome_by_index state core (thread_at state core) leaf index)
-runs_called state core leaf index binding none bound running =
-    claim_if (IsRunning core) (leaf == 0) _ _
-    (λ switches. claim_if (IsRunning core) (index == 0) _ _
-    (λ home. runs_in state core 0 (if (thread_at state core).view == 0 then Turn else Return) _ running)
-    (λ away. runs_through state core index (binding_with (thread_at state core).bindings index) binding bound running))
-    (λ bad. absurd (other_number leaf 0 bad none))
-
-runs_after : (state : State) (core index : ℕ) → StandsAtSwitch (thread_at state core) index
-    → (thread_at state core).state ≡ Running → IsRunning core (kernel_call state core)
-unfolding kernel_call
-runs_after state core index stands running =
-    runs_called state core (eax (thread_at state core).regs) (ecx (thread_at state core).regs) stands.binding stands.leaf
-    (subst (λ n. binding_with (thread_at state core).bindings n ≡ Some stands.binding) (sym stands.names) stands.bound) running
-
 -- ---- a flight goes on
-
-abbrev pub flight_of : ℕ → ℕ → ℕ → Option Decision → Flight
-flight_of index phase mask decided = record { index = index; phase = phase; mask = mask; decided = decided }
 
 -- the mask that phase 2 loads
 abbrev pub mask_after : ℕ → ℕ → ℕ → ℕ
@@ -219,56 +193,7 @@ undecided_next thread index phase pool mask next fits undecided means none is =
           ];
     }
 
--- the phase behind one that decides nothing
-next_sound : (thread : Thread) (index phase pool mask : ℕ) (decided : Option Decision) (fits : Bool) (found : Option ℕ)
-    → thread.state ≡ Running
-    → IsDecidedSound thread (flight_of index phase mask decided) decided → KeyMeans thread index fits
-    → decided_at phase fits pool mask ≡ None
-    → phase_after phase decided (mask_after phase pool mask) ≡ found
-    → IsFlightSound thread (option_map (at_phase (flight_of index phase (mask_after phase pool mask) decided)) found)
-next_sound thread index phase pool mask decided fits None running sound means none is = tt
-next_sound thread index phase pool mask None fits (Some next) running sound means none is =
-    (running, undecided_next thread index phase pool mask next fits sound means none is)
-next_sound thread index phase pool mask (Some decided) fits (Some next) running sound means none is =
-    let same = keeps_by (phase == 2) phase pool mask refl (loads_no_more decided phase mask sound) in (
-      running,
-      follows_on decided phase (mask_after phase pool mask) next (subst (FollowsDecision decided phase) (sym same) sound) is,
-    )
-
--- the phase behind the deciding one
-decided_sound : (thread : Thread) (index phase old pool mask : ℕ) (fits : Bool) (decided : Decision) (found : Option ℕ)
-    → thread.state ≡ Running
-    → decided_at phase fits pool old ≡ Some decided → (phase ≡ 2 → mask ≡ pool) → phase_after phase (Some decided) mask ≡ found
-    → IsFlightSound thread (option_map (at_phase (flight_of index phase mask (Some decided))) found)
-decided_sound thread index phase old pool mask fits decided None running at loads is = tt
-decided_sound thread index phase old pool mask fits decided (Some next) running at loads is =
-    (running, follows_first decided phase fits pool old mask next at loads is)
-
--- a phase, by what it decides
-landed_sound : (state : State) (core index phase mask pool : ℕ) (decided : Option Decision) (fits : Bool)
-    (found : Option Decision)
-    → decided_at phase fits pool mask ≡ found → flight_at state core ≡ Some (flight_of index phase mask decided)
-    → (thread_at state core).state ≡ Running → KeyMeans (thread_at state core) index fits
-    → IsDecidedSound (thread_at state core) (flight_of index phase mask decided) decided
-    → KeepsFlight core (phase_outcome state core (flight_of index phase (mask_after phase pool mask) decided) found)
-unfolding with_flight flight_at thread_at
-landed_sound state core index phase mask pool decided fits None is at running means sound =
-    set_there (IsFlightSound (thread_at state core)) state.flights core (Some (flight_of index phase mask decided))
-    (next_flight (flight_of index phase (mask_after phase pool mask) decided)) None
-    (flight_there state core (flight_of index phase mask decided) at)
-    (next_sound (thread_at state core) index phase pool mask decided fits
-    (phase_after phase decided (mask_after phase pool mask)) running sound means is refl)
-landed_sound state core index phase mask pool None fits (Some found) is at running means sound =
-    set_there (IsFlightSound (thread_at (kernel_call state core).1 core)) (kernel_call state core).1.flights core
-    (Some (flight_of index phase mask None))
-    (next_flight (flight_of index phase (mask_after phase pool mask) (Some found))) None
-    (ap (λ list. slice_get list core) (did_call state core).flights
-    ∙ flight_there state core (flight_of index phase mask None) at)
-    (decided_sound (thread_at (kernel_call state core).1 core) index phase mask pool (mask_after phase pool mask) fits found
-    (phase_after phase (Some found) (mask_after phase pool mask)) (runs_after state core index sound.stands running) is
-    (loads_by (phase == 2) phase pool mask refl) refl)
-landed_sound state core index phase mask pool (Some decided) fits (Some found) is at running means sound =
-    absurd (none_some (decided_at phase fits pool mask) found (decides_no_more decided phase fits pool mask mask sound) is)
+-- ---- a key that fits
 
 fits_by : (found : Option Binding) (word : ℕ) (binding : Binding) → found ≡ Some binding → is_key found word ≡ true
     → word ≡ binding.key
@@ -280,15 +205,171 @@ pub key_means : (thread : Thread) (index : ℕ)
     → KeyMeans thread index (is_key (binding_with thread.bindings index) (rsi thread.regs))
 key_means thread index binding bound fits = fits_by (binding_with thread.bindings index) (rsi thread.regs) binding bound fits
 
-flown_sound : (state : State) (core : ℕ) (flight : Flight) → flight_at state core ≡ Some flight
-    → IsFlightSound (thread_at state core) (Some flight)
+-- ---- the mask
+
+loaded_word : (test : Bool) (pool mask : ℕ) → pool < 2 ^ 64 → mask < 2 ^ 64 → (if test then pool else mask) < 2 ^ 64
+loaded_word true pool mask first second = first
+loaded_word false pool mask first second = second
+
+-- behind the decision the mask is right whatever the phase
+mask_stays : (decided : Decision) (phase next mask : ℕ) → IsMask (Some decided) phase mask → IsMask (Some decided) next mask
+mask_stays decision.WrongKey phase next mask chosen = chosen
+mask_stays decision.PoolEmpty phase next mask chosen = chosen
+mask_stays decision.Entered phase next mask chosen = chosen
+
+-- a decision was taken with the mask that it asks for
+mask_first : (decided : Decision) (phase next pool mask : ℕ) (fits : Bool) → Decides phase fits pool mask decided
+    → (3 ≤ phase → mask ≢ 0) → IsMask (Some decided) next (mask_after phase pool mask)
+mask_first decision.WrongKey phase next pool mask fits at some = tt
+mask_first decision.PoolEmpty phase next pool mask fits at some = loads_by (phase == 2) phase pool mask refl at.0 ∙ at.1
+mask_first decision.Entered phase next pool mask fits at some =
+    let eight : phase ≡ 8 = at.0 in
+    λ none. some (omega arith) (sym (keeps_by (phase == 2) phase pool mask refl (λ two. omega arith)) ∙ none)
+
+decides_at : (decided : Decision) (phase : ℕ) (fits : Bool) (pool mask : ℕ) → Decides phase fits pool mask decided
+    → phase ≡ deciding_phase decided
+decides_at decision.WrongKey phase fits pool mask at = at.0
+decides_at decision.PoolEmpty phase fits pool mask at = at.0
+decides_at decision.Entered phase fits pool mask at = at.0
+
+-- ---- the view
+
+-- behind the decision the view is right whatever the phase and the mask
+view_stays : (decided : Decision) (thread : Thread) (index phase next mask mask' : ℕ) (binding : Binding)
+    → IsThreadOfFlight (Some decided) thread (flight_of index phase mask (Some decided)) binding
+    → IsThreadOfFlight (Some decided) thread (flight_of index next mask' (Some decided)) binding
+view_stays decision.WrongKey thread index phase next mask mask' binding shows = shows
+view_stays decision.PoolEmpty thread index phase next mask mask' binding shows = shows
+view_stays decision.Entered thread index phase next mask mask' binding shows = shows
+
+view_first : (decided : Decision) (thread : Thread) (index phase mask : ℕ) (binding : Binding) → IsDecidedView decided index thread.view
+    → IsThreadOfFlight (Some decided) thread (flight_of index phase mask (Some decided)) binding
+view_first decision.WrongKey thread index phase mask binding shows = shows
+view_first decision.PoolEmpty thread index phase mask binding shows = shows
+view_first decision.Entered thread index phase mask binding shows = shows
+
+-- ---- the phase behind
+
+-- the phase behind one of a decided call
+decided_next : (thread : Thread) (index phase pool mask next : ℕ) (decided : Decision)
+    → IsInFlight thread (flight_of index phase mask (Some decided))
+    → phase_after phase (Some decided) (mask_after phase pool mask) ≡ Some next
+    → IsInFlight thread (flight_of index next (mask_after phase pool mask) (Some decided))
+decided_next thread index phase pool mask next decided flies is =
+    let follows = follows_of decided phase mask flies.phase flies.mask in
+    let same = keeps_by (phase == 2) phase pool mask refl (loads_no_more decided phase mask follows) in
+    let chosen = subst (IsMask (Some decided) phase) (sym same) flies.mask in
+    record {
+      running = flies.running;
+      binding = flies.binding;
+      bound = flies.bound;
+      phase = listed_on decided phase (mask_after phase pool mask) next flies.phase chosen is;
+      word = subst (λ n. n < 2 ^ 64) (sym same) flies.word;
+      mask = mask_stays decided phase next (mask_after phase pool mask) chosen;
+      stage = view_stays decided thread index phase next mask (mask_after phase pool mask) flies.binding flies.stage;
+    }
+
+-- the phase behind one that decides nothing
+next_sound : (thread : Thread) (index phase pool mask : ℕ) (decided : Option Decision) (fits : Bool) (found : Option ℕ)
+    → index ≢ 0 → pool < 2 ^ 64 → IsInFlight thread (flight_of index phase mask decided) → KeyMeans thread index fits
+    → decided_at phase fits pool mask ≡ None
+    → phase_after phase decided (mask_after phase pool mask) ≡ found
+    → IsFlightSound thread (option_map (at_phase (flight_of index phase (mask_after phase pool mask) decided)) found)
+next_sound thread index phase pool mask decided fits None away word flies means none is = tt
+next_sound thread index phase pool mask None fits (Some next) away word flies means none is =
+    undecided_flies thread index next (mask_after phase pool mask) flies.running
+    (undecided_next thread index phase pool mask next fits (decided_of thread (flight_of index phase mask None) away flies) means none
+    is)
+    (loaded_word (phase == 2) pool mask word flies.word)
+next_sound thread index phase pool mask (Some decided) fits (Some next) away word flies means none is =
+    decided_next thread index phase pool mask next decided flies is
+
+-- the phase behind the deciding one
+first_decided : (state : State) (core index phase mask pool next : ℕ) (fits : Bool) (decided : Decision)
+    → pool < 2 ^ 64 → IsInFlight (thread_at state core) (flight_of index phase mask None)
+    → Decides phase fits pool mask decided
+    → IsBehindCall state core decided index (kernel_call state core)
+    → phase_after phase (Some decided) (mask_after phase pool mask) ≡ Some next
+    → IsInFlight (thread_at (kernel_call state core).1 core)
+    (flight_of index next (mask_after phase pool mask) (Some decided))
+first_decided state core index phase mask pool next fits decided word flies at behind is =
+    record {
+      running = behind.running;
+      binding = flies.binding;
+      bound = ap (λ bindings. binding_with bindings index) behind.bindings ∙ flies.bound;
+      phase = listed_first decided phase (mask_after phase pool mask) next (decides_at decided phase fits pool mask at) is;
+      word = loaded_word (phase == 2) pool mask word flies.word;
+      mask = mask_first decided phase next pool mask fits at flies.mask;
+      stage = view_first decided (thread_at (kernel_call state core).1 core) index next (mask_after phase pool mask)
+          flies.binding behind.view;
+    }
+
+decided_sound : (state : State) (core index phase mask pool : ℕ) (fits : Bool) (decided : Decision) (found : Option ℕ)
+    → pool < 2 ^ 64 → IsInFlight (thread_at state core) (flight_of index phase mask None)
+    → Decides phase fits pool mask decided
+    → IsBehindCall state core decided index (kernel_call state core)
+    → phase_after phase (Some decided) (mask_after phase pool mask) ≡ found
+    → IsFlightSound (thread_at (kernel_call state core).1 core)
+    (option_map (at_phase (flight_of index phase (mask_after phase pool mask) (Some decided))) found)
+decided_sound state core index phase mask pool fits decided None word flies at behind is = tt
+decided_sound state core index phase mask pool fits decided (Some next) word flies at behind is =
+    first_decided state core index phase mask pool next fits decided word flies at behind is
+
+-- ---- a phase, by what it decides
+
+-- the pool word that a phase sees, and whether the key fits
+abbrev seen_pool : State → ℕ → ℕ → ℕ
+seen_pool state core index = bound_pool state (binding_with (thread_at state core).bindings index)
+
+abbrev seen_key : State → ℕ → ℕ → Bool
+seen_key state core index = is_key (binding_with (thread_at state core).bindings index) (rsi (thread_at state core).regs)
+
+landed_sound : (state : State) (core index phase mask : ℕ) (decided : Option Decision) (found : Option Decision)
+    → decided_at phase (seen_key state core index) (seen_pool state core index) mask ≡ found
+    → flight_at state core ≡ Some (flight_of index phase mask decided) → index ≢ 0 → seen_pool state core index < 2 ^ 64
+    → IsInFlight (thread_at state core) (flight_of index phase mask decided)
+    → KeepsFlight core
+    (phase_outcome state core (flight_of index phase (mask_after phase (seen_pool state core index) mask) decided) found)
+unfolding with_flight flight_at thread_at
+landed_sound state core index phase mask decided None is at away word flies =
+    let pool : ℕ = seen_pool state core index in
+    set_there (IsFlightSound (thread_at state core)) state.flights core (Some (flight_of index phase mask decided))
+    (next_flight (flight_of index phase (mask_after phase pool mask) decided)) None
+    (flight_there state core (flight_of index phase mask decided) at)
+    (next_sound (thread_at state core) index phase pool mask decided (seen_key state core index)
+    (phase_after phase decided (mask_after phase pool mask)) away word flies (key_means (thread_at state core) index) is refl)
+landed_sound state core index phase mask None (Some found) is at away word flies =
+    let pool : ℕ = seen_pool state core index in
+    let fits : Bool = seen_key state core index in
+    let undecided = decided_of (thread_at state core) (flight_of index phase mask None) away flies in
+    let deciding = decides phase fits pool mask found is in
+    set_there (IsFlightSound (thread_at (kernel_call state core).1 core)) (kernel_call state core).1.flights core
+    (Some (flight_of index phase mask None))
+    (next_flight (flight_of index phase (mask_after phase pool mask) (Some found))) None
+    (ap (λ list. slice_get list core) (did_call state core).flights
+    ∙ flight_there state core (flight_of index phase mask None) at)
+    (decided_sound state core index phase mask pool fits found
+    (phase_after phase (Some found) (mask_after phase pool mask)) word flies deciding
+    (call_behind state core index undecided.stands found (running_there state core flies.running, flies.running)
+    (decided_sees state (thread_at state core) index phase mask undecided found deciding)) refl)
+landed_sound state core index phase mask (Some decided) (Some found) is at away word flies =
+    absurd (none_some (decided_at phase (seen_key state core index) (seen_pool state core index) mask) found
+    (decides_no_more decided phase (seen_key state core index) (seen_pool state core index) mask mask
+    (follows_of decided phase mask flies.phase flies.mask)) is)
+
+-- a word of a page of bytes
+pool_small : (state : State) (found : Option Binding) → ArePagesSound state.pages → bound_pool state found < 2 ^ 64
+pool_small state None sound = omega arith
+pool_small state (Some binding) sound = pool_below state binding.server sound
+
+flown_sound : (state : State) (core : ℕ) (flight : Flight) → ArePagesSound state.pages → flight.index ≢ 0
+    → flight_at state core ≡ Some flight
+    → IsInFlight (thread_at state core) flight
     → KeepsFlight core (landing_step state core flight)
 unfolding landing_step
-flown_sound state core flight at sound =
-    landed_sound state core flight.index flight.phase flight.mask
-    (bound_pool state (flight_binding (thread_at state core) flight)) flight.decided
-    (is_key (flight_binding (thread_at state core) flight) (rsi (thread_at state core).regs)) _ refl at sound.0
-    (key_means (thread_at state core) flight.index) sound.1
+flown_sound state core flight sound away at flies =
+    landed_sound state core flight.index flight.phase flight.mask flight.decided _ refl at away
+    (pool_small state (flight_binding (thread_at state core) flight) sound) flies
 
 -- ---- a step
 
@@ -301,8 +382,10 @@ on_flight state core None outcome sound running at runs =
     (did_next state core (thread_at state core).view insn (thread_at state core).regs regs' refl))
     (λ one did. did_no_flight state core one at did) (switch_begins state core sound.pages running at) outcome runs
 on_flight state core (Some flight) outcome sound running at is =
+    let flies : IsFlightSound (thread_at state core) (Some flight) =
+    subst (IsFlightSound (thread_at state core)) at (sound.flights core) in
     subst (KeepsFlight core) (sym is)
-    (flown_sound state core flight at (subst (IsFlightSound (thread_at state core)) at (sound.flights core)))
+    (flown_sound state core flight sound.pages (flight_away state core flight sound.threads flies) at flies)
 
 by_flight : (state : State) (core : ℕ) (end : EndKind) (outcome : Outcome) → (thread_at state core).state ≡ end → IsSound state
     → StepsBy state core (thread_at state core) end outcome → KeepsFlight core outcome

@@ -14,12 +14,13 @@ use Rattle.sb_state.specs.PageName.{same_name, mode_of, permits}
 use Rattle.sb_state.specs.State.{State, find_page, with_mode}
 use Rattle.sb_state.specs.Pattern.{begins_pattern, first_pattern, executable_bytes, bytes_before, bytes_behind, heap_address, heap_pattern, pattern_around}
 use Rattle.sb_trace.specs.Code.{fetched_byte, code_byte, HasCodePatternAt, HasNoCodePattern}
-use Rattle.sb_trace.specs.Sound.{HasPage, ArePagesSound}
+use Rattle.sb_trace.specs.Sound.{HasPage}
 use Rattle.sb_state.proofs.Cases.{clash, none_some, same_some}
 use Rattle.sb_state.proofs.Names.{name_same, name_other}
 use Rattle.sb_state.proofs.PageLists.{with_executable}
 use Rattle.sb_state.proofs.Modes.{mode_other, mode_same}
 use Rattle.sb_trace.proofs.CodePages.{SameCode, no_pattern_kept, code_where_found}
+use Rattle.sb_trace.proofs.CodeSound.{AreCodePagesSound}
 
 -- ---- the pattern in bytes
 
@@ -162,7 +163,7 @@ behind_is state process page found there executable =
     ap (λ bytes. take 2 bytes) (executable_of (find_page state.pages (Heap process (page + 1))) found there executable)
 
 -- a byte in the page before
-in_before : (state : State) (process page place byte : ℕ) → ArePagesSound state.pages → place / 4096 + 1 ≡ page
+in_before : (state : State) (process page place byte : ℕ) → AreCodePagesSound state.pages → place / 4096 + 1 ≡ page
     → 4094 ≤ place % 4096
     → code_byte state.pages (Heap process) place ≡ Some byte
     → (length (bytes_before state process page) ≡ 2) × (get_or (bytes_before state process page) (place % 4096 - 4094) 0 ≡ byte)
@@ -209,7 +210,7 @@ third_part before here behind index offset at =
 
 -- the page, found, and the bytes that are searched
 record IsSearched (state : State) (process page : ℕ) (one : Page) : Type 0 where
-  sound : ArePagesSound state.pages
+  sound : AreCodePagesSound state.pages
   there : find_page state.pages (Heap process page) ≡ Some one
 
 abbrev searched : State → ℕ → ℕ → Page → List ℕ
@@ -276,7 +277,7 @@ touching state process page one is none place low high from stands =
     )
 
 -- before it stand two bytes, where the pattern begins there
-from_before : (state : State) (process page : ℕ) → ArePagesSound state.pages → (place byte : ℕ) → 4096 * page ≤ place + 2
+from_before : (state : State) (process page : ℕ) → AreCodePagesSound state.pages → (place byte : ℕ) → 4096 * page ≤ place + 2
     → code_byte (with_mode state.pages (Heap process page) true) (Heap process) place ≡ Some byte
     → 4096 * page ≤ place + length (bytes_before state process page)
 from_before state process page sound place byte low has = elim (cases_lt place (4096 * page)) [
@@ -325,7 +326,7 @@ absent pages process page place byte none has = elim (cases_eq (place / 4096) pa
 ]
 
 executed_heap : (state : State) (process page : ℕ) (found : Option Page) → find_page state.pages (Heap process page) ≡ found
-    → ArePagesSound state.pages
+    → AreCodePagesSound state.pages
     → heap_pattern state process page ≡ None
     → HasNoCodePattern (code_byte (with_mode state.pages (Heap process page) true) (Heap process))
 executed_heap state process page None there sound none = λ place stands.
@@ -339,7 +340,7 @@ executed_heap state process page (Some one) there sound none =
 
 -- ---- either mode
 
-changed_heap : (state : State) (process page : ℕ) (executable : Bool) → ArePagesSound state.pages
+changed_heap : (state : State) (process page : ℕ) (executable : Bool) → AreCodePagesSound state.pages
     → (executable ≡ true → heap_pattern state process page ≡ None)
     → HasNoCodePattern (code_byte (with_mode state.pages (Heap process page) executable) (Heap process))
 changed_heap state process page true sound harmless =
@@ -354,7 +355,7 @@ other_heap state process page other executable apart =
     (λ number. mode_other state.pages (Heap process page) (Heap other number) executable
     (name_other (Heap process page) (Heap other number) (λ same. apart (let equal : process ≡ other = cc in sym equal))))
 
-each_heap : (state : State) (process page other : ℕ) (executable : Bool) → ArePagesSound state.pages
+each_heap : (state : State) (process page other : ℕ) (executable : Bool) → AreCodePagesSound state.pages
     → (executable ≡ true → heap_pattern state process page ≡ None)
     → HasNoCodePattern (code_byte (with_mode state.pages (Heap process page) executable) (Heap other))
 each_heap state process page other executable sound harmless = elim (cases_eq other process) [
@@ -393,7 +394,7 @@ mode_page pages process page other executable bytes apart (one, there, has) =
 
 pub mode_sound : (state : State) (process page : ℕ) (executable : Bool)
     → (executable ≡ true → heap_pattern state process page ≡ None)
-    → ArePagesSound state.pages → ArePagesSound (with_mode state.pages (Heap process page) executable)
+    → AreCodePagesSound state.pages → AreCodePagesSound (with_mode state.pages (Heap process page) executable)
 unfolding same_name
 mode_sound state process page executable harmless sound = record {
   sizes = λ name page' is. changed_size (same_name (Heap process page) name) state.pages

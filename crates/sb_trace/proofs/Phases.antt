@@ -5,7 +5,7 @@ use Rattle.std.proofs.lemmas.Bool.Decides.{Decides-eqb}
 use Rattle.sb_state.specs.declared.state.Decision.{Decision}
 use Rattle.sb_state.specs.declared.state.Decision.TheVariants as decision
 use Rattle.sb_trace.specs.Flight.{decided_at, is_wrong_key, is_entered, phase_after}
-use Rattle.sb_trace.specs.Sound.{FollowsDecision}
+use Rattle.sb_trace.proofs.InFlight.{FollowsDecision}
 use Rattle.sb_state.proofs.Names.{number}
 use Rattle.sb_state.proofs.Cases.{claim_if, same_some}
 

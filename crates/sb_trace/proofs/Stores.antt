@@ -1,6 +1,7 @@
 -- What an instruction may change: only bytes of pages that its thread may write in its view.
-use Rattle.std.proofs.Common.{◌≡◌, ◌≢◌, ◌∙◌, sym, ap, subst, ℕ, zero, suc, ◌+◌, ◌/◌, ◌%◌, ◌^◌, Bool, true, false, List, [], ◌∷◌, refl, slice_set, Result, Ok, Err}
-use Rattle.std.specs.Prelude.{Option, Some, None, if◌then◌else◌}
+use Rattle.std.proofs.Common.{◌≡◌, ◌≢◌, ◌∙◌, sym, ap, subst, ℕ, zero, suc, ◌+◌, ◌/◌, ◌%◌, ◌^◌, ◌<◌, Bool, true, false, List, [], ◌∷◌, refl, slice_set, arith, Result, Ok, Err}
+use Rattle.std.specs.Prelude.{Option, Some, None, map, if◌then◌else◌}
+use Rattle.std.specs.List.{AllByRecursion}
 use Rattle.std.specs.Option.{option_map, option_and_then}
 use Rattle.std.proofs.lemmas.List.{length-set}
 use Rattle.sb_memory.specs.declared.address.Access.TheVariants.{Write}
@@ -16,10 +17,10 @@ use Rattle.sb_state.specs.declared.page.PageName.{PageName}
 use Rattle.sb_state.specs.declared.page.Page.{Page}
 use Rattle.sb_state.specs.declared.page.Seen.{Seen}
 use Rattle.sb_state.specs.PageName.{same_name, mode_of, permits}
-use Rattle.sb_state.specs.State.{State, find_page, contents, with_contents, bytes_of}
+use Rattle.sb_state.specs.State.{State, find_page, with_page_bytes, contents, with_contents, bytes_of}
 use Rattle.sb_state.specs.Windows.{page_for, page_by_name, page_and_mode, name_at, process_shown}
 use Rattle.sb_state.specs.PlainMemory.{Placed, bytes_to_put, placed_at, put_byte, put_all, plain_stored, plain, plain_byte, byte_seen, is_canonical, fault_at}
-use Rattle.sb_trace.specs.Changes.{IsClosed, Shape, shape_of}
+use Rattle.sb_trace.specs.Changes.{IsClosed, Shape, shape_of, page_name, AreBytes}
 use Rattle.sb_state.proofs.Names.{name_same, name_other}
 use Rattle.sb_state.proofs.PageLists.{with_bytes, found_other, found_same}
 
@@ -49,22 +50,67 @@ shape_if true state name other offset value is =
     ∙ shape_by (find_page state.pages name) offset value)
 shape_if false state name other offset value is = ap (option_map shape_of) (put_other state name other offset value is)
 
+-- ---- names
+
+names_by : (test : Bool) (page : Page) (pages pages' : List Page) (bytes : List ℕ)
+    → map page_name pages' ≡ map page_name pages
+    → map page_name (if test then record page { bytes = bytes } ∷ pages else page ∷ pages') ≡ map page_name (page ∷ pages)
+names_by true page pages pages' bytes more = refl
+names_by false page pages pages' bytes more = ap (λ (names : List PageName). page.name ∷ names) more
+
+-- pages whose bytes change keep their names, in their order
+pub names_stay : (pages : List Page) (name : PageName) (bytes : List ℕ)
+    → map page_name (with_page_bytes pages name bytes) ≡ map page_name pages
+names_stay [] name bytes = refl
+names_stay (page ∷ pages) name bytes =
+    names_by (same_name page.name name) page pages (with_page_bytes pages name bytes) bytes (names_stay pages name bytes)
+
+-- ---- bytes stay bytes
+
+set_byte : (bytes : List ℕ) (offset value : ℕ) → value < 256 → AreBytes bytes → AreBytes (slice_set bytes offset value)
+set_byte [] offset value below all = tt
+set_byte (byte ∷ bytes) zero value below all = (below, all.1)
+set_byte (byte ∷ bytes) (suc offset) value below all = (all.0, set_byte bytes offset value below all.1)
+
+bytes_by : (found : Option Page) (offset value : ℕ) → value < 256 → AreBytes (bytes_of found)
+    → AreBytes (bytes_of (option_map (with_bytes (slice_set (bytes_of found) offset value)) found))
+bytes_by None offset value below all = tt
+bytes_by (Some page) offset value below all = set_byte page.bytes offset value below all
+
+bytes_if : (test : Bool) (state : State) (name other : PageName) (offset value : ℕ) → same_name name other ≡ test → value < 256
+    → AreBytes (contents state other) → AreBytes (contents (put_byte state name offset value) other)
+unfolding put_byte with_contents contents
+bytes_if true state name other offset value is below all =
+    let same : name ≡ other = name_same name other is in
+    subst (λ (n : PageName). AreBytes (bytes_of (find_page (put_byte state name offset value).pages n))) same
+    (subst (λ (found : Option Page). AreBytes (bytes_of found))
+    (sym (found_same state.pages name (slice_set (bytes_of (find_page state.pages name)) offset value)))
+    (bytes_by (find_page state.pages name) offset value below
+    (subst (λ (n : PageName). AreBytes (bytes_of (find_page state.pages n))) (sym same) all)))
+bytes_if false state name other offset value is below all =
+    subst (λ (found : Option Page). AreBytes (bytes_of found)) (sym (put_other state name other offset value is)) all
+
 -- ---- what a store leaves beside bytes
 
 -- pages keep their shapes, and all but pages stays
 pub record KeepsShapes (first state : State) : Type 0 where
   pub shapes : (name : PageName)
       → option_map shape_of (find_page state.pages name) ≡ option_map shape_of (find_page first.pages name)
+  pub names : map page_name state.pages ≡ map page_name first.pages
+  pub bytes : (name : PageName) → AreBytes (contents first name) → AreBytes (contents state name)
   pub processes : state.processes ≡ first.processes
   pub threads : state.threads ≡ first.threads
   pub flights : state.flights ≡ first.flights
   pub free : state.free ≡ first.free
   pub keys : state.keys ≡ first.keys
 
-put_keeps : (state : State) (name : PageName) (offset value : ℕ) → KeepsShapes state (put_byte state name offset value)
+put_keeps : (state : State) (name : PageName) (offset value : ℕ) → value < 256
+    → KeepsShapes state (put_byte state name offset value)
 unfolding put_byte with_contents
-put_keeps state name offset value = record {
+put_keeps state name offset value below = record {
   shapes = λ other. shape_if (same_name name other) state name other offset value refl;
+  names = names_stay state.pages name (slice_set (contents state name) offset value);
+  bytes = λ other. bytes_if (same_name name other) state name other offset value refl below;
   processes = refl;
   threads = refl;
   flights = refl;
@@ -75,6 +121,8 @@ put_keeps state name offset value = record {
 pub keeps_both : (first second third : State) → KeepsShapes first second → KeepsShapes second third → KeepsShapes first third
 keeps_both first second third one other = record {
   shapes = λ name. other.shapes name ∙ one.shapes name;
+  names = other.names ∙ one.names;
+  bytes = λ name all. other.bytes name (one.bytes name all);
   processes = other.processes ∙ one.processes;
   threads = other.threads ∙ one.threads;
   flights = other.flights ∙ one.flights;
@@ -82,17 +130,46 @@ keeps_both first second third one other = record {
   keys = other.keys ∙ one.keys;
 }
 
-all_keep : (state : State) (bytes : List Placed) → KeepsShapes state (put_all state bytes)
-all_keep state [] = record { shapes = λ name. refl; processes = refl; threads = refl; flights = refl; free = refl; keys = refl }
-all_keep state (byte ∷ others) =
+-- the values that are put are bytes
+abbrev PutBytes : List Placed → Type 0
+PutBytes bytes = AllByRecursion (λ (byte : Placed). byte.value < 256) bytes
+
+all_keep : (state : State) (bytes : List Placed) → PutBytes bytes → KeepsShapes state (put_all state bytes)
+all_keep state [] small = record {
+  shapes = λ name. refl;
+  names = refl;
+  bytes = λ name all. all;
+  processes = refl;
+  threads = refl;
+  flights = refl;
+  free = refl;
+  keys = refl;
+}
+all_keep state (byte ∷ others) small =
     keeps_both state (put_byte state byte.name byte.offset byte.value)
     (put_all (put_byte state byte.name byte.offset byte.value) others)
-    (put_keeps state byte.name byte.offset byte.value) (all_keep (put_byte state byte.name byte.offset byte.value) others)
+    (put_keeps state byte.name byte.offset byte.value small.0)
+    (all_keep (put_byte state byte.name byte.offset byte.value) others small.1)
+
+placed_small : (page : Option Seen) (address value : ℕ) (others : List Placed) → value < 256 → PutBytes others
+    → PutBytes (placed_at page address value others)
+placed_small None address value others below small = small
+placed_small (Some page) address value others below small = (below, small)
+
+all_small : (state : State) (thread view address size value : ℕ)
+    → PutBytes (bytes_to_put state thread view address size value)
+unfolding bytes_to_put
+all_small state thread view address zero value = tt
+all_small state thread view address (suc count) value =
+    placed_small (page_for state thread view (address / 4096)) address (value % 256)
+    (bytes_to_put state thread view ((address + 1) % 2 ^ 64) count (value / 256)) (omega arith)
+    (all_small state thread view ((address + 1) % 2 ^ 64) count (value / 256))
 
 store_keeps : (thread view : ℕ) (state : State) (address size value : ℕ)
     → KeepsShapes state (plain_stored thread view state address size value)
 unfolding plain_stored
-store_keeps thread view state address size value = all_keep state (bytes_to_put state thread view address size value)
+store_keeps thread view state address size value =
+    all_keep state (bytes_to_put state thread view address size value) (all_small state thread view address size value)
 
 -- ---- what is seen
 
@@ -222,7 +299,7 @@ store_written first thread view state written address size value permitted = rec
 }
 
 not_written : (first : State) (thread view : ℕ) → Written first thread view first
-not_written first thread view = record { keeps = all_keep first []; closed = λ name closed. refl }
+not_written first thread view = record { keeps = all_keep first [] tt; closed = λ name closed. refl }
 
 pub execution_written : (thread view : ℕ) (row : Row) (regs : Regs) (state : State)
     → Written state thread view (execution_of (plain thread view) row regs state tt).meaning

@@ -1,8 +1,11 @@
 -- Threads and flights by number, where one is set.
-use Rattle.std.proofs.Common.{◌≡◌, ◌≢◌, ◌∙◌, ap, ℕ, Bool, true, false, List, length, ◌==◌, refl}
-use Rattle.std.proofs.lemmas.List.{length-set}
+use Rattle.std.proofs.Common.{◌≡◌, ◌≢◌, ◌∙◌, sym, ap, subst, ℕ, zero, suc, Bool, true, false, List, [], ◌∷◌, ◌==◌, length, refl, slice_set, inl, inr}
 use Rattle.std.specs.Prelude.{Option, Some, None, slice_get, unwrap_or, if◌then◌else◌}
 use Rattle.std.specs.Option.{option_map}
+use Rattle.std.specs.List.{AllByRecursion}
+use Rattle.std.proofs.lemmas.Bool.{cases_eq}
+use Rattle.std.proofs.lemmas.List.{length-set}
+use Rattle.sb_state.specs.declared.end_kind.EndKind.TheVariants.{Running}
 use Rattle.sb_state.specs.declared.state.Binding.{Binding}
 use Rattle.sb_state.specs.declared.state.Flight.{Flight}
 use Rattle.sb_state.specs.declared.state.Thread.{Thread}
@@ -12,7 +15,7 @@ use Rattle.sb_state.proofs.Indices.{index_found}
 use Rattle.sb_state.proofs.Threads.{set_other, thread_set}
 use Rattle.sb_trace.specs.KernelCall.{binding_with}
 use Rattle.sb_trace.specs.Sound.{HasView}
-use Rattle.sb_trace.specs.Changes.{OnlyThread}
+use Rattle.sb_trace.specs.Changes.{OnlyThread, BindingsStay}
 
 -- ---- a thread
 
@@ -20,6 +23,7 @@ pub only_thread : (state : State) (number : ℕ) (thread : Thread) → thread.ho
     → OnlyThread state number (with_thread state number thread)
 only_thread state number thread home = record {
   count = length-set state.threads number thread;
+  places = refl;
   threads = λ other apart. set_other state.threads number other thread apart;
   flights = λ other apart. refl;
   home = thread_set (λ (one : Thread). one.home ≡ (thread_at state number).home) state number thread home refl;
@@ -30,6 +34,7 @@ pub only_flight : (state : State) (number : ℕ) (flight : Option Flight)
 unfolding with_flight thread_at
 only_flight state number flight = record {
   count = refl;
+  places = length-set state.flights number flight;
   threads = λ other apart. refl;
   flights = λ other apart. set_other state.flights number other flight apart;
   home = refl;
@@ -39,6 +44,7 @@ pub only_both : (first : State) (number : ℕ) (second third : State) → OnlyTh
     → OnlyThread second number third → OnlyThread first number third
 only_both first number second third one other = record {
   count = other.count ∙ one.count;
+  places = other.places ∙ one.places;
   threads = λ number' apart. other.threads number' apart ∙ one.threads number' apart;
   flights = λ number' apart. other.flights number' apart ∙ one.flights number' apart;
   home = other.home ∙ one.home;
@@ -49,7 +55,8 @@ pub only_none : (old : State) (number : ℕ) (new : State) → new.threads ≡ o
     → OnlyThread old number new
 unfolding thread_at
 only_none old number new threads flights = record {
-  count = ap length threads;
+  count = ap (λ list. length list) threads;
+  places = ap (λ list. length list) flights;
   threads = λ other apart. ap (λ list. slice_get list other) threads;
   flights = λ other apart. ap (λ list. slice_get list other) flights;
   home = ap (λ list. (unwrap_or (slice_get list number) no_thread).home) threads;
@@ -67,7 +74,59 @@ pub flight_other : (old : State) (number : ℕ) (new : State) (other : ℕ) → 
 unfolding flight_at
 flight_other old number new other only apart = ap (λ found. unwrap_or found None) (only.flights other apart)
 
+-- ---- lists
+
+-- what is said of each element is said of the one at a place
+pub each_at : {A : Type 0} (Claim : A → Type 0) (list : List A) (place : ℕ) (value : A) → AllByRecursion Claim list
+    → slice_get list place ≡ Some value → Claim value
+each_at Claim [] place value all is = absurd cc
+each_at Claim (first ∷ list) zero value all is = let same : first ≡ value = cc in subst Claim same all.0
+each_at Claim (first ∷ list) (suc place) value all is = each_at Claim list place value all.1 is
+
+-- ---- a thread that is there
+
+-- the thread of this number is one of the state's
+abbrev pub HasThread : State → ℕ → Type 0
+HasThread state number = slice_get state.threads number ≡ Some (thread_at state number)
+
+-- a value that is set is found where another was
+pub set_found : {A : Type 0} (list : List A) (index : ℕ) (old value default : A) → slice_get list index ≡ Some old
+    → slice_get (slice_set list index value) index ≡ Some (unwrap_or (slice_get (slice_set list index value) index) default)
+set_found [] index old value default there = absurd cc
+set_found (first ∷ list) zero old value default there = refl
+set_found (first ∷ list) (suc index) old value default there = set_found list index old value default there
+
+running_by : (found : Option Thread) → (unwrap_or found no_thread).state ≡ Running → found ≡ Some (unwrap_or found no_thread)
+unfolding no_thread
+running_by None running = absurd cc
+running_by (Some thread) running = refl
+
+-- a running thread is there
+pub running_there : (state : State) (number : ℕ) → (thread_at state number).state ≡ Running → HasThread state number
+unfolding thread_at
+running_there state number running = running_by (slice_get state.threads number) running
+
 -- ---- bindings
+
+-- where a thread is set that has the bindings of the one before, all bindings stay
+pub bindings_set : (state : State) (number : ℕ) (thread : Thread) → thread.bindings ≡ (thread_at state number).bindings
+    → BindingsStay state (with_thread state number thread)
+unfolding thread_at
+bindings_set state number thread same other = elim (cases_eq other number) [
+  | inl is ↦ subst (λ n. (thread_at (with_thread state number thread) n).bindings ≡ (thread_at state n).bindings) (sym is)
+      (thread_set (λ (one : Thread). one.bindings ≡ (thread_at state number).bindings) state number thread same refl)
+  | inr apart ↦ ap (λ (found : Option Thread). (unwrap_or found no_thread).bindings)
+      (set_other state.threads number other thread apart)
+]
+
+-- where threads stay, bindings stay
+pub bindings_same : (old new : State) → new.threads ≡ old.threads → BindingsStay old new
+unfolding thread_at
+bindings_same old new threads number = ap (λ list. (unwrap_or (slice_get list number) no_thread).bindings) threads
+
+pub bindings_both : (first second third : State) → BindingsStay first second → BindingsStay second third
+    → BindingsStay first third
+bindings_both first second third one other number = other number ∙ one number
 
 -- a binding that is found has its index, and its view shows its server
 pub bound_there : (bindings : List Binding) (index : ℕ) (binding : Binding) → binding_with bindings index ≡ Some binding

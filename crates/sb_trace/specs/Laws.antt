@@ -1,5 +1,5 @@
 -- The laws of runs of the plain machine (docs/LAWS.md).
-use Rattle.std.specs.Prelude.{◌≡◌, ℕ, ◌%◌, ◌^◌, ◌<◌, ◌≤◌, List, length, take, Option, Some, None}
+use Rattle.std.specs.Prelude.{◌≡◌, ℕ, ◌%◌, ◌^◌, ◌<◌, ◌≤◌, List, length, take, drop, Option, Some, None}
 use Rattle.std.specs.List.{AllByRecursion}
 use Rattle.sb_scan.specs.Pattern.{pattern, HasNoPattern}
 use Rattle.sb_exec.specs.Fetching.{Stands, fetch_of}
@@ -10,7 +10,8 @@ use Rattle.sb_trace.specs.declared.event.Line.{Line}
 use Rattle.sb_state.specs.declared.state.Decision.{Decision}
 use Rattle.sb_state.specs.declared.state.Decision.TheVariants as decision
 use Rattle.sb_state.specs.declared.state.Flight.{Flight}
-use Rattle.sb_state.specs.State.{State, thread_at, flight_at}
+use Rattle.sb_state.specs.declared.page.Page.{Page}
+use Rattle.sb_state.specs.State.{State, find_page, thread_at, flight_at}
 use Rattle.sb_state.specs.Registers.{rsi}
 use Rattle.sb_trace.specs.Flight.{flight_binding, is_key, bound_pool, decided_at}
 use Rattle.sb_state.specs.Windows.{process_shown}
@@ -43,14 +44,14 @@ pub record IsImageSound (image : ProcessImage) : Type 0 where
 abbrev pub IsEntrySound : ℕ → ThreadEntry → Type 0
 IsEntrySound processes entry = (entry.home < processes) × (entry.address < 2 ^ 64)
 
-abbrev pub HasCleanCode : ProcessImage → Type 0
-HasCleanCode image = HasNoPattern image.text × HasNoPattern image.area
-
--- images whose texts and rewrite areas hold VMFUNC's bytes nowhere start a sound state
+-- at most sixteen sound images, at most 32 entries in them, and key words start a sound state
 abbrev pub StartIsSound : Type 0
 StartIsSound =
-    (images : List ProcessImage) (entries : List ThreadEntry) (free : ℕ) (keys : List ℕ)
-    → AllByRecursion HasCleanCode images → IsSound (start_state images entries free keys)
+    (images : List ProcessImage) (entries : List ThreadEntry) (free : ℕ) (keys : List ℕ) → AllByRecursion IsImageSound images
+    → length images ≤ 16
+    → AllByRecursion (IsEntrySound (length images)) entries
+    → length entries ≤ 32
+    → AllByRecursion (λ key. key < 2 ^ 64) keys → IsSound (start_state images entries free keys)
 
 abbrev pub StepsKeepSound : Type 0
 StepsKeepSound = (old : State) (core : ℕ) (event : Event) (new : State) → IsSound old → Steps old core event new → IsSound new
@@ -58,6 +59,12 @@ StepsKeepSound = (old : State) (core : ℕ) (event : Event) (new : State) → Is
 abbrev pub RunsKeepSound : Type 0
 RunsKeepSound = (old : State) (cores : List ℕ) (lines : List Line) (new : State) → IsSound old → Runs old cores lines new
     → IsSound new
+
+-- each page that a step adds has a name that no page had
+abbrev pub AddedPagesAreNew : Type 0
+AddedPagesAreNew =
+    (old : State) (core : ℕ) (event : Event) (new : State) → IsSound old → Steps old core event new
+    → AllByRecursion (λ (page : Page). find_page old.pages page.name ≡ None) (drop (length old.pages) new.pages)
 
 -- ---- the laws
 

@@ -28,6 +28,7 @@ pub mod Step
 pub mod OneStep
 pub mod Runs
 pub mod Code
+pub mod Table
 pub mod Sound
 pub mod Whole
 pub mod Changes
