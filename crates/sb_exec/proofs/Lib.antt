@@ -11,3 +11,5 @@ pub mod Stops
 pub mod Keeps
 pub mod Simulation
 pub mod Within
+pub mod NumberWords
+pub mod RowWords

@@ -30,6 +30,7 @@ mod operand;
 mod pair;
 mod rows;
 mod table;
+mod words;
 mod write_back;
 
 pub use action::{Action, After, Effect, Exchange, Load, MemoryUse, Location, Store};
@@ -40,3 +41,4 @@ pub use pair::{
 };
 pub use sb_alu::{Operation, Outcome, Size};
 pub use sb_bus::{Bus, BusStop, FaultKind};
+pub use words::{executions_keep_words, rows_keep_words};

@@ -14,18 +14,19 @@ use Rattle.sb_trace.specs.State.{State, contents, find_page, thread_at, flight_a
 use Rattle.sb_trace.specs.Home.{Outcome}
 use Rattle.sb_trace.specs.Flight.{first_flight, landing_step}
 use Rattle.sb_trace.specs.Step.{GoesOn, StepsBy, Steps}
-use Rattle.sb_trace.specs.Sound.{IsFlightSound}
+use Rattle.sb_trace.specs.Sound.{IsSound}
 use Rattle.sb_trace.proofs.Steps.{steps_change}
 use Rattle.sb_trace.proofs.Threads.{bound_there, thread_other, flight_other}
 use Rattle.sb_landing.specs.Rows.{address_of}
 use Rattle.sb_landing.specs.Stages.{Landing, stage, begun as begun_moved}
-use Rattle.sb_landing.specs.AtPhase.{AreWords, AtPhase, first_left, landing_in}
-use Rattle.sb_landing.specs.Bound.{IsBound}
+use Rattle.sb_exec.specs.Words.{AreWords}
+use Rattle.sb_landing.specs.AtPhase.{AtPhase, first_left, landing_in}
 use Rattle.sb_landing.specs.Lands.{Arrives, LandsBeside, Lands, phase_execution, behind}
 use Rattle.sb_landing.specs.Related.{Begun, IsBeside, AreBeside}
 use Rattle.sb_landing.specs.Laws.{FlightsBegin, OthersStay, begun_behind, StepsBeside, StepsStayBeside}
 use Rattle.sb_landing.proofs.Walk.{flight_placed}
 use Rattle.sb_landing.proofs.Ends.{sixteen, listed}
+use Rattle.sb_landing.proofs.Bound.{binding_pages, flight_sound}
 use Rattle.sb_landing.proofs.Steps.{step_lands}
 use Rattle.sb_landing.proofs.Others.{others_leave}
 
@@ -70,17 +71,17 @@ flights_begin state number index words = record {
 
 -- ---- the other threads
 
-record_page : (state : State) (number : ℕ) (flight : Flight) → IsBound state → flight_at state number ≡ Some flight
+record_page : (state : State) (number : ℕ) (flight : Flight) → IsSound state → flight_at state number ≡ Some flight
     → (page : Page) × (find_page state.pages (Record number flight.index) ≡ Some page)
 record_page state number flight sound at =
-    let own = sound.flights number flight at in
-    let its = sound.bindings.each number flight.index own.binding own.bound in
+    let own = flight_sound state number flight sound at in
+    let its = binding_pages state number flight.index own.binding sound own.bound in
     let same = (bound_there (thread_at state number).bindings flight.index own.binding own.bound).0 in
     (its.words.0, ap (λ n. find_page state.pages (Record number n)) (sym same) ∙ its.words.1)
 
 stays_by : (found : Option Flight) (old : State) (core : ℕ) (event : Event) (new : State) (number : ℕ) (begun : Begun)
     (real : Regs)
-    → flight_at old number ≡ found → IsBound old
+    → flight_at old number ≡ found → IsSound old
     → Steps old core event new → number ≢ core → IsBeside old number found begun real → IsBeside new number found begun real
 stays_by None old core event new number begun real at sound steps apart is =
     let only = (steps_change old core event new steps).thread in
@@ -123,7 +124,7 @@ set_by false state core number first begun mine real is own others =
     others (λ same. let also : (number == core) ≡ true = (Decides-eqb number core).1 same in cc)
 
 steps_beside : (old : State) (core : ℕ) (event : Event) (new : State) (flight : Flight) (begun : ℕ → Begun) (real : ℕ → Regs)
-    → IsBound old → AreBeside old begun real
+    → IsSound old → AreBeside old begun real
     → Steps old core event new → LandsBeside (event, new) old core flight (begun core).start (begun core).failed (real core)
     → StepsBeside old core event new flight begun real
 steps_beside old core event new flight begun real sound beside steps lands = record {
@@ -140,13 +141,12 @@ steps_beside old core event new flight begun real sound beside steps lands = rec
 }
 
 pub steps_stay_beside : EachPhaseStands → StepsStayBeside
-steps_stay_beside stand old core event new flight begun real sound bound beside at steps =
-    let own : IsFlightSound (thread_at old core) (Some flight) =
-    subst (IsFlightSound (thread_at old core)) at (sound.flights core) in
+steps_stay_beside stand old core event new flight begun real sound beside at steps =
+    let own = flight_sound old core flight sound at in
     let holds : IsBeside old core (Some flight) (begun core) (real core) =
     subst (λ found. IsBeside old core found (begun core) (real core)) at (beside core) in
     let lands : Lands old core flight (begun core).start (begun core).failed (real core) =
-    step_lands old core flight (begun core).start (begun core).failed (real core) stand sound bound at holds in
-    steps_beside old core event new flight begun real bound beside steps
+    step_lands old core flight (begun core).start (begun core).failed (real core) stand sound at holds in
+    steps_beside old core event new flight begun real sound beside steps
     (subst (λ (outcome : Outcome). LandsBeside outcome old core flight (begun core).start (begun core).failed (real core))
-    (sym (flown_is old core event new flight own.0 at steps)) lands)
+    (sym (flown_is old core event new flight own.running at steps)) lands)

@@ -1,25 +1,17 @@
 -- The laws of landings that are executed instruction by instruction.
-use Rattle.std.specs.Prelude.{◌≡◌, ◌≢◌, ℕ, ◌==◌, ◌<◌, ◌^◌, List, length, Bool, true, false, Option, Some, None, Ok, slice_get, if◌then◌else◌}
+use Rattle.std.specs.Prelude.{◌≡◌, ◌≢◌, ℕ, ◌==◌, ◌<◌, length, Bool, false, Option, Some, None, Ok, if◌then◌else◌}
 use Rattle.sb_insn.specs.declared.registers.Regs.{Regs}
 use Rattle.sb_exec.specs.Fetching.{FetchesOn}
 use Rattle.sb_trace.specs.declared.event.Event.{Event}
 use Rattle.sb_state.specs.declared.state.Flight.{Flight}
-use Rattle.sb_trace.specs.SyscallRegister.{with_server}
-use Rattle.sb_trace.specs.SyscallBind.{with_binding, new_binding}
-use Rattle.sb_state.specs.declared.state.Registration.{Registration}
-use Rattle.sb_trace.specs.State.{registration_at, is_listed}
-use Rattle.sb_trace.specs.State.{Process, process_at}
-use Rattle.sb_trace.specs.State.{State, thread_at, flight_at, with_flight, with_regs}
-use Rattle.sb_trace.specs.Start.{ProcessImage, ThreadEntry, start_state}
+use Rattle.sb_trace.specs.State.{State, thread_at, flight_at, with_flight}
 use Rattle.sb_trace.specs.PlainMemory.{plain}
-use Rattle.sb_trace.specs.Flight.{first_flight, landing_step}
-use Rattle.sb_trace.specs.Step.{Steps, execution_in_view}
-use Rattle.sb_insn.specs.declared.insn.Insn.{Insn}
-use Rattle.std.specs.List.{AllByRecursion}
+use Rattle.sb_trace.specs.Flight.{first_flight}
+use Rattle.sb_trace.specs.Step.{Steps}
 use Rattle.sb_trace.specs.Sound.{IsSound}
 use Rattle.sb_landing.specs.Rows.{row_at, address_of}
-use Rattle.sb_landing.specs.AtPhase.{AreWords, AtPhase, failed_at}
-use Rattle.sb_landing.specs.Bound.{IsBound}
+use Rattle.sb_exec.specs.Words.{AreWords}
+use Rattle.sb_landing.specs.AtPhase.{AtPhase, failed_at}
 use Rattle.sb_landing.specs.Lands.{phase_execution, effect_at, behind, line_of, Lands}
 use Rattle.sb_landing.specs.Related.{Begun, IsBeside, AreBeside}
 
@@ -27,8 +19,8 @@ use Rattle.sb_landing.specs.Related.{Begun, IsBeside, AreBeside}
 abbrev pub PhasesLand : Type 0
 PhasesLand =
     (state : State) (number : ℕ) (flight : Flight) (start : Regs) (failed : Bool) (real : Regs) → IsSound state
-    → IsBound state → flight_at state number ≡ Some flight
-    → AtPhase state number flight start failed real → Lands state number flight start failed real
+    → flight_at state number ≡ Some flight → AtPhase state number flight start failed real
+    → Lands state number flight start failed real
 
 -- RIP is at the row of the phase
 abbrev pub PhasesStand : Type 0
@@ -51,7 +43,7 @@ FlightsBegin = (state : State) (number index : ℕ) → AreWords (thread_at stat
 -- a step of another core leaves what is said of a thread, in flight or not
 abbrev pub OthersStay : Type 0
 OthersStay =
-    (old : State) (core : ℕ) (event : Event) (new : State) (number : ℕ) (begun : Begun) (real : Regs) → IsBound old
+    (old : State) (core : ℕ) (event : Event) (new : State) (number : ℕ) (begun : Begun) (real : Regs) → IsSound old
     → Steps old core event new → number ≢ core
     → IsBeside old number (flight_at old number) begun real → IsBeside new number (flight_at new number) begun real
 
@@ -83,60 +75,5 @@ pub record StepsBeside (old : State) (core : ℕ) (event : Event) (new : State) 
 abbrev pub StepsStayBeside : Type 0
 StepsStayBeside =
     (old : State) (core : ℕ) (event : Event) (new : State) (flight : Flight) (begun : ℕ → Begun) (real : ℕ → Regs)
-    → IsSound old → IsBound old
-    → AreBeside old begun real → flight_at old core ≡ Some flight → Steps old core event new
+    → IsSound old → AreBeside old begun real → flight_at old core ≡ Some flight → Steps old core event new
     → StepsBeside old core event new flight begun real
-
--- ---- what further holds in each state of a run
-
--- the start of images whose starts are words, with key words
-abbrev pub StartIsBound : Type 0
-StartIsBound =
-    (images : List ProcessImage) (entries : List ThreadEntry) (free : ℕ) (keys : List ℕ)
-    → AllByRecursion (λ image. AllByRecursion (λ start. start < 2 ^ 64) image.starts) images
-    → AllByRecursion (λ key. key < 2 ^ 64) keys → IsBound (start_state images entries free keys)
-
-abbrev pub StepsKeepBound : Type 0
-StepsKeepBound =
-    (old : State) (core : ℕ) (event : Event) (new : State) → IsSound old → IsBound old → Steps old core event new → IsBound new
-
--- an instruction that goes on
-abbrev pub InstructionsKeepBound : Type 0
-InstructionsKeepBound =
-    (old : State) (core view : ℕ) (insn : Insn) (regs after : Regs) → IsBound old
-    → IsBound (with_regs (execution_in_view old core view insn regs).meaning core after)
-
--- a step in flight
-abbrev pub FlightsKeepBound : Type 0
-FlightsKeepBound =
-    (state : State) (core : ℕ) (flight : Flight) → IsSound state → IsBound state → flight_at state core ≡ Some flight
-    → IsBound (landing_step state core flight).1
-
--- ---- a bind
-
--- what bind asks for: a registered server that is not the thread's home, and fewer than fifteen bindings
-pub record CanBind (state : State) (core server : ℕ) : Type 0 where
-  pub thread : slice_get state.threads core ≡ Some (thread_at state core)
-  pub registration : Registration
-  pub registered : registration_at state server ≡ Some registration
-  pub away : server ≢ (thread_at state core).home
-  pub few : length (thread_at state core).bindings < 15
-
--- a bind
-abbrev pub BindingsKeepBound : Type 0
-BindingsKeepBound =
-    (state : State) (core server : ℕ) → IsBound state → CanBind state core server
-    → IsBound (with_binding state core (thread_at state core) (new_binding state (thread_at state core) server))
-
--- what register asks for: a process that is none yet, and a handler that is a start of its text
-pub record CanRegister (state : State) (process handler : ℕ) : Type 0 where
-  pub found : Process
-  pub there : process_at state process ≡ Some found
-  pub none : registration_at state process ≡ None
-  pub listed : is_listed found.starts handler ≡ true
-
--- a registration
-abbrev pub RegistrationsKeepBound : Type 0
-RegistrationsKeepBound =
-    (state : State) (process handler stacks : ℕ) → IsBound state → CanRegister state process handler
-    → IsBound (with_server state process handler stacks)

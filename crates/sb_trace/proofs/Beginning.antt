@@ -20,7 +20,7 @@ use Rattle.sb_state.specs.PageWords.{zeros}
 use Rattle.sb_state.specs.Start.{ProcessImage, ThreadEntry, page_padded, page_of, padded_page, page_count, padded_pages, heap_page, heap_pages, process_pages, home_words, thread_pages, trampoline_pages, images_pages, threads_pages, start_threads, start_state}
 use Rattle.sb_trace.specs.Code.{fetched_byte, code_byte, HasNoCodePattern}
 use Rattle.sb_trace.specs.Sound.{HasPage, HasView, IsFlightSound}
-use Rattle.sb_trace.specs.Laws.{HasCleanCode, StartIsSound}
+use Rattle.sb_trace.specs.Laws.{IsImageSound, StartIsSound}
 use Rattle.sb_state.proofs.Names.{name_same}
 use Rattle.sb_state.proofs.PageLists.{either, found_added}
 use Rattle.sb_state.proofs.Start.{zeros_size, record_size, EachPage, found_each, each_both, each_from}
@@ -285,10 +285,10 @@ area_is_code images entries process = record {
       (found_start images (first_pages images entries) (Area process number) page (pages_start images entries) there).2;
 }
 
-clean_code : (images : List ProcessImage) (process : ℕ) → AllByRecursion HasCleanCode images
+clean_code : (images : List ProcessImage) (process : ℕ) → AllByRecursion IsImageSound images
     → HasNoPattern (text_at images process) × HasNoPattern (area_at images process)
 clean_code [] process clean = (λ place stands. omega (arith, stands.0), λ place stands. omega (arith, stands.0))
-clean_code (image ∷ images) zero clean = clean.0
+clean_code (image ∷ images) zero clean = (clean.0.text, clean.0.area)
 clean_code (image ∷ images) (suc process) clean = clean_code images process clean.1
 
 never_by : (executable : Bool) (process number value byte : ℕ) → executable ≡ false
@@ -305,10 +305,10 @@ no_heap images process number offset byte None starts is = cc
 no_heap images process number offset byte (Some page) starts is =
     never_by page.executable process number (get_or page.bytes offset 0) byte (starts page refl).0 is
 
-start_pages_sound : (images : List ProcessImage) (entries : List ThreadEntry) → AllByRecursion HasCleanCode images
+pub code_starts_sound : (images : List ProcessImage) (entries : List ThreadEntry) → AllByRecursion IsImageSound images
     → AreCodePagesSound (first_pages images entries)
 unfolding code_byte
-start_pages_sound images entries clean = record {
+code_starts_sound images entries clean = record {
   sizes = λ name page there. (found_start images (first_pages images entries) name page (pages_start images entries) there).1;
   home = home_there images entries;
   server = server_there images entries;
@@ -339,12 +339,33 @@ none_flies zero number = refl
 none_flies (suc count) zero = refl
 none_flies (suc count) (suc number) = none_flies count number
 
-pub start_is_sound : StartIsSound
+threads_start_as_many : (entries : List ThreadEntry) (first : ℕ) → length (start_threads first entries) ≡ length entries
+threads_start_as_many [] first = refl
+threads_start_as_many (entry ∷ entries) first = ap suc (threads_start_as_many entries (first + 1))
+
+-- a flight, or none, for each thread
+pub places_start : (images : List ProcessImage) (entries : List ThreadEntry) (free : ℕ) (keys : List ℕ)
+    → length (start_state images entries free keys).flights ≡ length (start_state images entries free keys).threads
+places_start images entries free keys =
+    length-replicate {A = Option Flight} (length entries) None ∙ sym (threads_start_as_many entries 0)
+
+-- each thread starts in a view that it has
+pub views_start : (images : List ProcessImage) (entries : List ThreadEntry) (free : ℕ) (keys : List ℕ) (number : ℕ)
+    → HasView (thread_at (start_state images entries free keys) number)
+unfolding thread_at
+views_start images entries free keys number = view_starts entries 0 number
+
+-- no thread starts in flight
+pub flights_start : (images : List ProcessImage) (entries : List ThreadEntry) (free : ℕ) (keys : List ℕ) (number : ℕ)
+    → IsFlightSound (thread_at (start_state images entries free keys) number)
+    (flight_at (start_state images entries free keys) number)
 unfolding thread_at flight_at
-start_is_sound images entries free keys clean = record {
-  pages = start_pages_sound images entries clean;
-  views = λ number. view_starts entries 0 number;
-  flights =
-      λ number. subst (IsFlightSound (thread_at (start_state images entries free keys) number))
-      (sym (none_flies (length entries) number)) tt;
+flights_start images entries free keys number =
+    subst (IsFlightSound (thread_at (start_state images entries free keys) number)) (sym (none_flies (length entries) number)) tt
+
+pub start_is_sound : StartIsSound
+start_is_sound images entries free keys sound homes few words = record {
+  views = views_start images entries free keys;
+  places = places_start images entries free keys;
+  flights = flights_start images entries free keys;
 }

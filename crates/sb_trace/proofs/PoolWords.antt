@@ -21,9 +21,15 @@ pool_bytes : (found : Option Page) → ((page : Page) → found ≡ Some page �
 pool_bytes None all = tt
 pool_bytes (Some page) all = all page refl
 
+-- the bytes of a pool page are bytes
+pub pool_page_bytes : (state : State) (server : ℕ) → ArePagesSound state.pages → AreBytes (contents state (Pool server))
+unfolding contents is_code_name
+pool_page_bytes state server sound =
+    pool_bytes (find_page state.pages (Pool server)) (λ page. sound.bytes (Pool server) page refl)
+
 -- the pool word of a server is below 2^64
 pub pool_below : (state : State) (server : ℕ) → ArePagesSound state.pages → pool_word state server < 2 ^ 64
-unfolding word_at contents is_code_name
+unfolding word_at
 pool_below state server sound =
-    let bytes = pool_bytes (find_page state.pages (Pool server)) (λ page. sound.bytes (Pool server) page refl) in
-    little_from-lt 0 8 (contents state (Pool server)) (λ place. byte_below (contents state (Pool server)) place bytes)
+    little_from-lt 0 8 (contents state (Pool server))
+    (λ place. byte_below (contents state (Pool server)) place (pool_page_bytes state server sound))

@@ -44,12 +44,13 @@ pub record IsImageSound (image : ProcessImage) : Type 0 where
 abbrev pub IsEntrySound : ℕ → ThreadEntry → Type 0
 IsEntrySound processes entry = (entry.home < processes) × (entry.address < 2 ^ 64)
 
--- sound images, entries in them, and key words start a sound state
+-- at most sixteen sound images, at most 32 entries in them, and key words start a sound state
 abbrev pub StartIsSound : Type 0
 StartIsSound =
     (images : List ProcessImage) (entries : List ThreadEntry) (free : ℕ) (keys : List ℕ) → AllByRecursion IsImageSound images
+    → length images ≤ 16
     → AllByRecursion (IsEntrySound (length images)) entries
-    → length entries ≤ 2 ^ 32
+    → length entries ≤ 32
     → AllByRecursion (λ key. key < 2 ^ 64) keys → IsSound (start_state images entries free keys)
 
 abbrev pub StepsKeepSound : Type 0

@@ -1,5 +1,5 @@
 -- What holds in each state of a run (docs/LAWS.md): it holds at the start, and each step keeps it.
-use Rattle.std.specs.Prelude.{◌≡◌, ◌≢◌, ℕ, ◌%◌, ◌^◌, ◌<◌, ◌≤◌, Bool, true, false, List, [], ◌∷◌, length, Option, Some, None, slice_get}
+use Rattle.std.specs.Prelude.{◌≡◌, ◌≢◌, ℕ, ◌%◌, ◌^◌, ◌<◌, ◌≤◌, Bool, true, false, List, [], ◌∷◌, length, Option, Some, None}
 use Rattle.std.specs.List.{AllByRecursion, Contains}
 use Rattle.sb_tramp.specs.declared.record_words.RecordWords.{RecordWords}
 use Rattle.sb_tramp.specs.Home.{home_page}
@@ -15,7 +15,7 @@ use Rattle.sb_state.specs.declared.state.Decision.TheVariants as decision
 use Rattle.sb_state.specs.declared.state.Flight.{Flight}
 use Rattle.sb_state.specs.declared.state.Registration.{Registration}
 use Rattle.sb_state.specs.declared.state.Thread.{Thread}
-use Rattle.sb_state.specs.State.{State, Process, find_page, thread_at, flight_at, registration_at}
+use Rattle.sb_state.specs.State.{State, Process, find_page, thread_at, flight_at, registration_at, is_listed}
 use Rattle.sb_state.specs.Windows.{process_of_view, process_shown}
 use Rattle.sb_state.specs.Registers.{eax, ecx, rsi}
 use Rattle.sb_state.specs.Start.{record_bytes, home_words}
@@ -65,9 +65,9 @@ HaveRecords state =
 
 -- ---- processes
 
--- what a process told as a server: a handler, which is a word, and one to sixteen stacks
-pub record IsRegistrationSound (registration : Registration) : Type 0 where
-  pub handler : registration.handler < 2 ^ 64
+-- what a process told as a server: a handler, where an instruction of its text starts, and one to sixteen stacks
+pub record IsRegistrationSound (process : Process) (registration : Registration) : Type 0 where
+  pub listed : is_listed process.starts registration.handler ≡ true
   pub some : 1 ≤ registration.stacks
   pub few : registration.stacks ≤ 16
 
@@ -75,7 +75,8 @@ pub record IsRegistrationSound (registration : Registration) : Type 0 where
 pub record IsProcessSound (process : Process) : Type 0 where
   pub starts : AllByRecursion (λ start. start < 2 ^ 64) process.starts
   pub heap : process.heap_pages ≤ 512
-  pub registration : (registration : Registration) → process.registration ≡ Some registration → IsRegistrationSound registration
+  pub registration : (registration : Registration) → process.registration ≡ Some registration
+      → IsRegistrationSound process registration
 
 -- ---- threads
 
@@ -83,7 +84,7 @@ pub record IsProcessSound (process : Process) : Type 0 where
 abbrev pub HasView : Thread → Type 0
 HasView thread = (process : ℕ) × (process_of_view thread.view thread ≡ Some process)
 
--- A binding has an index from 1 to 15, and its server is another process than the thread's home, which is registered.
+-- A binding has an index from 1 to 15, and its server is a registered process other than the thread's home.
 pub record IsBindingSound (state : State) (thread : Thread) (binding : Binding) : Type 0 where
   pub least : 1 ≤ binding.index
   pub most : binding.index ≤ 15
@@ -92,14 +93,18 @@ pub record IsBindingSound (state : State) (thread : Thread) (binding : Binding) 
   pub registration : Registration
   pub registered : registration_at state binding.server ≡ Some registration
 
--- The thread's home is one of the processes, its registers are words, and its bindings have indices of their own.
+-- no two bindings have one index
+abbrev pub HaveOwnIndices : List Binding → Type 0
+HaveOwnIndices [] = Unit {0}
+HaveOwnIndices (binding ∷ bindings) = (binding_with bindings binding.index ≡ None) × HaveOwnIndices bindings
+
+-- The thread's home is one of the processes, its registers are words, and its bindings are sound and have indices of their own.
 pub record IsThreadSound (state : State) (thread : Thread) : Type 0 where
   pub home : thread.home < length state.processes
   pub words : AreWords thread.regs
   pub each : (index : ℕ) (binding : Binding) → binding_with thread.bindings index ≡ Some binding
       → IsBindingSound state thread binding
-  pub distinct : (place : ℕ) (binding : Binding) → slice_get thread.bindings place ≡ Some binding
-      → binding_with thread.bindings binding.index ≡ Some binding
+  pub own : HaveOwnIndices thread.bindings
 
 -- ---- flights
 
@@ -107,14 +112,11 @@ pub record IsThreadSound (state : State) (thread : Thread) : Type 0 where
 abbrev pub vmfunc_address : ℕ
 vmfunc_address = 0x70000040
 
--- The thread stands at the VMFUNC, with leaf 0 and the index of a binding.
+-- the thread stands at the VMFUNC, with leaf 0 and this index
 pub record StandsAtSwitch (thread : Thread) (index : ℕ) : Type 0 where
   pub address : thread.regs.rip % 2 ^ 64 ≡ vmfunc_address
   pub leaf : eax thread.regs ≡ 0
   pub names : ecx thread.regs ≡ index
-  pub away : index ≢ 0
-  pub binding : Binding
-  pub bound : binding_with thread.bindings index ≡ Some binding
 
 -- the phases that a flight comes to, in their order, by its decision
 abbrev pub phases_of : Option Decision → List ℕ
@@ -130,14 +132,14 @@ IsMask (Some decision.WrongKey) phase mask = Unit {0}
 IsMask (Some decision.PoolEmpty) phase mask = mask ≡ 0
 IsMask (Some decision.Entered) phase mask = mask ≢ 0
 
--- Before the decision the thread stands at the VMFUNC, and phase 0 found the key right. An entry leaves it in the view of the
--- binding, a refusal at home.
-abbrev pub IsThreadOfFlight : Option Decision → Thread → Flight → Type 0
-IsThreadOfFlight None thread flight =
-    (stands : StandsAtSwitch thread flight.index) × (flight.phase ≢ 0 → rsi thread.regs ≡ stands.binding.key)
-IsThreadOfFlight (Some decision.Entered) thread flight = thread.view ≡ flight.index
-IsThreadOfFlight (Some decision.WrongKey) thread flight = thread.view ≡ 0
-IsThreadOfFlight (Some decision.PoolEmpty) thread flight = thread.view ≡ 0
+-- Before the decision the thread stands at the VMFUNC, and phase 0 found the key of the binding. An entry leaves it in the view
+-- of the binding, a refusal at home.
+abbrev pub IsThreadOfFlight : Option Decision → Thread → Flight → Binding → Type 0
+IsThreadOfFlight None thread flight binding =
+    StandsAtSwitch thread flight.index × (flight.phase ≢ 0 → rsi thread.regs ≡ binding.key)
+IsThreadOfFlight (Some decision.Entered) thread flight binding = thread.view ≡ flight.index
+IsThreadOfFlight (Some decision.WrongKey) thread flight binding = thread.view ≡ 0
+IsThreadOfFlight (Some decision.PoolEmpty) thread flight binding = thread.view ≡ 0
 
 -- A thread in flight is running, the flight's index is that of a binding, also after the decision, and its phase is one of its
 -- decision.
@@ -148,7 +150,7 @@ pub record IsInFlight (thread : Thread) (flight : Flight) : Type 0 where
   pub phase : Contains (phases_of flight.decided) flight.phase
   pub word : flight.mask < 2 ^ 64
   pub mask : IsMask flight.decided flight.phase flight.mask
-  pub stage : IsThreadOfFlight flight.decided thread flight
+  pub stage : IsThreadOfFlight flight.decided thread flight binding
 
 abbrev pub IsFlightSound : Thread → Option Flight → Type 0
 IsFlightSound thread None = Unit {0}
@@ -160,7 +162,9 @@ pub record IsSound (state : State) : Type 0 where
   pub pages : ArePagesSound state.pages
   pub table : ArePagesOfTable state
   pub records : HaveRecords state
+  pub process_count : length state.processes ≤ 16
   pub processes : AllByRecursion IsProcessSound state.processes
+  pub few : length state.threads ≤ 32
   pub threads : AllByRecursion (IsThreadSound state) state.threads
   pub views : (number : ℕ) → HasView (thread_at state number)
   -- a flight, or none, for each thread
