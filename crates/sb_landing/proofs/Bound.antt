@@ -69,12 +69,12 @@ page_of (Some page) is = (page, refl)
 -- its pool page is there
 pool_there : (state : State) (server : ℕ) (registration : Registration) → IsSound state
     → registration_at state server ≡ Some registration → (page : Page) × (find_page state.pages (Pool server) ≡ Some page)
-unfolding process_at is_in_table is_of_image
+unfolding process_at is_in_table
 pool_there state server registration sound is =
     let there = server_there state server registration is in
     let below = below_length state.processes server there.0 there.1 in
     page_of (find_page state.pages (Pool server))
-    (sound.table.exactly (Pool server) refl ∙ (Decides-ltb server (length state.processes)).1 below)
+    (sound.table.exactly (Pool server) ∙ (Decides-ltb server (length state.processes)).1 below)
 
 -- ---- a binding
 
