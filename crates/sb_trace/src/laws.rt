@@ -1,6 +1,6 @@
 //! The laws of runs of the plain machine: functions without a body, each of which states one (docs/LAWS.md).
 
-ghost use Rattle.sb_trace.specs.Laws.{StartIsSound, StepsKeepSound, RunsKeepSound, LandingsDrop, StepsDrop, HasOneRun, FlightLines, StepsChange, OnePattern, RunsKeepOneSwitch, SwitchStands, HasOneText, TextsAreOfLawfulRuns, ReportsDrop, ReportsAreOfLawfulRuns};
+ghost use Rattle.sb_trace.specs.Laws.{StartIsSound, StepsKeepSound, RunsKeepSound, LandingsDrop, StepsDrop, HasOneRun, FlightLines, StepsChange, AddedPagesAreNew, OnePattern, RunsKeepOneSwitch, SwitchStands, HasOneText, TextsAreOfLawfulRuns, ReportsDrop, ReportsAreOfLawfulRuns};
 ghost use Rattle.sb_trace.specs.OneStep.{StepsOnce};
 ghost use Rattle.sb_trace.specs.Step.{Steps};
 
@@ -62,4 +62,9 @@ pub fn runs_have_one_text()
     ensures lawful { TextsAreOfLawfulRuns }
     ensures dropped { ReportsDrop }
     ensures report { ReportsAreOfLawfulRuns }
+{}
+
+/// Each page that a step adds has a name that no page had.
+pub fn added_pages_are_new()
+    ensures { AddedPagesAreNew }
 {}
