@@ -13,6 +13,7 @@ use Rattle.sb_trace.proofs.DataBytes.{bytes_start, bytes_kept}
 use Rattle.sb_trace.proofs.KeptPages.{line_kept}
 use Rattle.sb_trace.proofs.ProcessFacts.{processes_start, process_count_start, keys_start, processes_kept, process_count_kept, keys_kept}
 use Rattle.sb_trace.proofs.TableStart.{table_starts}
+use Rattle.sb_trace.proofs.TableKept.{table_kept}
 use Rattle.sb_trace.proofs.Views.{views_kept}
 use Rattle.sb_trace.proofs.Flights.{flights_kept}
 
@@ -48,6 +49,7 @@ steps_keep_sound old core event new sound steps =
     let changes = steps_change old core event new steps in
     record {
       pages = pages_kept old core event new changes sound.pages;
+      table = table_kept old core event new sound.table changes;
       process_count = process_count_kept old core event new sound.process_count changes;
       processes = processes_kept old core event new sound.processes changes;
       views = views_kept old core event new steps sound.views;
