@@ -1,6 +1,6 @@
 -- Threads, as a start has them and as a step keeps them: their homes, their registers and their bindings.
-use Rattle.std.proofs.Common.{◌≡◌, ◌≢◌, ◌∙◌, sym, ap, subst, ℕ, zero, suc, ◌+◌, ◌*◌, ◌^◌, ◌<◌, ◌≤◌, ◌⊎◌, inl, inr, Bool, true, false, ◌==◌, List, [], ◌∷◌, ◌++◌, length, map, replicate, slice_set, refl, arith}
-use Rattle.std.specs.Prelude.{Option, Some, None, slice_get, slice_index, unwrap_or, if◌then◌else◌}
+use Rattle.std.proofs.Common.{◌≡◌, ◌∙◌, sym, ap, subst, ℕ, zero, suc, ◌+◌, ◌*◌, ◌^◌, ◌<◌, ◌≤◌, ◌⊎◌, inl, inr, Bool, true, false, ◌==◌, List, [], ◌∷◌, ◌++◌, length, replicate, slice_set, refl, arith}
+use Rattle.std.specs.Prelude.{Option, Some, None, slice_get, unwrap_or, if◌then◌else◌}
 use Rattle.std.specs.List.{AllByRecursion}
 use Rattle.std.proofs.lemmas.Bool.{cases_eq}
 use Rattle.std.proofs.lemmas.Bool.Decides.{Decides-eqb}
@@ -11,13 +11,13 @@ use Rattle.sb_state.specs.declared.state.Binding.{Binding}
 use Rattle.sb_state.specs.declared.state.Thread.{Thread}
 use Rattle.sb_state.specs.Bindings.{binding_with}
 use Rattle.sb_state.specs.Start.{ProcessImage, ThreadEntry, start_registers, start_thread, start_threads, start_state}
-use Rattle.sb_state.specs.State.{State, thread_at, no_thread, registration_at}
+use Rattle.sb_state.specs.State.{State, thread_at, no_thread}
 use Rattle.sb_state.proofs.Cases.{none_some, same_some, clash}
 use Rattle.sb_trace.specs.declared.event.Event.{Event}
 use Rattle.sb_trace.specs.Step.{Steps}
 use Rattle.sb_trace.specs.Sound.{HaveOwnIndices, IsBindingSound, IsThreadSound, IsSound}
 use Rattle.sb_trace.specs.Changes.{AddsView, StepChanges}
-use Rattle.sb_trace.specs.Laws.{IsImageSound, IsEntrySound}
+use Rattle.sb_trace.specs.Laws.{IsEntrySound}
 use Rattle.sb_trace.proofs.ProcessFacts.{all_at, all_from, Adds, line_adds, as_many_processes, registered_stays, images_counted}
 use Rattle.sb_trace.proofs.ThreadWords.{zero_word, words_of, words_kept}
 

@@ -1,9 +1,8 @@
 -- Each step leaves words in the registers of the thread that makes it.
-use Rattle.std.proofs.Common.{◌≡◌, ◌≢◌, ◌∙◌, sym, ap, subst, ℕ, zero, suc, ◌+◌, ◌-◌, ◌*◌, ◌/◌, ◌%◌, ◌^◌, ◌<◌, ◌≤◌, Bool, true, false, ◌==◌, ◌&&◌, List, [], ◌∷◌, ◌++◌, length, take, drop, replicate, slice_set, refl, arith, Result, Ok, Err, length-append, length-drop}
+use Rattle.std.proofs.Common.{◌≡◌, ◌∙◌, sym, ap, subst, ℕ, zero, suc, ◌+◌, ◌-◌, ◌*◌, ◌/◌, ◌%◌, ◌^◌, ◌<◌, ◌≤◌, Bool, true, false, ◌==◌, List, [], ◌∷◌, ◌++◌, length, take, drop, replicate, slice_set, refl, arith, Result, Ok, Err, length-append, length-drop}
 use Rattle.std.specs.Prelude.{Option, Some, None, slice_get, slice_index, unwrap_or, if◌then◌else◌}
 use Rattle.std.specs.List.{AllByRecursion}
 use Rattle.std.specs.Option.{option_map, option_and_then}
-use Rattle.std.specs.Int.{w64, trailing_zeros}
 use Rattle.std.proofs.lemmas.List.{length-set, length-replicate, length-take}
 use Rattle.std.proofs.lemmas.Nat.{trailing_le}
 use Rattle.sb_abi.specs.declared.call.CallRefusal.{CallRefusal}
@@ -45,7 +44,7 @@ use Rattle.sb_state.specs.PageWords.{with_word}
 use Rattle.sb_state.specs.Pattern.{first_pattern, begins_pattern, executable_bytes, bytes_before, bytes_behind, heap_address, pattern_around, heap_pattern}
 use Rattle.sb_state.specs.PlainMemory.{plain, plain_byte, byte_seen, byte_in, is_canonical}
 use Rattle.sb_state.specs.Registers.{rax, rsi, rdi, eax, ecx, zero_flags}
-use Rattle.sb_state.specs.State.{State, Process, find_page, contents, bytes_of, thread_at, no_thread, with_thread, with_regs, with_end, with_view, with_contents, flight_at, with_flight, process_at, registration_of, registration_at}
+use Rattle.sb_state.specs.State.{State, Process, find_page, contents, bytes_of, thread_at, no_thread, with_regs, with_end, with_view, with_contents, flight_at, with_flight, process_at, registration_of, registration_at}
 use Rattle.sb_state.specs.Windows.{page_for, page_by_name, process_now, name_at, process_shown}
 use Rattle.sb_state.proofs.Cases.{claim_if}
 use Rattle.sb_state.proofs.Indices.{indices_are_free}
@@ -55,14 +54,13 @@ use Rattle.sb_trace.specs.declared.event.Event.TheVariants as line
 use Rattle.sb_trace.specs.Home.{Outcome, fault_outcome, sent_home, home_address}
 use Rattle.sb_trace.specs.KernelCall.{binding_with, pool_word, handler_in, refusal_regs, refusal_outcome, refusal_or_fault, return_outcome, lowest_bit, entry_regs, state_at_handler, entry_outcome, call_outcome, outcome_by_index, kernel_call}
 use Rattle.sb_trace.specs.Flight.{vmfunc_outcome, vmfunc_outcome_by, called_binding, landing_step, phase_outcome}
-use Rattle.sb_trace.specs.SyscallAnswer.{state_after_call, syscall_refusal, syscall_acceptance}
+use Rattle.sb_trace.specs.SyscallAnswer.{syscall_refusal, syscall_acceptance}
 use Rattle.sb_trace.specs.SyscallRegister.{refusal_of_register, with_server, register_outcome}
-use Rattle.sb_trace.specs.SyscallBind.{refusal_of_bind, first_key, new_binding, with_binding, binding_outcome, bind_outcome}
-use Rattle.sb_trace.specs.SyscallProtect.{heap_count, with_heap_mode, execute_mode_outcome, protect_outcome_by, protect_outcome}
+use Rattle.sb_trace.specs.SyscallBind.{refusal_of_bind, first_key, new_binding, with_binding, bind_outcome}
+use Rattle.sb_trace.specs.SyscallProtect.{heap_count, with_heap_mode, execute_mode_outcome, protect_outcome_by}
 use Rattle.sb_trace.specs.Syscall.{exit_outcome, outcome_by_number, syscall_outcome}
-use Rattle.sb_trace.specs.Step.{StopsWith, PerformsBy, FollowsFetch, RunsOn, execution_in_view, GoesOn, StepsBy, Steps}
+use Rattle.sb_trace.specs.Step.{StopsWith, PerformsBy, FollowsFetch, execution_in_view, GoesOn, StepsBy, Steps}
 use Rattle.sb_trace.specs.Sound.{is_code_name, IsProcessSound, IsRegistrationSound, IsSound}
-use Rattle.sb_trace.specs.Changes.{AreBytes}
 use Rattle.sb_trace.proofs.Accepted.{binding, protecting}
 use Rattle.sb_trace.proofs.CodeSound.{HaveBytes}
 use Rattle.sb_trace.proofs.PoolWords.{byte_below}
