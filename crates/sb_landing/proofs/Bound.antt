@@ -13,7 +13,7 @@ use Rattle.sb_trace.specs.State.{State, Process, find_page, thread_at, flight_at
 use Rattle.sb_trace.specs.KernelCall.{binding_with, handler_in}
 use Rattle.sb_trace.specs.Start.{record_bytes}
 use Rattle.sb_trace.specs.SyscallBind.{server_words}
-use Rattle.sb_trace.specs.Table.{is_in_table, is_of_image}
+use Rattle.sb_trace.specs.Table.{is_in_table}
 use Rattle.sb_trace.specs.Sound.{HasPage, words_of_view, IsProcessSound, IsBindingSound, IsThreadSound, IsInFlight, IsFlightSound, IsSound}
 use Rattle.sb_trace.proofs.ProcessFacts.{all_at}
 use Rattle.sb_trace.proofs.TableStart.{within}
