@@ -2,7 +2,6 @@
 use Rattle.std.proofs.Common.{◌≡◌, ◌∙◌, sym, subst, ℕ, [], ◌∷◌, length}
 use Rattle.sb_trace.specs.declared.event.Event.{Event}
 use Rattle.sb_state.specs.State.{State}
-use Rattle.sb_state.specs.Start.{start_state}
 use Rattle.sb_trace.specs.Sound.{ArePagesSound, IsSound}
 use Rattle.sb_trace.specs.Changes.{StepChanges}
 use Rattle.sb_trace.specs.Laws.{StartIsSound, StepsKeepSound, RunsKeepSound}
