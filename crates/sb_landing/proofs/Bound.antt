@@ -1,6 +1,6 @@
 -- What a sound state says of a binding: the pages that a landing reads, and the words in them.
-use Rattle.std.proofs.Common.{◌≡◌, ◌∙◌, sym, ap, subst, ℕ, zero, suc, ◌^◌, ◌<◌, ◌≤◌, Bool, true, false, List, [], ◌∷◌, ◌==◌, ◌||◌, length, refl, arith}
-use Rattle.std.specs.Prelude.{Option, Some, None, is_some, nat_lt, slice_get}
+use Rattle.std.proofs.Common.{◌≡◌, ◌∙◌, ap, subst, ℕ, zero, suc, ◌^◌, ◌<◌, ◌≤◌, Bool, true, false, List, [], ◌∷◌, ◌==◌, ◌||◌, length, refl, arith}
+use Rattle.std.specs.Prelude.{Option, Some, None, is_some, slice_get}
 use Rattle.std.specs.List.{AllByRecursion}
 use Rattle.std.proofs.lemmas.Bool.Decides.{Decides-eqb, Decides-ltb}
 use Rattle.sb_state.specs.declared.page.Page.{Page}
@@ -13,20 +13,13 @@ use Rattle.sb_trace.specs.State.{State, Process, find_page, thread_at, flight_at
 use Rattle.sb_trace.specs.KernelCall.{binding_with, handler_in}
 use Rattle.sb_trace.specs.Start.{record_bytes}
 use Rattle.sb_trace.specs.SyscallBind.{server_words}
-use Rattle.sb_trace.specs.Table.{is_in_table, is_there}
+use Rattle.sb_trace.specs.Table.{is_in_table, is_of_image}
 use Rattle.sb_trace.specs.Sound.{HasPage, words_of_view, IsProcessSound, IsBindingSound, IsThreadSound, IsInFlight, IsFlightSound, IsSound}
-use Rattle.sb_trace.proofs.Threads.{bound_there}
+use Rattle.sb_trace.proofs.Threads.{each_at, bound_there}
 use Rattle.sb_landing.proofs.Exchange.{not_zero}
 use Rattle.sb_landing.proofs.Ground.{thread_there, server_shown}
 
 -- ---- lists
-
--- what is said of each element is said of the one at a place
-pub each_at : {A : Type 0} (Claim : A → Type 0) (list : List A) (place : ℕ) (value : A) → AllByRecursion Claim list
-    → slice_get list place ≡ Some value → Claim value
-each_at Claim [] place value all is = absurd cc
-each_at Claim (first ∷ list) zero value all is = let same : first ≡ value = cc in subst Claim same all.0
-each_at Claim (first ∷ list) (suc place) value all is = each_at Claim list place value all.1 is
 
 below_length : {A : Type 0} (list : List A) (place : ℕ) (value : A) → slice_get list place ≡ Some value → place < length list
 below_length [] place value is = absurd cc

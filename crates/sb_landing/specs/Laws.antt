@@ -1,21 +1,13 @@
 -- The laws of landings that are executed instruction by instruction.
-use Rattle.std.specs.Prelude.{◌≡◌, ◌≢◌, ℕ, ◌==◌, ◌<◌, ◌^◌, List, length, Bool, true, false, Option, Some, None, Ok, slice_get, if◌then◌else◌}
+use Rattle.std.specs.Prelude.{◌≡◌, ◌≢◌, ℕ, ◌==◌, ◌<◌, length, Bool, false, Option, Some, None, Ok, if◌then◌else◌}
 use Rattle.sb_insn.specs.declared.registers.Regs.{Regs}
 use Rattle.sb_exec.specs.Fetching.{FetchesOn}
 use Rattle.sb_trace.specs.declared.event.Event.{Event}
 use Rattle.sb_state.specs.declared.state.Flight.{Flight}
-use Rattle.sb_trace.specs.SyscallRegister.{with_server}
-use Rattle.sb_trace.specs.SyscallBind.{with_binding, new_binding}
-use Rattle.sb_state.specs.declared.state.Registration.{Registration}
-use Rattle.sb_trace.specs.State.{registration_at, is_listed}
-use Rattle.sb_trace.specs.State.{Process, process_at}
-use Rattle.sb_trace.specs.State.{State, thread_at, flight_at, with_flight, with_regs}
-use Rattle.sb_trace.specs.Start.{ProcessImage, ThreadEntry, start_state}
+use Rattle.sb_trace.specs.State.{State, thread_at, flight_at, with_flight}
 use Rattle.sb_trace.specs.PlainMemory.{plain}
-use Rattle.sb_trace.specs.Flight.{first_flight, landing_step}
-use Rattle.sb_trace.specs.Step.{Steps, execution_in_view}
-use Rattle.sb_insn.specs.declared.insn.Insn.{Insn}
-use Rattle.std.specs.List.{AllByRecursion}
+use Rattle.sb_trace.specs.Flight.{first_flight}
+use Rattle.sb_trace.specs.Step.{Steps}
 use Rattle.sb_trace.specs.Sound.{IsSound}
 use Rattle.sb_landing.specs.Rows.{row_at, address_of}
 use Rattle.sb_exec.specs.Words.{AreWords}
@@ -27,7 +19,8 @@ use Rattle.sb_landing.specs.Related.{Begun, IsBeside, AreBeside}
 abbrev pub PhasesLand : Type 0
 PhasesLand =
     (state : State) (number : ℕ) (flight : Flight) (start : Regs) (failed : Bool) (real : Regs) → IsSound state
-    → flight_at state number ≡ Some flight → AtPhase state number flight start failed real → Lands state number flight start failed real
+    → flight_at state number ≡ Some flight → AtPhase state number flight start failed real
+    → Lands state number flight start failed real
 
 -- RIP is at the row of the phase
 abbrev pub PhasesStand : Type 0

@@ -18,11 +18,10 @@ use Rattle.sb_state.specs.Registers.{eax, ecx, rsi}
 use Rattle.sb_trace.specs.Home.{Outcome}
 use Rattle.sb_trace.specs.KernelCall.{binding_with, pool_word, state_at_handler, call_outcome, outcome_by_index, kernel_call, lowest_bit, entry_regs, handler_in}
 use Rattle.sb_trace.specs.Flight.{is_key, bound_pool}
-use Rattle.sb_trace.specs.Sound.{StandsAtSwitch}
 use Rattle.sb_state.proofs.Cases.{claim_if, clash}
 use Rattle.sb_state.proofs.Threads.{thread_set_there}
 use Rattle.sb_trace.proofs.Threads.{HasThread, bound_there}
-use Rattle.sb_trace.proofs.InFlight.{flight_of, IsUndecided}
+use Rattle.sb_trace.proofs.InFlight.{flight_of, StandsAtCall, IsUndecided}
 use Rattle.sb_trace.proofs.Phases.{other_number, Decides}
 
 -- ---- what is seen
@@ -153,7 +152,7 @@ behind_called state core leaf index binding decided runs none away bound sees =
     (λ bad. absurd (other_number leaf 0 bad none))
 
 -- the kernel's call of a thread at the VMFUNC, by what it sees
-pub call_behind : (state : State) (core index : ℕ) (stands : StandsAtSwitch (thread_at state core) index) (decided : Decision)
+pub call_behind : (state : State) (core index : ℕ) (stands : StandsAtCall (thread_at state core) index) (decided : Decision)
     → RunsThere state core
     → Sees decided (rsi (thread_at state core).regs == stands.binding.key) (pool_word state stands.binding.server)
     → IsBehindCall state core decided index (kernel_call state core)

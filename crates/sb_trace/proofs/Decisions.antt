@@ -16,11 +16,11 @@ use Rattle.sb_trace.specs.Home.{Outcome}
 use Rattle.sb_trace.specs.KernelCall.{binding_with, pool_word, call_outcome, outcome_by_index, kernel_call, lowest_bit}
 use Rattle.sb_trace.specs.Flight.{flight_binding, is_key, bound_pool, decided_at, phase_outcome, landing_step}
 use Rattle.sb_trace.specs.Step.{GoesOn, StepsBy}
-use Rattle.sb_trace.specs.Sound.{StandsAtSwitch, IsFlightSound}
+use Rattle.sb_trace.specs.Sound.{IsFlightSound}
 use Rattle.sb_trace.specs.Laws.{IsLineOf, IsFlightLine, FlightLines, decision_at}
 use Rattle.sb_state.proofs.Cases.{claim_if, clash, none_some}
 use Rattle.sb_trace.proofs.Threads.{bound_there}
-use Rattle.sb_trace.proofs.InFlight.{flight_of, IsDecidedSound, decided_of}
+use Rattle.sb_trace.proofs.InFlight.{flight_of, StandsAtCall, IsDecidedSound, decided_of, flight_away}
 use Rattle.sb_trace.proofs.Phases.{other_number, decides, decides_no_more}
 use Rattle.sb_trace.proofs.Deciding.{Sees, decided_sees}
 use Rattle.sb_trace.proofs.Flights.{mask_after}
@@ -72,7 +72,7 @@ called_line state core leaf index binding decided none away bound sees =
     (bound_there (thread_at state core).bindings index binding bound).0 sees))
     (λ bad. absurd (other_number leaf 0 bad none))
 
-call_line : (state : State) (core index : ℕ) (stands : StandsAtSwitch (thread_at state core) index) (decided : Decision)
+call_line : (state : State) (core index : ℕ) (stands : StandsAtCall (thread_at state core) index) (decided : Decision)
     → Sees decided (rsi (thread_at state core).regs == stands.binding.key) (pool_word state stands.binding.server)
     → HasLine decided index (kernel_call state core)
 unfolding kernel_call
@@ -100,24 +100,25 @@ landed_line state core index phase mask pool None (Some decided) is sound =
 landed_line state core index phase mask pool (Some one) (Some decided) is sound =
     absurd (none_some (decided_at phase _ _ mask) decided (decides_no_more one phase _ _ mask mask sound) is)
 
-flown_line : (state : State) (core : ℕ) (flight : Flight) → IsFlightSound (thread_at state core) (Some flight)
+flown_line : (state : State) (core : ℕ) (flight : Flight) → flight.index ≢ 0
+    → IsFlightSound (thread_at state core) (Some flight)
     → IsFlightLine flight.phase (decision_at state core flight) flight.index (landing_step state core flight).0
 unfolding landing_step
-flown_line state core flight sound =
+flown_line state core flight away sound =
     landed_line state core flight.index flight.phase flight.mask
     (bound_pool state (flight_binding (thread_at state core) flight)) flight.decided
-    (decision_at state core flight) refl (decided_of (thread_at state core) flight sound)
+    (decision_at state core flight) refl (decided_of (thread_at state core) flight away sound)
 
 on_line : (state : State) (core : ℕ) (flight : Flight) (found : Option Flight) (outcome : Outcome) → found ≡ Some flight
-    → IsFlightSound (thread_at state core) (Some flight)
+    → flight.index ≢ 0 → IsFlightSound (thread_at state core) (Some flight)
     → GoesOn state core (thread_at state core) found outcome
     → IsFlightLine flight.phase (decision_at state core flight) flight.index outcome.0
-on_line state core flight None outcome at sound runs = absurd cc
-on_line state core flight (Some one) outcome at sound is =
+on_line state core flight None outcome at away sound runs = absurd cc
+on_line state core flight (Some one) outcome at away sound is =
     let same : one ≡ flight = cc in
     subst (λ (end : Outcome). IsFlightLine flight.phase (decision_at state core flight) flight.index end.0)
     (ap (landing_step state core) (sym same) ∙ sym is)
-    (flown_line state core flight sound)
+    (flown_line state core flight away sound)
 
 -- a thread that has ended is in no flight
 ended_line : (thread : Thread) (end : EndKind) → thread.state ≡ end → thread.state ≡ Running → end ≢ Running → ⊥
@@ -125,18 +126,18 @@ ended_line thread end ended running other = other (sym ended ∙ running)
 
 by_line : (state : State) (core : ℕ) (flight : Flight) (end : EndKind) (outcome : Outcome)
     → (thread_at state core).state ≡ end → flight_at state core ≡ Some flight
-    → IsFlightSound (thread_at state core) (Some flight) → StepsBy state core (thread_at state core) end outcome
+    → flight.index ≢ 0 → IsFlightSound (thread_at state core) (Some flight) → StepsBy state core (thread_at state core) end outcome
     → IsFlightLine flight.phase (decision_at state core flight) flight.index outcome.0
-by_line state core flight Running outcome ended at sound runs =
-    on_line state core flight (flight_at state core) outcome at sound runs
-by_line state core flight (Ended status) outcome ended at sound is =
+by_line state core flight Running outcome ended at away sound runs =
+    on_line state core flight (flight_at state core) outcome at away sound runs
+by_line state core flight (Ended status) outcome ended at away sound is =
     absurd (ended_line (thread_at state core) (Ended status) ended sound.running (λ same. cc))
-by_line state core flight (Faulted kind address) outcome ended at sound is =
+by_line state core flight (Faulted kind address) outcome ended at away sound is =
     absurd (ended_line (thread_at state core) (Faulted kind address) ended sound.running (λ same. cc))
 
 pub flight_lines : FlightLines
 flight_lines old core event new flight sound steps at =
-    by_line old core flight (thread_at old core).state (
-      event,
-      new,
-    ) refl at (subst (IsFlightSound (thread_at old core)) at (sound.flights core)) steps
+    let flies : IsFlightSound (thread_at old core) (Some flight) =
+    subst (IsFlightSound (thread_at old core)) at (sound.flights core) in
+    by_line old core flight (thread_at old core).state (event, new) refl at (flight_away old core flight sound.threads flies)
+    flies steps

@@ -24,14 +24,14 @@ use Rattle.sb_trace.specs.Home.{Outcome}
 use Rattle.sb_trace.specs.KernelCall.{binding_with, pool_word, state_at_handler, call_outcome, outcome_by_index, kernel_call, lowest_bit}
 use Rattle.sb_trace.specs.Flight.{flight_binding, is_key, bound_pool, decided_at, phase_after, at_phase, next_flight, phase_outcome, landing_step, first_flight, called_binding, vmfunc_outcome_by, vmfunc_outcome}
 use Rattle.sb_trace.specs.Step.{GoesOn, StepsBy, Steps}
-use Rattle.sb_trace.specs.Sound.{ArePagesSound, StandsAtSwitch, IsMask, IsThreadOfFlight, IsInFlight, IsFlightSound, IsSound}
+use Rattle.sb_trace.specs.Sound.{ArePagesSound, IsMask, IsThreadOfFlight, IsInFlight, IsFlightSound, IsSound}
 use Rattle.sb_state.proofs.Names.{number}
 use Rattle.sb_state.proofs.Cases.{claim_if, none_some}
 use Rattle.sb_state.proofs.Threads.{set_same, thread_set, flight_there}
 use Rattle.sb_trace.proofs.Threads.{running_there, thread_other, flight_other, bound_there}
 use Rattle.sb_trace.proofs.Kernel.{Did, did_call}
 use Rattle.sb_trace.proofs.Steps.{instruction_claims, did_next, steps_change}
-use Rattle.sb_trace.proofs.InFlight.{flight_of, IsUndecided, decided_of, listed_early, listed_on, listed_first, deciding_phase}
+use Rattle.sb_trace.proofs.InFlight.{flight_of, StandsAtCall, IsUndecided, follows_of, decided_of, flight_away, listed_early, listed_on, listed_first, deciding_phase}
 use Rattle.sb_trace.proofs.Phases.{other_number, some_if, Saw, saw, Decides, decides, loads_no_more, decides_no_more, stays_undecided}
 use Rattle.sb_trace.proofs.Deciding.{IsDecidedView, IsBehindCall, call_behind, decided_sees}
 use Rattle.sb_trace.proofs.PoolWords.{pool_below}
@@ -91,7 +91,7 @@ is_called thread binding =
 stands_there : (state : State) (core : ℕ) (binding : Binding) → ArePagesSound state.pages
     → Stands (fetch_of (plain core (thread_at state core).view) state) (thread_at state core).regs.rip pattern
     → IsCalled (thread_at state core) binding
-    → StandsAtSwitch (thread_at state core) binding.index
+    → StandsAtCall (thread_at state core) binding.index
 stands_there state core binding sound stands calls =
     let there = bound_there (thread_at state core).bindings (ecx (thread_at state core).regs) binding calls.bound in
     record {
@@ -113,10 +113,13 @@ undecided_flies thread index phase mask running undecided word = record {
   phase = listed_early phase undecided.early;
   word = word;
   mask = undecided.mask;
-  stage = (undecided.stands, undecided.key);
+  stage = (
+    record { address = undecided.stands.address; leaf = undecided.stands.leaf; names = undecided.stands.names },
+    undecided.key,
+  );
 }
 
-first_flies : (thread : Thread) (index : ℕ) → thread.state ≡ Running → StandsAtSwitch thread index
+first_flies : (thread : Thread) (index : ℕ) → thread.state ≡ Running → StandsAtCall thread index
     → IsInFlight thread (first_flight index)
 first_flies thread index running stands = undecided_flies thread index 0 0 running (record {
   stands = stands;
@@ -232,18 +235,18 @@ decides_at decision.Entered phase fits pool mask at = at.0
 -- ---- the view
 
 -- behind the decision the view is right whatever the phase and the mask
-view_stays : (decided : Decision) (thread : Thread) (index phase next mask mask' : ℕ)
-    → IsThreadOfFlight (Some decided) thread (flight_of index phase mask (Some decided))
-    → IsThreadOfFlight (Some decided) thread (flight_of index next mask' (Some decided))
-view_stays decision.WrongKey thread index phase next mask mask' shows = shows
-view_stays decision.PoolEmpty thread index phase next mask mask' shows = shows
-view_stays decision.Entered thread index phase next mask mask' shows = shows
+view_stays : (decided : Decision) (thread : Thread) (index phase next mask mask' : ℕ) (binding : Binding)
+    → IsThreadOfFlight (Some decided) thread (flight_of index phase mask (Some decided)) binding
+    → IsThreadOfFlight (Some decided) thread (flight_of index next mask' (Some decided)) binding
+view_stays decision.WrongKey thread index phase next mask mask' binding shows = shows
+view_stays decision.PoolEmpty thread index phase next mask mask' binding shows = shows
+view_stays decision.Entered thread index phase next mask mask' binding shows = shows
 
-view_first : (decided : Decision) (thread : Thread) (index phase mask : ℕ) → IsDecidedView decided index thread.view
-    → IsThreadOfFlight (Some decided) thread (flight_of index phase mask (Some decided))
-view_first decision.WrongKey thread index phase mask shows = shows
-view_first decision.PoolEmpty thread index phase mask shows = shows
-view_first decision.Entered thread index phase mask shows = shows
+view_first : (decided : Decision) (thread : Thread) (index phase mask : ℕ) (binding : Binding) → IsDecidedView decided index thread.view
+    → IsThreadOfFlight (Some decided) thread (flight_of index phase mask (Some decided)) binding
+view_first decision.WrongKey thread index phase mask binding shows = shows
+view_first decision.PoolEmpty thread index phase mask binding shows = shows
+view_first decision.Entered thread index phase mask binding shows = shows
 
 -- ---- the phase behind
 
@@ -253,7 +256,7 @@ decided_next : (thread : Thread) (index phase pool mask next : ℕ) (decided : D
     → phase_after phase (Some decided) (mask_after phase pool mask) ≡ Some next
     → IsInFlight thread (flight_of index next (mask_after phase pool mask) (Some decided))
 decided_next thread index phase pool mask next decided flies is =
-    let follows = decided_of thread (flight_of index phase mask (Some decided)) flies in
+    let follows = follows_of decided phase mask flies.phase flies.mask in
     let same = keeps_by (phase == 2) phase pool mask refl (loads_no_more decided phase mask follows) in
     let chosen = subst (IsMask (Some decided) phase) (sym same) flies.mask in
     record {
@@ -263,22 +266,22 @@ decided_next thread index phase pool mask next decided flies is =
       phase = listed_on decided phase (mask_after phase pool mask) next flies.phase chosen is;
       word = subst (λ n. n < 2 ^ 64) (sym same) flies.word;
       mask = mask_stays decided phase next (mask_after phase pool mask) chosen;
-      stage = view_stays decided thread index phase next mask (mask_after phase pool mask) flies.stage;
+      stage = view_stays decided thread index phase next mask (mask_after phase pool mask) flies.binding flies.stage;
     }
 
 -- the phase behind one that decides nothing
 next_sound : (thread : Thread) (index phase pool mask : ℕ) (decided : Option Decision) (fits : Bool) (found : Option ℕ)
-    → pool < 2 ^ 64 → IsInFlight thread (flight_of index phase mask decided) → KeyMeans thread index fits
+    → index ≢ 0 → pool < 2 ^ 64 → IsInFlight thread (flight_of index phase mask decided) → KeyMeans thread index fits
     → decided_at phase fits pool mask ≡ None
     → phase_after phase decided (mask_after phase pool mask) ≡ found
     → IsFlightSound thread (option_map (at_phase (flight_of index phase (mask_after phase pool mask) decided)) found)
-next_sound thread index phase pool mask decided fits None word flies means none is = tt
-next_sound thread index phase pool mask None fits (Some next) word flies means none is =
+next_sound thread index phase pool mask decided fits None away word flies means none is = tt
+next_sound thread index phase pool mask None fits (Some next) away word flies means none is =
     undecided_flies thread index next (mask_after phase pool mask) flies.running
-    (undecided_next thread index phase pool mask next fits (decided_of thread (flight_of index phase mask None) flies) means none
+    (undecided_next thread index phase pool mask next fits (decided_of thread (flight_of index phase mask None) away flies) means none
     is)
     (loaded_word (phase == 2) pool mask word flies.word)
-next_sound thread index phase pool mask (Some decided) fits (Some next) word flies means none is =
+next_sound thread index phase pool mask (Some decided) fits (Some next) away word flies means none is =
     decided_next thread index phase pool mask next decided flies is
 
 -- the phase behind the deciding one
@@ -297,7 +300,8 @@ first_decided state core index phase mask pool next fits decided word flies at b
       phase = listed_first decided phase (mask_after phase pool mask) next (decides_at decided phase fits pool mask at) is;
       word = loaded_word (phase == 2) pool mask word flies.word;
       mask = mask_first decided phase next pool mask fits at flies.mask;
-      stage = view_first decided (thread_at (kernel_call state core).1 core) index next (mask_after phase pool mask) behind.view;
+      stage = view_first decided (thread_at (kernel_call state core).1 core) index next (mask_after phase pool mask)
+          flies.binding behind.view;
     }
 
 decided_sound : (state : State) (core index phase mask pool : ℕ) (fits : Bool) (decided : Decision) (found : Option ℕ)
@@ -322,22 +326,22 @@ seen_key state core index = is_key (binding_with (thread_at state core).bindings
 
 landed_sound : (state : State) (core index phase mask : ℕ) (decided : Option Decision) (found : Option Decision)
     → decided_at phase (seen_key state core index) (seen_pool state core index) mask ≡ found
-    → flight_at state core ≡ Some (flight_of index phase mask decided) → seen_pool state core index < 2 ^ 64
+    → flight_at state core ≡ Some (flight_of index phase mask decided) → index ≢ 0 → seen_pool state core index < 2 ^ 64
     → IsInFlight (thread_at state core) (flight_of index phase mask decided)
     → KeepsFlight core
     (phase_outcome state core (flight_of index phase (mask_after phase (seen_pool state core index) mask) decided) found)
 unfolding with_flight flight_at thread_at
-landed_sound state core index phase mask decided None is at word flies =
+landed_sound state core index phase mask decided None is at away word flies =
     let pool : ℕ = seen_pool state core index in
     set_there (IsFlightSound (thread_at state core)) state.flights core (Some (flight_of index phase mask decided))
     (next_flight (flight_of index phase (mask_after phase pool mask) decided)) None
     (flight_there state core (flight_of index phase mask decided) at)
     (next_sound (thread_at state core) index phase pool mask decided (seen_key state core index)
-    (phase_after phase decided (mask_after phase pool mask)) word flies (key_means (thread_at state core) index) is refl)
-landed_sound state core index phase mask None (Some found) is at word flies =
+    (phase_after phase decided (mask_after phase pool mask)) away word flies (key_means (thread_at state core) index) is refl)
+landed_sound state core index phase mask None (Some found) is at away word flies =
     let pool : ℕ = seen_pool state core index in
     let fits : Bool = seen_key state core index in
-    let undecided = decided_of (thread_at state core) (flight_of index phase mask None) flies in
+    let undecided = decided_of (thread_at state core) (flight_of index phase mask None) away flies in
     let deciding = decides phase fits pool mask found is in
     set_there (IsFlightSound (thread_at (kernel_call state core).1 core)) (kernel_call state core).1.flights core
     (Some (flight_of index phase mask None))
@@ -348,22 +352,23 @@ landed_sound state core index phase mask None (Some found) is at word flies =
     (phase_after phase (Some found) (mask_after phase pool mask)) word flies deciding
     (call_behind state core index undecided.stands found (running_there state core flies.running, flies.running)
     (decided_sees state (thread_at state core) index phase mask undecided found deciding)) refl)
-landed_sound state core index phase mask (Some decided) (Some found) is at word flies =
+landed_sound state core index phase mask (Some decided) (Some found) is at away word flies =
     absurd (none_some (decided_at phase (seen_key state core index) (seen_pool state core index) mask) found
     (decides_no_more decided phase (seen_key state core index) (seen_pool state core index) mask mask
-    (decided_of (thread_at state core) (flight_of index phase mask (Some decided)) flies)) is)
+    (follows_of decided phase mask flies.phase flies.mask)) is)
 
 -- a word of a page of bytes
 pool_small : (state : State) (found : Option Binding) → ArePagesSound state.pages → bound_pool state found < 2 ^ 64
 pool_small state None sound = omega arith
 pool_small state (Some binding) sound = pool_below state binding.server sound
 
-flown_sound : (state : State) (core : ℕ) (flight : Flight) → ArePagesSound state.pages → flight_at state core ≡ Some flight
+flown_sound : (state : State) (core : ℕ) (flight : Flight) → ArePagesSound state.pages → flight.index ≢ 0
+    → flight_at state core ≡ Some flight
     → IsInFlight (thread_at state core) flight
     → KeepsFlight core (landing_step state core flight)
 unfolding landing_step
-flown_sound state core flight sound at flies =
-    landed_sound state core flight.index flight.phase flight.mask flight.decided _ refl at
+flown_sound state core flight sound away at flies =
+    landed_sound state core flight.index flight.phase flight.mask flight.decided _ refl at away
     (pool_small state (flight_binding (thread_at state core) flight) sound) flies
 
 -- ---- a step
@@ -377,8 +382,10 @@ on_flight state core None outcome sound running at runs =
     (did_next state core (thread_at state core).view insn (thread_at state core).regs regs' refl))
     (λ one did. did_no_flight state core one at did) (switch_begins state core sound.pages running at) outcome runs
 on_flight state core (Some flight) outcome sound running at is =
+    let flies : IsFlightSound (thread_at state core) (Some flight) =
+    subst (IsFlightSound (thread_at state core)) at (sound.flights core) in
     subst (KeepsFlight core) (sym is)
-    (flown_sound state core flight sound.pages at (subst (IsFlightSound (thread_at state core)) at (sound.flights core)))
+    (flown_sound state core flight sound.pages (flight_away state core flight sound.threads flies) at flies)
 
 by_flight : (state : State) (core : ℕ) (end : EndKind) (outcome : Outcome) → (thread_at state core).state ≡ end → IsSound state
     → StepsBy state core (thread_at state core) end outcome → KeepsFlight core outcome

@@ -1,15 +1,19 @@
 -- What the phase of a flight says: before the decision it stands at the VMFUNC, and behind it no phase decides again.
-use Rattle.std.proofs.Common.{◌≡◌, ◌≢◌, ◌∙◌, sym, subst, ℕ, zero, suc, ◌+◌, ◌<◌, ◌≤◌, Bool, true, false, List, [], ◌∷◌, ◌==◌, ◌⊎◌, length, refl, arith, inl, inr}
+use Rattle.std.proofs.Common.{◌≡◌, ◌≢◌, ◌∙◌, sym, subst, ℕ, zero, suc, ◌+◌, ◌%◌, ◌^◌, ◌<◌, ◌≤◌, Bool, true, false, List, [], ◌∷◌, ◌==◌, ◌⊎◌, length, refl, arith, inl, inr}
 use Rattle.std.specs.Prelude.{Option, Some, None, slice_index_or, if◌then◌else◌}
 use Rattle.std.specs.List.{AllByRecursion, Contains}
+use Rattle.sb_state.specs.declared.state.Binding.{Binding}
 use Rattle.sb_state.specs.declared.state.Decision.{Decision}
 use Rattle.sb_state.specs.declared.state.Decision.TheVariants as decision
 use Rattle.sb_state.specs.declared.state.Flight.{Flight}
 use Rattle.sb_state.specs.declared.state.Thread.{Thread}
-use Rattle.sb_state.specs.Registers.{rsi}
+use Rattle.sb_state.specs.State.{State, thread_at}
+use Rattle.sb_state.specs.Registers.{eax, ecx, rsi}
 use Rattle.sb_trace.specs.Flight.{phase_after}
-use Rattle.sb_trace.specs.Sound.{StandsAtSwitch, phases_of, IsMask, IsInFlight}
+use Rattle.sb_trace.specs.KernelCall.{binding_with}
+use Rattle.sb_trace.specs.Sound.{vmfunc_address, phases_of, IsMask, IsThreadSound, IsInFlight}
 use Rattle.sb_state.proofs.Cases.{same_some}
+use Rattle.sb_trace.proofs.Threads.{each_at, running_there, bound_there}
 use Rattle.std.proofs.lemmas.Bool.Decides.{Decides-eqb}
 
 abbrev pub flight_of : ℕ → ℕ → ℕ → Option Decision → Flight
@@ -17,9 +21,18 @@ flight_of index phase mask decided = record { index = index; phase = phase; mask
 
 -- ---- what the phase says
 
+-- The thread stands at the VMFUNC, with leaf 0 and the index of a binding.
+pub record StandsAtCall (thread : Thread) (index : ℕ) : Type 0 where
+  pub address : thread.regs.rip % 2 ^ 64 ≡ vmfunc_address
+  pub leaf : eax thread.regs ≡ 0
+  pub names : ecx thread.regs ≡ index
+  pub away : index ≢ 0
+  pub binding : Binding
+  pub bound : binding_with thread.bindings index ≡ Some binding
+
 -- Before the decision: phase 0 found the key right, and phase 2 loaded a mask that is not 0.
 pub record IsUndecided (thread : Thread) (flight : Flight) : Type 0 where
-  pub stands : StandsAtSwitch thread flight.index
+  pub stands : StandsAtCall thread flight.index
   pub early : flight.phase ≤ 9
   pub key : flight.phase ≢ 0 → rsi thread.regs ≡ stands.binding.key
   pub mask : 3 ≤ flight.phase → flight.mask ≢ 0
@@ -107,7 +120,8 @@ entered_follows = (
   ),
 )
 
-follows_of : (decided : Decision) (phase mask : ℕ) → Contains (phases_of (Some decided)) phase → IsMask (Some decided) phase mask
+-- a phase of a decision follows it
+pub follows_of : (decided : Decision) (phase mask : ℕ) → Contains (phases_of (Some decided)) phase → IsMask (Some decided) phase mask
     → FollowsDecision decided phase mask
 follows_of decision.WrongKey phase mask among chosen =
     at_phase_of (λ n. (n ≡ 1) ⊎ (17 ≤ n)) (Some decision.WrongKey) phase wrong_key_follows among
@@ -118,19 +132,37 @@ follows_of decision.Entered phase mask among chosen =
     at_phase_of (λ n. (9 ≤ n) × (n ≤ 16)) (Some decision.Entered) phase entered_follows among
 
 decided_by : (thread : Thread) (index phase mask : ℕ) (decided : Option Decision)
-    → IsInFlight thread (flight_of index phase mask decided)
+    → index ≢ 0 → IsInFlight thread (flight_of index phase mask decided)
     → IsDecidedSound thread (flight_of index phase mask decided) decided
-decided_by thread index phase mask None flies = record {
-  stands = flies.stage.0;
+decided_by thread index phase mask None away flies = record {
+  stands = record {
+    address = flies.stage.0.address;
+    leaf = flies.stage.0.leaf;
+    names = flies.stage.0.names;
+    away = away;
+    binding = flies.binding;
+    bound = flies.bound;
+  };
   early = at_phase_of (λ n. n ≤ 9) None phase early_all flies.phase;
   key = flies.stage.1;
   mask = flies.mask;
 }
-decided_by thread index phase mask (Some decided) flies = follows_of decided phase mask flies.phase flies.mask
+decided_by thread index phase mask (Some decided) away flies = follows_of decided phase mask flies.phase flies.mask
 
 -- a flight that is sound is undecided, or its phase follows its decision
-pub decided_of : (thread : Thread) (flight : Flight) → IsInFlight thread flight → IsDecidedSound thread flight flight.decided
-decided_of thread flight flies = decided_by thread flight.index flight.phase flight.mask flight.decided flies
+pub decided_of : (thread : Thread) (flight : Flight) → flight.index ≢ 0 → IsInFlight thread flight
+    → IsDecidedSound thread flight flight.decided
+decided_of thread flight away flies = decided_by thread flight.index flight.phase flight.mask flight.decided away flies
+
+-- the index of a flight is that of a binding, so it is not 0
+pub flight_away : (state : State) (core : ℕ) (flight : Flight) → AllByRecursion (IsThreadSound state) state.threads
+    → IsInFlight (thread_at state core) flight → flight.index ≢ 0
+flight_away state core flight all flies none =
+    let its : IsThreadSound state (thread_at state core) =
+    each_at (IsThreadSound state) state.threads core (thread_at state core) all (running_there state core flies.running) in
+    let least = (its.each flight.index flies.binding flies.bound).least in
+    let same = (bound_there (thread_at state core).bindings flight.index flies.binding flies.bound).0 in
+    omega (arith, least, same, none)
 
 -- ---- the next phase is one of the decision's
 

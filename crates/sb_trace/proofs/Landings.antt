@@ -48,7 +48,7 @@ use Rattle.sb_state.specs.Pattern.{heap_pattern}
 use Rattle.sb_trace.specs.Run.{RunBy}
 use Rattle.sb_trace.specs.Step.{StopsWith, PerformsBy, FollowsFetch, Performs, RunsOn, execution_in_view, GoesOn, StepsBy}
 use Rattle.sb_trace.specs.OneStep.{StepsOnceBy, StepsOnce, StepsAlike, without_flights, with_line, without_landings, core_of}
-use Rattle.sb_trace.specs.Sound.{HasView, StandsAtSwitch, IsFlightSound, IsSound}
+use Rattle.sb_trace.specs.Sound.{HasView, IsFlightSound, IsSound}
 use Rattle.sb_trace.specs.Laws.{LandingsDrop, StepsDrop}
 use Rattle.sb_state.proofs.Cases.{none_some}
 use Rattle.sb_exec.specs.Operand.{next_rip}
@@ -56,7 +56,7 @@ use Rattle.sb_trace.proofs.Kernel.{IsOwn, did_fault, did_call, did_syscall}
 use Rattle.sb_trace.proofs.Phases.{decides_no_more}
 use Rattle.sb_trace.proofs.Vmfunc.{vmfunc_fetched}
 use Rattle.sb_trace.proofs.Trampoline.{switch_stands}
-use Rattle.sb_trace.proofs.InFlight.{flight_of, IsDecidedSound, decided_of}
+use Rattle.sb_trace.proofs.InFlight.{flight_of, StandsAtCall, IsDecidedSound, decided_of, flight_away}
 use Rattle.sb_trace.proofs.Flights.{mask_after}
 use Rattle.sb_trace.proofs.SoundRuns.{steps_keep_sound}
 
@@ -361,7 +361,7 @@ view_shown state core running view =
 
 -- at the VMFUNC the kernel's call is one step
 switch_once : (state : State) (core index : ℕ) → IsSound state → (thread_at state core).state ≡ Running
-    → StandsAtSwitch (thread_at state core) index
+    → StandsAtCall (thread_at state core) index
     → RunsOnce state core (kernel_call state core)
 unfolding thread_at plain_byte page_for contents
 switch_once state core index sound running stands =
@@ -417,7 +417,7 @@ flown_alike state core flight sound running flies outcome is =
     landed_alike state core flight.index flight.phase flight.mask
     (bound_pool state (flight_binding (thread_at state core) flight)) flight.decided
     (is_key (flight_binding (thread_at state core) flight) (rsi (thread_at state core).regs)) _ sound running refl
-    (decided_of (thread_at state core) flight flies) outcome is
+    (decided_of (thread_at state core) flight (flight_away state core flight sound.threads flies) flies) outcome is
 
 -- ---- a step
 

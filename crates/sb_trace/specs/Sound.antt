@@ -112,14 +112,11 @@ pub record IsThreadSound (state : State) (thread : Thread) : Type 0 where
 abbrev pub vmfunc_address : ℕ
 vmfunc_address = 0x70000040
 
--- The thread stands at the VMFUNC, with leaf 0 and the index of a binding.
+-- the thread stands at the VMFUNC, with leaf 0 and this index
 pub record StandsAtSwitch (thread : Thread) (index : ℕ) : Type 0 where
   pub address : thread.regs.rip % 2 ^ 64 ≡ vmfunc_address
   pub leaf : eax thread.regs ≡ 0
   pub names : ecx thread.regs ≡ index
-  pub away : index ≢ 0
-  pub binding : Binding
-  pub bound : binding_with thread.bindings index ≡ Some binding
 
 -- the phases that a flight comes to, in their order, by its decision
 abbrev pub phases_of : Option Decision → List ℕ
@@ -135,14 +132,14 @@ IsMask (Some decision.WrongKey) phase mask = Unit {0}
 IsMask (Some decision.PoolEmpty) phase mask = mask ≡ 0
 IsMask (Some decision.Entered) phase mask = mask ≢ 0
 
--- Before the decision the thread stands at the VMFUNC, and phase 0 found the key right. An entry leaves it in the view of the
--- binding, a refusal at home.
-abbrev pub IsThreadOfFlight : Option Decision → Thread → Flight → Type 0
-IsThreadOfFlight None thread flight =
-    (stands : StandsAtSwitch thread flight.index) × (flight.phase ≢ 0 → rsi thread.regs ≡ stands.binding.key)
-IsThreadOfFlight (Some decision.Entered) thread flight = thread.view ≡ flight.index
-IsThreadOfFlight (Some decision.WrongKey) thread flight = thread.view ≡ 0
-IsThreadOfFlight (Some decision.PoolEmpty) thread flight = thread.view ≡ 0
+-- Before the decision the thread stands at the VMFUNC, and phase 0 found the key of the binding. An entry leaves it in the view
+-- of the binding, a refusal at home.
+abbrev pub IsThreadOfFlight : Option Decision → Thread → Flight → Binding → Type 0
+IsThreadOfFlight None thread flight binding =
+    StandsAtSwitch thread flight.index × (flight.phase ≢ 0 → rsi thread.regs ≡ binding.key)
+IsThreadOfFlight (Some decision.Entered) thread flight binding = thread.view ≡ flight.index
+IsThreadOfFlight (Some decision.WrongKey) thread flight binding = thread.view ≡ 0
+IsThreadOfFlight (Some decision.PoolEmpty) thread flight binding = thread.view ≡ 0
 
 -- A thread in flight is running, the flight's index is that of a binding, also after the decision, and its phase is one of its
 -- decision.
@@ -153,7 +150,7 @@ pub record IsInFlight (thread : Thread) (flight : Flight) : Type 0 where
   pub phase : Contains (phases_of flight.decided) flight.phase
   pub word : flight.mask < 2 ^ 64
   pub mask : IsMask flight.decided flight.phase flight.mask
-  pub stage : IsThreadOfFlight flight.decided thread flight
+  pub stage : IsThreadOfFlight flight.decided thread flight binding
 
 abbrev pub IsFlightSound : Thread → Option Flight → Type 0
 IsFlightSound thread None = Unit {0}

@@ -1,5 +1,5 @@
 -- Which pages there are: those of the table of plain memory (docs/FORMATS.md, "The memory of a thread").
-use Rattle.std.specs.Prelude.{◌≡◌, ℕ, ◌*◌, ◌==◌, ◌&&◌, not, nat_lt, Bool, true, false, List, [], ◌∷◌, length, Option, Some, None, is_some}
+use Rattle.std.specs.Prelude.{◌≡◌, ℕ, ◌*◌, ◌≤◌, ◌==◌, ◌&&◌, not, nat_lt, Bool, true, false, List, [], ◌∷◌, length, Option, Some, None, is_some}
 use Rattle.sb_abi.specs.declared.space.TheConstants.{STACK_PAGES, BUFFER_PAGES}
 use Rattle.sb_state.specs.declared.page.PageName.{PageName}
 use Rattle.sb_state.specs.declared.page.PageName.TheVariants.{Text, Area, Data, Heap, Pool, ServerStack, Save, Stack, Buffer, Record, Scratch, HomeTrampoline, ServerTrampoline}
@@ -8,6 +8,20 @@ use Rattle.sb_state.specs.declared.state.Registration.{Registration}
 use Rattle.sb_state.specs.State.{State, find_page, process_at, registration_at}
 use Rattle.sb_state.specs.Windows.{process_shown}
 use Rattle.sb_trace.specs.SyscallProtect.{heap_count}
+
+-- ---- images
+
+-- the numbers of pages of a process's text, rewrite area and initial data, which never change
+pub record ImagePages : Type 0 where
+  pub text : ℕ
+  pub area : ℕ
+  pub initial : ℕ
+
+-- they are within their windows
+pub record FitWindows (image : ImagePages) : Type 0 where
+  pub text : image.text ≤ 512
+  pub area : image.area ≤ 16
+  pub initial : image.initial ≤ 512
 
 -- ---- what owns a page
 
@@ -30,29 +44,21 @@ stacks_in (Some registration) = registration.stacks
 
 -- ---- the table
 
--- Whether a page of this name may be there. Of text, rewrite area and data the table says the window, which the image of the
--- process fills from its first page on.
-unfoldable pub is_in_table : State → PageName → Bool
-is_in_table state (Text process page) = is_process_number state process && nat_lt page 512
-is_in_table state (Area process page) = is_process_number state process && nat_lt page 16
-is_in_table state (Data process page) = is_process_number state process && nat_lt page 512
-is_in_table state (Heap process page) = nat_lt page (heap_count (process_at state process))
-is_in_table state (Pool process) = is_process_number state process
-is_in_table state (ServerStack process page) = nat_lt page (STACK_PAGES * stacks_in (registration_at state process))
-is_in_table state (Save thread) = is_thread_number state thread
-is_in_table state (Stack thread page) = is_thread_number state thread && nat_lt page 4
-is_in_table state (Buffer thread view page) = not (view == 0) && (has_view state thread view && nat_lt page BUFFER_PAGES)
-is_in_table state (Record thread view) = has_view state thread view
-is_in_table state (Scratch thread view) = has_view state thread view
-is_in_table state HomeTrampoline = true
-is_in_table state ServerTrampoline = true
-
--- whether the image of a process says how many pages of this kind there are
-unfoldable pub is_of_image : PageName → Bool
-is_of_image (Text process page) = true
-is_of_image (Area process page) = true
-is_of_image (Data process page) = true
-is_of_image _ = false
+-- whether a page of this name is there, of processes with these images
+unfoldable pub is_in_table : (ℕ → ImagePages) → State → PageName → Bool
+is_in_table images state (Text process page) = is_process_number state process && nat_lt page (images process).text
+is_in_table images state (Area process page) = is_process_number state process && nat_lt page (images process).area
+is_in_table images state (Data process page) = is_process_number state process && nat_lt page (images process).initial
+is_in_table images state (Heap process page) = nat_lt page (heap_count (process_at state process))
+is_in_table images state (Pool process) = is_process_number state process
+is_in_table images state (ServerStack process page) = nat_lt page (STACK_PAGES * stacks_in (registration_at state process))
+is_in_table images state (Save thread) = is_thread_number state thread
+is_in_table images state (Stack thread page) = is_thread_number state thread && nat_lt page 4
+is_in_table images state (Buffer thread view page) = not (view == 0) && (has_view state thread view && nat_lt page BUFFER_PAGES)
+is_in_table images state (Record thread view) = has_view state thread view
+is_in_table images state (Scratch thread view) = has_view state thread view
+is_in_table images state HomeTrampoline = true
+is_in_table images state ServerTrampoline = true
 
 -- ---- the pages
 
@@ -65,8 +71,9 @@ abbrev pub HaveOwnNames : List Page → Type 0
 HaveOwnNames [] = Unit {0}
 HaveOwnNames (page ∷ pages) = (find_page pages page.name ≡ None) × HaveOwnNames pages
 
--- The pages are those of the table, each once; of an image there are no others than those of its windows.
+-- The pages are those of the table, each once, for images that fit their windows.
 pub record ArePagesOfTable (state : State) : Type 0 where
+  pub images : ℕ → ImagePages
+  pub windows : (process : ℕ) → FitWindows (images process)
   pub once : HaveOwnNames state.pages
-  pub exactly : (name : PageName) → is_of_image name ≡ false → is_there state.pages name ≡ is_in_table state name
-  pub within : (name : PageName) → is_there state.pages name ≡ true → is_in_table state name ≡ true
+  pub exactly : (name : PageName) → is_there state.pages name ≡ is_in_table images state name

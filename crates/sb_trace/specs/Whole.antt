@@ -8,16 +8,11 @@ use Rattle.sb_state.specs.declared.page.Page.{Page}
 use Rattle.sb_state.specs.State.{State, Process, find_page, registration_of}
 use Rattle.sb_state.specs.Windows.{process_shown}
 use Rattle.sb_trace.specs.SyscallProtect.{heap_count}
+pub use Rattle.sb_trace.specs.Table.{ImagePages}
 
 -- a page of this name is there
 abbrev pub IsThere : List Page → PageName → Type 0
 IsThere pages name = (page : Page) × (find_page pages name ≡ Some page)
-
--- the pages of a process's text, area and initial data, which never change
-pub record ImagePages : Type 0 where
-  pub text : ℕ
-  pub area : ℕ
-  pub initial : ℕ
 
 -- the number of a server's stacks
 abbrev pub stack_count : Option Registration → ℕ
