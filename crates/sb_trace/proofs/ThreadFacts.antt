@@ -12,6 +12,7 @@ use Rattle.sb_state.specs.declared.state.Thread.{Thread}
 use Rattle.sb_state.specs.Bindings.{binding_with}
 use Rattle.sb_state.specs.Start.{ProcessImage, ThreadEntry, start_registers, start_thread, start_threads, start_state}
 use Rattle.sb_state.specs.State.{State, thread_at, no_thread}
+use Rattle.sb_state.proofs.Start.{count_threads}
 use Rattle.sb_state.proofs.Cases.{none_some, same_some, clash}
 use Rattle.sb_trace.specs.declared.event.Event.{Event}
 use Rattle.sb_trace.specs.Step.{Steps}
@@ -28,14 +29,10 @@ pub threads_few_kept : (old : State) (core : ℕ) (event : Event) (new : State) 
     → StepChanges old core event new → length new.threads ≤ 32
 threads_few_kept old core event new few changes = let same = changes.thread.count in omega (arith, same, few)
 
-as_many_entries : (entries : List ThreadEntry) (first : ℕ) → length (start_threads first entries) ≡ length entries
-as_many_entries [] first = refl
-as_many_entries (entry ∷ entries) first = ap suc (as_many_entries entries (first + 1))
-
--- a thread for each entry
+-- there are as many threads as entries
 pub threads_few_start : (images : List ProcessImage) (entries : List ThreadEntry) (free : ℕ) (keys : List ℕ)
     → length entries ≤ 32 → length (start_state images entries free keys).threads ≤ 32
-threads_few_start images entries free keys few = let same = as_many_entries entries 0 in omega (arith, same, few)
+threads_few_start images entries free keys few = let same = count_threads 0 entries in omega (arith, same, few)
 
 -- ---- bindings
 
