@@ -14,6 +14,7 @@ use Rattle.sb_trace.proofs.KeptPages.{line_kept}
 use Rattle.sb_trace.proofs.ProcessFacts.{processes_start, process_count_start, keys_start, processes_kept, process_count_kept, keys_kept}
 use Rattle.sb_trace.proofs.TableStart.{table_starts}
 use Rattle.sb_trace.proofs.TableKept.{table_kept}
+use Rattle.sb_trace.proofs.ThreadFacts.{threads_few_start, threads_start, threads_few_kept, threads_kept}
 use Rattle.sb_trace.proofs.Views.{views_kept}
 use Rattle.sb_trace.proofs.Flights.{flights_kept}
 
@@ -26,6 +27,8 @@ start_is_sound images entries free keys sound few homes threads words = record {
   table = table_starts images entries free keys sound;
   process_count = process_count_start images entries free keys few;
   processes = processes_start images entries free keys sound;
+  few = threads_few_start images entries free keys threads;
+  threads = threads_start images entries free keys homes threads;
   views = views_start images entries free keys;
   places = places_start images entries free keys;
   flights = flights_start images entries free keys;
@@ -52,6 +55,8 @@ steps_keep_sound old core event new sound steps =
       table = table_kept old core event new sound.table changes;
       process_count = process_count_kept old core event new sound.process_count changes;
       processes = processes_kept old core event new sound.processes changes;
+      few = threads_few_kept old core event new sound.few changes;
+      threads = threads_kept old core event new sound steps changes;
       views = views_kept old core event new steps sound.views;
       places = places_kept old core event new changes sound.places;
       flights = flights_kept old core event new sound steps;

@@ -383,7 +383,7 @@ got_thread : (found : Option Thread) (one : Thread) → is_some found ≡ is_som
 got_thread None one there = absurd cc
 got_thread (Some thread) one there = refl
 
-own_view : (old : State) (core : ℕ) (new : State) (view : ℕ) → OnlyThread old core new → (adds : AddsView old core new)
+pub own_view : (old : State) (core : ℕ) (new : State) (view : ℕ) → OnlyThread old core new → (adds : AddsView old core new)
     → has_view new core view ≡ (has_view old core view || (adds.binding.index == view))
 unfolding process_shown thread_at
 own_view old core new view only adds =
@@ -395,7 +395,7 @@ own_view old core new view only adds =
     ∙ (own_view_by (view == 0) (thread_at old core).home view (thread_at old core).bindings adds.binding
     ∙ ap (λ found. is_some (option_and_then (process_of_view view) found) || (adds.binding.index == view)) (sym adds.there))))
 
-other_view : (old : State) (core : ℕ) (new : State) (thread view : ℕ) → OnlyThread old core new → thread ≢ core
+pub other_view : (old : State) (core : ℕ) (new : State) (thread view : ℕ) → OnlyThread old core new → thread ≢ core
     → has_view new thread view ≡ has_view old thread view
 unfolding process_shown
 other_view old core new thread view only apart =

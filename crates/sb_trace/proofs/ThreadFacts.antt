@@ -29,7 +29,7 @@ pub threads_few_kept : (old : State) (core : ℕ) (event : Event) (new : State) 
     → StepChanges old core event new → length new.threads ≤ 32
 threads_few_kept old core event new few changes = let same = changes.thread.count in omega (arith, same, few)
 
--- there are as many threads as entries
+-- a thread for each entry
 pub threads_few_start : (images : List ProcessImage) (entries : List ThreadEntry) (free : ℕ) (keys : List ℕ)
     → length entries ≤ 32 → length (start_state images entries free keys).threads ≤ 32
 threads_few_start images entries free keys few = let same = count_threads 0 entries in omega (arith, same, few)
@@ -124,8 +124,8 @@ found_by_index (first ∷ bindings) zero one own there =
     subst (λ (is : Binding). binding_with (first ∷ bindings) is.index ≡ Some is) (same_some first one there)
     (self_by (first.index == first.index) first.index first (binding_with bindings first.index) refl)
 found_by_index (first ∷ bindings) (suc place) one own there =
-    own_by (first.index == one.index) first one (binding_with bindings one.index)
-    (none_same first one bindings place own.0 there) (found_by_index bindings place one own.1 there)
+    own_by (first.index == one.index) first one (binding_with bindings one.index) (none_same first one bindings place own.0 there)
+    (found_by_index bindings place one own.1 there)
 
 -- ---- a binding stays sound
 
