@@ -1,7 +1,7 @@
 -- The record page of each view of each thread has its words: at the start, and after each step.
-use Rattle.std.proofs.Common.{◌≡◌, ◌≢◌, ◌∙◌, sym, ap, subst, ℕ, zero, suc, ◌+◌, ◌-◌, ◌*◌, ◌^◌, ◌≤◌, Bool, true, false, List, [], ◌∷◌, ◌++◌, ◌==◌, ◌&&◌, ◌||◌, length, refl, arith, inl, inr}
+use Rattle.std.proofs.Common.{◌≡◌, ◌∙◌, sym, ap, subst, ℕ, suc, ◌+◌, ◌-◌, ◌*◌, ◌^◌, Bool, true, false, List, [], ◌∷◌, ◌++◌, ◌==◌, ◌&&◌, ◌||◌, length, refl, arith, inl, inr}
 use Rattle.std.specs.Prelude.{Option, Some, None, is_some, slice_get, unwrap_or, if◌then◌else◌}
-use Rattle.std.specs.Option.{option_map, option_and_then}
+use Rattle.std.specs.Option.{option_map}
 use Rattle.std.proofs.lemmas.Bool.{cases_eq, and_parts, eqb-true}
 use Rattle.std.proofs.lemmas.Bool.Decides.{Decides-eqb}
 use Rattle.std.specs.List.{AllByRecursion}
@@ -18,7 +18,7 @@ use Rattle.sb_state.specs.declared.state.Registration.{Registration}
 use Rattle.sb_state.specs.declared.state.Thread.{Thread}
 use Rattle.sb_state.specs.PageName.{mode_of, permits, same_name}
 use Rattle.sb_state.specs.State.{State, find_page, thread_at, no_thread, registration_at, with_mode, page_with}
-use Rattle.sb_state.specs.Windows.{process_now, process_of_view, process_shown}
+use Rattle.sb_state.specs.Windows.{process_now, process_shown}
 use Rattle.sb_state.specs.Start.{ProcessImage, ThreadEntry, pages_from, padded_page, padded_pages, page_count, heap_page, heap_pages, process_pages, home_words, record_bytes, thread_pages, trampoline_pages, images_pages, threads_pages, start_thread, start_threads, start_state}
 use Rattle.sb_trace.specs.KernelCall.{binding_with, handler_in, pool_word}
 use Rattle.sb_trace.specs.SyscallRegister.{server_stack_page}

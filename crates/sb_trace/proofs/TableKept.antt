@@ -1,10 +1,8 @@
 -- Each step keeps the table of pages, and pages that it adds have new names.
-use Rattle.std.proofs.Common.{◌≡◌, ◌≢◌, ◌∙◌, sym, ap, subst, ℕ, zero, suc, ◌-◌, ◌*◌, ◌^◌, ◌≤◌, Bool, true, false, List, [], ◌∷◌, ◌++◌, ◌==◌, ◌&&◌, ◌||◌, drop, length, refl, arith, inl, inr}
+use Rattle.std.proofs.Common.{◌≡◌, ◌≢◌, ◌∙◌, sym, ap, subst, ℕ, zero, suc, ◌-◌, ◌*◌, ◌^◌, ◌≤◌, Bool, true, false, List, [], ◌∷◌, ◌++◌, ◌==◌, ◌&&◌, ◌||◌, length, refl, arith, inl, inr}
 use Rattle.std.specs.Prelude.{Option, Some, None, is_some, map, not, nat_lt, slice_get, slice_set, unwrap_or, if◌then◌else◌}
 use Rattle.std.specs.Option.{option_map, option_and_then}
-use Rattle.std.specs.List.{AllByRecursion}
 use Rattle.std.proofs.lemmas.Bool.{cases_eq, and_parts, ne_eqb, eqb-true, eqb-false}
-use Rattle.std.proofs.lemmas.Bool.Decides.{Decides-eqb}
 use Rattle.std.proofs.lemmas.List.{length-set}
 use Rattle.sb_memory.specs.Words.{put_word}
 use Rattle.sb_tramp.specs.declared.record_words.RecordWords.{RecordWords}
@@ -18,7 +16,7 @@ use Rattle.sb_state.specs.declared.state.Registration.{Registration}
 use Rattle.sb_state.specs.declared.state.Thread.{Thread}
 use Rattle.sb_state.specs.PageName.{same_name}
 use Rattle.sb_state.specs.PageWords.{zeros}
-use Rattle.sb_state.specs.State.{State, Process, find_page, contents, with_page_bytes, with_mode, page_with, thread_at, no_thread, process_at, registration_of, registration_at}
+use Rattle.sb_state.specs.State.{State, Process, contents, with_mode, page_with, thread_at, no_thread, process_at, registration_of, registration_at}
 use Rattle.sb_state.specs.Bindings.{binding_with}
 use Rattle.sb_state.specs.Windows.{server_of, process_of_view, process_shown, process_now}
 use Rattle.sb_state.specs.Start.{pages_from, record_bytes}
@@ -33,7 +31,7 @@ use Rattle.sb_state.proofs.Modes.{mode_changes}
 use Rattle.sb_state.proofs.Start.{EachPage, each_from}
 use Rattle.sb_state.proofs.Threads.{set_other}
 use Rattle.sb_trace.proofs.Threads.{thread_other}
-use Rattle.sb_trace.proofs.NamedPages.{same_there, same_own, changed_names, own_behind, Hold, hold_as, hold_new, hold_both, hold_one, hold_from, is_below, below_none}
+use Rattle.sb_trace.proofs.NamedPages.{same_there, same_own, changed_names, Hold, hold_as, hold_new, hold_both, hold_one, hold_from, is_below, below_none}
 use Rattle.sb_trace.proofs.NameNumbers.{server_stack_place, server_stacks_numbered, buffer_place, buffers_numbered}
 use Rattle.sb_trace.proofs.TableStart.{within}
 
