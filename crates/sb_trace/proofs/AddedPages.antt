@@ -1,18 +1,15 @@
 -- Pages that a step adds have names that no page had.
-use Rattle.std.proofs.Common.{◌≡◌, ◌∙◌, sym, ap, subst, ℕ, zero, suc, ◌-◌, ◌^◌, Bool, List, [], ◌∷◌, ◌++◌, drop, length, refl, inl, inr}
-use Rattle.std.specs.Prelude.{Option, Some, None, is_some, map}
+use Rattle.std.proofs.Common.{◌≡◌, ◌∙◌, sym, ap, subst, ℕ, suc, ◌-◌, ◌^◌, List, [], ◌∷◌, ◌++◌, drop, length, refl, inl, inr}
+use Rattle.std.specs.Prelude.{None, is_some, map}
 use Rattle.std.specs.List.{AllByRecursion}
 use Rattle.sb_trace.specs.declared.event.Event.{Event}
 use Rattle.sb_trace.specs.declared.event.Event.TheVariants.{Step as StepLine, Extra, Stray, Sys, Entered, Landing, Idle}
 use Rattle.sb_state.specs.declared.page.Page.{Page}
-use Rattle.sb_state.specs.declared.page.PageName.{PageName}
 use Rattle.sb_state.specs.declared.page.PageName.TheVariants.{Heap, Pool}
 use Rattle.sb_state.specs.State.{State, find_page, thread_at}
 use Rattle.sb_state.specs.Windows.{process_now}
 use Rattle.sb_trace.specs.KernelCall.{pool_word}
-use Rattle.sb_trace.specs.Step.{Steps}
 use Rattle.sb_trace.specs.Table.{ArePagesOfTable}
-use Rattle.sb_trace.specs.Sound.{IsSound}
 use Rattle.sb_trace.specs.Laws.{AddedPagesAreNew}
 use Rattle.sb_trace.specs.Changes.{OnlyThread, OnlyPages, CallChanges, LineChanges, StepChanges, page_name}
 use Rattle.sb_trace.proofs.NamedPages.{none_there, same_there, own_behind}
