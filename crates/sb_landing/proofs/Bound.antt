@@ -1,20 +1,18 @@
 -- What a sound state says of a binding: the pages that a landing reads, and the words in them.
-use Rattle.std.proofs.Common.{◌≡◌, ◌∙◌, ap, subst, ℕ, zero, suc, ◌^◌, ◌<◌, ◌≤◌, Bool, true, false, List, [], ◌∷◌, ◌==◌, ◌||◌, length, refl, arith}
+use Rattle.std.proofs.Common.{◌≡◌, ◌∙◌, ap, subst, ℕ, ◌^◌, ◌<◌, ◌≤◌, true, false, ◌==◌, refl, arith}
 use Rattle.std.specs.Prelude.{Option, Some, None, is_some, slice_get}
-use Rattle.std.specs.List.{AllByRecursion}
-use Rattle.std.proofs.lemmas.Bool.Decides.{Decides-eqb, Decides-ltb}
 use Rattle.sb_state.specs.declared.page.Page.{Page}
 use Rattle.sb_state.specs.declared.page.PageName.TheVariants.{Record, Pool}
 use Rattle.sb_state.specs.declared.state.Binding.{Binding}
 use Rattle.sb_state.specs.declared.state.Flight.{Flight}
 use Rattle.sb_state.specs.declared.state.Registration.{Registration}
 use Rattle.sb_state.specs.declared.state.Thread.{Thread}
-use Rattle.sb_trace.specs.State.{State, Process, find_page, thread_at, flight_at, process_at, registration_of, registration_at, is_listed}
+use Rattle.sb_trace.specs.State.{State, Process, find_page, thread_at, flight_at, process_at, registration_of, registration_at}
 use Rattle.sb_trace.specs.KernelCall.{binding_with, handler_in}
 use Rattle.sb_trace.specs.Start.{record_bytes}
 use Rattle.sb_trace.specs.SyscallBind.{server_words}
 use Rattle.sb_trace.specs.Table.{is_in_table}
-use Rattle.sb_trace.specs.Sound.{HasPage, words_of_view, IsProcessSound, IsBindingSound, IsThreadSound, IsInFlight, IsFlightSound, IsSound}
+use Rattle.sb_trace.specs.Sound.{HasPage, words_of_view, IsBindingSound, IsThreadSound, IsInFlight, IsFlightSound, IsSound}
 use Rattle.sb_trace.proofs.ProcessFacts.{all_at}
 use Rattle.sb_trace.proofs.TableStart.{within}
 use Rattle.sb_trace.proofs.Threads.{bound_there}

@@ -19,14 +19,13 @@ use Rattle.sb_state.specs.PageName.{same_name}
 use Rattle.sb_state.specs.State.{State, find_page, bytes_of, contents, with_mode, page_with, thread_at}
 use Rattle.sb_state.specs.PageWords.{zeros}
 use Rattle.sb_state.specs.Windows.{process_now}
-use Rattle.sb_state.specs.Start.{ProcessImage, ThreadEntry, record_bytes, pages_from, page_padded, page_of, padded_page, page_count, padded_pages, heap_page, heap_pages, process_pages, thread_pages, home_words, trampoline_pages, images_pages, threads_pages, start_state}
+use Rattle.sb_state.specs.Start.{ProcessImage, ThreadEntry, record_bytes, pages_from, page_of, padded_page, page_count, padded_pages, heap_page, heap_pages, process_pages, thread_pages, home_words, trampoline_pages, images_pages, threads_pages, start_state}
 use Rattle.sb_trace.specs.KernelCall.{pool_word}
 use Rattle.sb_trace.specs.SyscallRegister.{stack_bytes, server_stack_page}
 use Rattle.sb_trace.specs.SyscallBind.{buffer_page, binding_pages, server_words}
 use Rattle.sb_trace.specs.Sound.{is_code_name}
 use Rattle.sb_trace.specs.Changes.{AreBytes, OnlyPages, WritesOpen, CallChanges, LineChanges, with_first_word}
 use Rattle.sb_trace.specs.Laws.{IsImageSound}
-use Rattle.sb_state.proofs.Cases.{clash}
 use Rattle.sb_state.proofs.Names.{name_same}
 use Rattle.sb_state.proofs.PageLists.{with_bytes, with_executable, found_same, found_other, either, found_added}
 use Rattle.sb_state.proofs.Modes.{mode_same, mode_other}

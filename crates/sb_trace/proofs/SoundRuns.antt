@@ -2,7 +2,6 @@
 use Rattle.std.proofs.Common.{◌≡◌, ◌∙◌, sym, subst, ℕ, [], ◌∷◌, length}
 use Rattle.sb_trace.specs.declared.event.Event.{Event}
 use Rattle.sb_state.specs.State.{State}
-use Rattle.sb_state.specs.Start.{start_state}
 use Rattle.sb_trace.specs.Sound.{ArePagesSound, IsSound}
 use Rattle.sb_trace.specs.Changes.{StepChanges}
 use Rattle.sb_trace.specs.Laws.{StartIsSound, StepsKeepSound, RunsKeepSound}
@@ -12,6 +11,7 @@ use Rattle.sb_trace.proofs.Beginning.{first_pages, code_starts_sound, views_star
 use Rattle.sb_trace.proofs.DataBytes.{bytes_start, bytes_kept}
 use Rattle.sb_trace.proofs.KeptPages.{line_kept}
 use Rattle.sb_trace.proofs.ProcessFacts.{processes_start, process_count_start, keys_start, processes_kept, process_count_kept, keys_kept}
+use Rattle.sb_trace.proofs.Records.{records_start, records_kept}
 use Rattle.sb_trace.proofs.TableStart.{table_starts}
 use Rattle.sb_trace.proofs.TableKept.{table_kept}
 use Rattle.sb_trace.proofs.ThreadFacts.{threads_few_start, threads_start, threads_few_kept, threads_kept}
@@ -25,6 +25,7 @@ start_is_sound images entries free keys sound few homes threads words = record {
   pages = pages_of (first_pages images entries) (code_starts_sound images entries sound)
       (bytes_start images entries free keys sound);
   table = table_starts images entries free keys sound;
+  records = records_start images entries free keys;
   process_count = process_count_start images entries free keys few;
   processes = processes_start images entries free keys sound;
   few = threads_few_start images entries free keys threads;
@@ -53,6 +54,7 @@ steps_keep_sound old core event new sound steps =
     record {
       pages = pages_kept old core event new changes sound.pages;
       table = table_kept old core event new sound.table changes;
+      records = records_kept old core event new sound changes;
       process_count = process_count_kept old core event new sound.process_count changes;
       processes = processes_kept old core event new sound.processes changes;
       few = threads_few_kept old core event new sound.few changes;
