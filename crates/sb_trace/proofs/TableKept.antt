@@ -430,7 +430,7 @@ unfolding is_in_table process_at registration_at same_name
 grows_view old core new only adds =
     let index : ℕ = adds.binding.index in
     let views : (thread view : ℕ)
-        → (has_view old thread view || ((core == thread) && (index == view))) ≡ has_view new thread view =
+    → (has_view old thread view || ((core == thread) && (index == view))) ≡ has_view new thread view =
     λ (thread view : ℕ). views_by (core == thread) old core new thread view refl only adds in
     record {
       processes = ap length adds.processes;
@@ -481,7 +481,7 @@ view_fresh images old core index words none = (
   (
     none,
     each_from (λ page. is_in_table images old page.name ≡ false) (buffer_page core index) 0 4
-    (λ page. no_buffer_before images old core index page none),
+        (λ page. no_buffer_before images old core index page none),
   ),
 )
 
