@@ -72,7 +72,8 @@ pub changed_names : (change : Page → Page) → KeepsNames change → (pages : 
     → map page_name (changed change pages name) ≡ map page_name pages
 changed_names change keeps [] name = refl
 changed_names change keeps (page ∷ pages) name =
-    names_by (same_name page.name name) change keeps page pages (changed change pages name) (changed_names change keeps pages name)
+    names_by (same_name page.name name) change keeps page pages (changed change pages name)
+    (changed_names change keeps pages name)
 
 -- ---- pages behind others
 
@@ -82,7 +83,8 @@ some_either (Some page) second = refl
 
 pub there_added : (first second : List Page) (name : PageName)
     → is_there (first ++ second) name ≡ (is_there first name || is_there second name)
-there_added first second name = ap is_some (found_added first second name) ∙ some_either (find_page first name) (find_page second name)
+there_added first second name =
+    ap is_some (found_added first second name) ∙ some_either (find_page first name) (find_page second name)
 
 none_either : (first second : Option Page) → first ≡ None → second ≡ None → either first second ≡ None
 none_either None second one other = other

@@ -324,7 +324,8 @@ process_first entries process image =
     (each_both (IsFirstPage entries) (padded_pages (Area process) 0xCC image.area) _
     (each_from (IsFirstPage entries) (padded_page (Area process) 0xCC image.area) 0 (page_count (length image.area)) (λ page. tt))
     (each_both (IsFirstPage entries) (padded_pages (Data process) 0 image.initial) _
-    (each_from (IsFirstPage entries) (padded_page (Data process) 0 image.initial) 0 (page_count (length image.initial)) (λ page. tt))
+    (each_from (IsFirstPage entries) (padded_page (Data process) 0 image.initial) 0 (page_count (length image.initial))
+    (λ page. tt))
     (each_both (IsFirstPage entries) (heap_pages process image.heap_pages) _
     (each_from (IsFirstPage entries) (heap_page process) 0 image.heap_pages (λ page. tt)) (tt, tt))))
 
@@ -398,7 +399,8 @@ records_start images entries free keys number view process shown =
     let parts = and_parts (is_some (slice_get entries number)) (view == 0) own in
     let there = there_page (find_page state.pages (Record number view))
     (start_there images entries free keys number view ∙ ap is_some shown) in
-    let first = found_each (IsFirstPage entries) state.pages (Record number view) there.0 (pages_first images entries) there.1 in (
+    let first = found_each (IsFirstPage entries) state.pages (Record number view) there.0 (pages_first images entries)
+    there.1 in (
       there.0,
       there.1,
       subst (λ name. IsFirst entries name there.0.bytes) (found_name state.pages (Record number view) there.0 there.1) first

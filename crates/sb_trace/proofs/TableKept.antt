@@ -228,7 +228,8 @@ stacks_by true processes process other page handler stacks found is there none =
     subst (λ (n : ℕ). (nat_lt page (4 * stacks_in (registration_of (slice_get processes n))) || nat_lt page (4 * stacks))
     ≡ nat_lt page (4 * stacks_in (registration_of (slice_get (slice_set processes process (server found handler stacks)) n))))
     same
-    (ap (λ (test : Bool). test || nat_lt page (4 * stacks)) (none_before process (slice_get processes process) found page there none)
+    (ap (λ (test : Bool). test || nat_lt page (4 * stacks)) (none_before process
+    (slice_get processes process) found page there none)
     ∙ ap (λ (one : Option Process). nat_lt page (4 * stacks_in (registration_of one)))
     (sym (set_got processes process found (server found handler stacks) there)))
 stacks_by false processes process other page handler stacks found is there none =
@@ -377,7 +378,8 @@ own_view_by false home view bindings last =
     served (bindings ++ last ∷ []) view
     ∙ (bound_behind bindings last view ∙ ap (λ (test : Bool). test || (last.index == view)) (sym (served bindings view)))
 
-got_thread : (found : Option Thread) (one : Thread) → is_some found ≡ is_some (Some one) → found ≡ Some (unwrap_or found no_thread)
+got_thread : (found : Option Thread) (one : Thread) → is_some found ≡ is_some (Some one)
+    → found ≡ Some (unwrap_or found no_thread)
 got_thread None one there = absurd cc
 got_thread (Some thread) one there = refl
 
@@ -519,7 +521,8 @@ written_kept old core view new thread writes table =
 
 line_kept : (old : State) (core : ℕ) (event : Event) (new : State) → OnlyThread old core new → LineChanges old core event new
     → ArePagesOfTable old → ArePagesOfTable new
-line_kept old core (StepLine rip) new thread writes table = written_kept old core (thread_at old core).view new thread writes table
+line_kept old core (StepLine rip) new thread writes table =
+    written_kept old core (thread_at old core).view new thread writes table
 line_kept old core (Extra rip) new thread writes table = written_kept old core (thread_at old core).view new thread writes table
 line_kept old core (Stray rip) new thread writes table = written_kept old core (thread_at old core).view new thread writes table
 line_kept old core (Entered index slot) new thread enters table =

@@ -102,7 +102,8 @@ below_if : (test : Bool) (count page : ℕ) → is_below count (if test then Som
 below_if true count page = refl
 below_if false count page = refl
 
-last_below : (test : Bool) (count page : ℕ) → (is_below count (if test then Some page else None) || false) ≡ (test && nat_lt page count)
+last_below : (test : Bool) (count page : ℕ)
+    → (is_below count (if test then Some page else None) || false) ≡ (test && nat_lt page count)
 last_below test count page = or_false (is_below count (if test then Some page else None)) ∙ below_if test count page
 
 process_names : (process : ℕ) (image : ProcessImage) (name : PageName)
@@ -140,10 +141,12 @@ process_held process image =
     (λ name. is_below image.heap_pages (heap_place process name)) (λ name. same_name (Pool process) name)
     (hold_from (heap_page process) (heap_place process) image.heap_pages (heaps_numbered process)) (hold_one (pool_page process))
     (each_from (λ page. same_name (Pool process) page.name ≡ false) (heap_page process) 0 image.heap_pages (λ number. refl)) in
-    let given = hold_both (padded_pages (Data process) 0 image.initial) (heap_pages process image.heap_pages ++ pool_page process ∷ [])
+    let given =
+    hold_both (padded_pages (Data process) 0 image.initial) (heap_pages process image.heap_pages ++ pool_page process ∷ [])
     (λ name. is_below initials (data_place process name))
     (λ name. is_below image.heap_pages (heap_place process name) || same_name (Pool process) name)
-    (hold_from (padded_page (Data process) 0 image.initial) (data_place process) initials (data_numbered process 0 image.initial)) heaps
+    (hold_from (padded_page (Data process) 0 image.initial) (data_place process) initials
+    (data_numbered process 0 image.initial)) heaps
     (each_from
     (λ page. (is_below image.heap_pages (heap_place process page.name) || same_name (Pool process) page.name) ≡ false)
     (padded_page (Data process) 0 image.initial) 0 initials (λ number. refl)) in
@@ -152,7 +155,8 @@ process_held process image =
     (λ name. is_below areas (area_place process name))
     (λ name. is_below initials (data_place process name) || (is_below image.heap_pages (heap_place process name) || same_name
     (Pool process) name))
-    (hold_from (padded_page (Area process) 0xCC image.area) (area_place process) areas (areas_numbered process 0xCC image.area)) given
+    (hold_from (padded_page (Area process) 0xCC image.area) (area_place process) areas
+    (areas_numbered process 0xCC image.area)) given
     (each_from
     (λ page. (is_below initials (data_place process page.name) || (is_below image.heap_pages (heap_place process page.name)
     || same_name (Pool process) page.name)) ≡ false)
@@ -163,7 +167,8 @@ process_held process image =
     (λ name. is_below texts (text_place process name))
     (λ name. is_below areas (area_place process name) || (is_below initials (data_place process name) ||
     (is_below image.heap_pages (heap_place process name) || same_name (Pool process) name)))
-    (hold_from (padded_page (Text process) 0xCC image.text) (text_place process) texts (texts_numbered process 0xCC image.text)) area
+    (hold_from (padded_page (Text process) 0xCC image.text) (text_place process) texts
+    (texts_numbered process 0xCC image.text)) area
     (each_from
     (λ page. (is_below areas (area_place process page.name) || (is_below initials (data_place process page.name) ||
     (is_below image.heap_pages (heap_place process page.name) || same_name (Pool process) page.name))) ≡ false)
@@ -562,7 +567,10 @@ start_table images entries free keys (Scratch thread view) =
 start_table images entries free keys HomeTrampoline =
     rw (none_of in_image 0 images HomeTrampoline (λ image. refl), none_of in_entry 0 entries HomeTrampoline (λ entry. refl)) refl
 start_table images entries free keys ServerTrampoline =
-    rw (none_of in_image 0 images ServerTrampoline (λ image. refl), none_of in_entry 0 entries ServerTrampoline (λ entry. refl)) refl
+    rw (
+      none_of in_image 0 images ServerTrampoline (λ image. refl),
+      none_of in_entry 0 entries ServerTrampoline (λ entry. refl),
+    ) refl
 
 -- ---- the windows
 
