@@ -399,8 +399,8 @@ records_start images entries free keys number view process shown =
     let parts = and_parts (is_some (slice_get entries number)) (view == 0) own in
     let there = there_page (find_page state.pages (Record number view))
     (start_there images entries free keys number view ∙ ap is_some shown) in
-    let first = found_each (IsFirstPage entries) state.pages (Record number view) there.0 (pages_first images entries)
-    there.1 in (
+    let first =
+    found_each (IsFirstPage entries) state.pages (Record number view) there.0 (pages_first images entries) there.1 in (
       there.0,
       there.1,
       subst (λ name. IsFirst entries name there.0.bytes) (found_name state.pages (Record number view) there.0 there.1) first
