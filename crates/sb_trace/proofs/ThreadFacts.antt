@@ -90,7 +90,7 @@ own_added [] binding own free = (refl, tt)
 own_added (first ∷ bindings) binding own free =
     let parts = not_first (first.index == binding.index) first (binding_with bindings binding.index) free in (
       none_or_last bindings binding first.index own.0
-      (turned_by (binding.index == first.index) first.index binding.index refl parts.0),
+          (turned_by (binding.index == first.index) first.index binding.index refl parts.0),
       own_added bindings binding own.1 parts.1,
     )
 
@@ -124,8 +124,8 @@ found_by_index (first ∷ bindings) zero one own there =
     subst (λ (is : Binding). binding_with (first ∷ bindings) is.index ≡ Some is) (same_some first one there)
     (self_by (first.index == first.index) first.index first (binding_with bindings first.index) refl)
 found_by_index (first ∷ bindings) (suc place) one own there =
-    own_by (first.index == one.index) first one (binding_with bindings one.index) (none_same first one bindings place own.0 there)
-    (found_by_index bindings place one own.1 there)
+    own_by (first.index == one.index) first one (binding_with bindings one.index)
+    (none_same first one bindings place own.0 there) (found_by_index bindings place one own.1 there)
 
 -- ---- a binding stays sound
 
