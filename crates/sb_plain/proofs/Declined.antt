@@ -1,21 +1,39 @@
--- A refused system call leaves all but five registers of its thread as it was.
-use Rattle.std.proofs.Common.{◌≡◌, ◌≢◌, ℕ, ◌+◌, ◌<◌, ◌==◌, Bool, true, false, List, length, Option, Some, None, refl, sym, ap, ◌∙◌, subst, if◌then◌else◌, get_or-set_other, get_or-set_same}
+-- A refused system call leaves all but five registers of its thread as they were.
+use Rattle.std.proofs.Common.{◌≡◌, ◌≢◌, ℕ, zero, suc, ◌+◌, ◌<◌, ◌==◌, Bool, true, false, List, [], ◌∷◌, length, Option, Some, None, Result, Ok, Err, refl, sym, ap, ◌∙◌, subst, if◌then◌else◌, get_or-set_other, get_or-set_same}
 use Rattle.std.proofs.lemmas.List.{length-set}
 use Rattle.std.specs.Prelude.{slice_index, slice_get, slice_set, unwrap_or}
 use Rattle.std.proofs.lemmas.Option.{slice_get_read}
 use Rattle.sb_insn.specs.Registers.{flags_image}
+use Rattle.sb_insn.specs.declared.insn.Insn.{Insn}
 use Rattle.sb_insn.specs.declared.registers.Regs.{Regs}
+use Rattle.sb_bus.specs.declared.stop.BusStop.{BusStop}
+use Rattle.sb_bus.specs.declared.stop.BusStop.TheVariants.{Fault as FaultStop, Missing}
+use Rattle.sb_bus.specs.declared.stop.FaultKind.{FaultKind}
+use Rattle.sb_bus.specs.declared.stop.FaultKind.TheVariants as kind
+use Rattle.sb_exec.specs.declared.action.Effect.{Effect}
+use Rattle.sb_exec.specs.declared.action.Effect.TheVariants.{Next, Syscall, Switch, Undefined}
+use Rattle.sb_exec.specs.Execution.{Execution}
+use Rattle.sb_exec.specs.Operand.{next_rip}
 use Rattle.sb_trace.specs.declared.event.Event.{Event}
+use Rattle.sb_trace.specs.declared.event.Event.TheVariants.{Unbound, BadLeaf, Turn, Return}
+use Rattle.sb_state.specs.declared.end_kind.EndKind.{EndKind}
+use Rattle.sb_state.specs.declared.end_kind.EndKind.TheVariants.{Running, Ended, Faulted}
+use Rattle.sb_state.specs.declared.state.Binding.{Binding}
+use Rattle.sb_state.specs.declared.state.Decision.{Decision}
+use Rattle.sb_state.specs.declared.state.Flight.{Flight}
 use Rattle.sb_state.specs.declared.state.Thread.{Thread}
-use Rattle.sb_trace.specs.Home.{Outcome}
-use Rattle.sb_state.specs.Registers.{rax, rdi, rsi}
-use Rattle.sb_state.specs.State.{State, thread_at, no_thread, with_regs}
+use Rattle.sb_state.specs.Registers.{eax, ecx, rdi, rsi}
+use Rattle.sb_state.specs.State.{State, thread_at, flight_at, no_thread, with_regs}
+use Rattle.sb_trace.specs.Home.{Outcome, fault_outcome}
+use Rattle.sb_trace.specs.KernelCall.{binding_with, pool_word, refusal_or_fault, call_outcome, kernel_call}
+use Rattle.sb_trace.specs.Flight.{phase_outcome, landing_step, called_binding, vmfunc_outcome_by, vmfunc_outcome}
+use Rattle.sb_trace.specs.Step.{StopsWith, outcome_by_effect, PerformsBy, execution_in_view, FollowsFetch, GoesOn, StepsBy, Steps}
 use Rattle.sb_state.specs.Windows.{process_now}
 use Rattle.sb_abi.specs.declared.call.CallRefusal.{CallRefusal}
 use Rattle.sb_abi.specs.declared.call.CallRefusal.TheVariants.{NoCall, Pattern}
 use Rattle.sb_abi.specs.Numbers.{refusal_number}
 use Rattle.sb_calls.specs.SyscallRegisters.{after_syscall, regs_with_answer}
-use Rattle.sb_trace.specs.SyscallAnswer.{state_after_call, syscall_refusal}
+use Rattle.sb_trace.specs.SyscallAnswer.{syscall_refusal}
 use Rattle.sb_trace.specs.SyscallRegister.{register_outcome}
 use Rattle.sb_trace.specs.SyscallBind.{bind_outcome}
 use Rattle.sb_trace.specs.SyscallProtect.{execute_mode_outcome, protect_outcome_by}
@@ -23,9 +41,9 @@ use Rattle.sb_trace.specs.Syscall.{exit_outcome, outcome_by_number, syscall_outc
 use Rattle.sb_state.specs.Pattern.{heap_pattern}
 use Rattle.sb_plain.specs.Declined.{IsDeclined, KeepsOthers, LeavesAll}
 
--- what is said of a call's outcome
-abbrev Leaves : State → ℕ → Regs → Outcome → Type 0
-Leaves state number regs outcome = IsDeclined outcome.0 → LeavesAll state outcome.1 number regs
+-- what is said of a step's outcome
+abbrev Leaves : State → ℕ → Outcome → Type 0
+Leaves state number outcome = IsDeclined outcome.0 → LeavesAll state outcome.1 number
 
 -- ---- a refusal
 
@@ -61,71 +79,170 @@ regs_there state number regs inside =
 
 -- ---- the calls
 
-by_test : (state : State) (number : ℕ) (regs : Regs) (test : Bool) (first second : Outcome) → Leaves state number regs first
-    → Leaves state number regs second → Leaves state number regs (if test then first else second)
-by_test state number regs true first second one other = one
-by_test state number regs false first second one other = other
+by_test : (state : State) (number : ℕ) (test : Bool) (first second : Outcome) → Leaves state number first
+    → Leaves state number second → Leaves state number (if test then first else second)
+by_test state number true first second one other = one
+by_test state number false first second one other = other
 
--- a SYSCALL that began with these registers, and whose next instruction is at this address
-module _ (address : ℕ) (regs : Regs) where
+-- a SYSCALL of the thread of this number, whose next instruction is at this address
+module _ (address : ℕ) (state : State) (number : ℕ) (inside : number < length state.threads) where
   abbrev next : Regs
-  next = after_syscall address regs
+  next = after_syscall address (thread_at state number).regs
 
-  declined_leaves : (state : State) (number : ℕ) (answer second : ℕ) → number < length state.threads
-      → LeavesAll state (state_after_call state number next answer second) number regs
-  declined_leaves state number answer second inside =
-      let there = regs_there state number (regs_with_answer next answer second) inside in
+  refused_leaves : (refusal : CallRefusal) (second : ℕ) → Leaves state number (syscall_refusal state number next refusal second)
+  refused_leaves refusal second declined =
+      let there = regs_there state number (regs_with_answer next (refusal_number refusal) second) inside in
       record {
         state = ap (λ (left : Regs). with_regs state number left) (sym there);
-        registers = subst (λ (left : Regs). KeepsOthers regs left) (sym there) (others_stay address regs answer second);
+        registers = subst (λ (left : Regs). KeepsOthers (thread_at state number).regs left) (sym there)
+            (others_stay address (thread_at state number).regs (refusal_number refusal) second);
       }
 
-  refused_leaves : (state : State) (number : ℕ) (refusal : CallRefusal) (second : ℕ) → number < length state.threads
-      → Leaves state number regs (syscall_refusal state number next refusal second)
-  refused_leaves state number refusal second inside =
-      λ refused. declined_leaves state number (refusal_number refusal) second inside
+  exit_leaves : Leaves state number (exit_outcome state number next)
+  exit_leaves = by_test state number ((thread_at state number).view == 0) _ _ (λ no. absurd no) (λ no. absurd no)
 
-  exit_leaves : (state : State) (number : ℕ) → Leaves state number regs (exit_outcome state number next)
-  exit_leaves state number =
-      by_test state number regs ((thread_at state number).view == 0) _ _ (λ no. absurd no) (λ no. absurd no)
+  register_leaves : (process : ℕ) (refusal : Option CallRefusal)
+      → Leaves state number (register_outcome state number next process refusal)
+  register_leaves process (Some refusal) = refused_leaves refusal 0
+  register_leaves process None = λ refused. absurd (refused refl)
 
-  register_leaves : (state : State) (number process : ℕ) (refusal : Option CallRefusal) → number < length state.threads
-      → Leaves state number regs (register_outcome state number next process refusal)
-  register_leaves state number process (Some refusal) inside = refused_leaves state number refusal 0 inside
-  register_leaves state number process None inside = λ refused. absurd (refused refl)
+  bind_leaves : (thread : Thread) (refusal : Option CallRefusal) → Leaves state number (bind_outcome state number thread next refusal)
+  bind_leaves thread (Some refusal) = refused_leaves refusal 0
+  bind_leaves thread None = λ refused. absurd (refused refl)
 
-  bind_leaves : (state : State) (number : ℕ) (thread : Thread) (refusal : Option CallRefusal) → number < length state.threads
-      → Leaves state number regs (bind_outcome state number thread next refusal)
-  bind_leaves state number thread (Some refusal) inside = refused_leaves state number refusal 0 inside
-  bind_leaves state number thread None inside = λ refused. absurd (refused refl)
+  execute_leaves : (process page : ℕ) (found : Option ℕ)
+      → Leaves state number (execute_mode_outcome state number next process page found)
+  execute_leaves process page (Some address) = refused_leaves Pattern address
+  execute_leaves process page None = λ refused. absurd (refused refl)
 
-  execute_leaves : (state : State) (number process page : ℕ) (found : Option ℕ) → number < length state.threads
-      → Leaves state number regs (execute_mode_outcome state number next process page found)
-  execute_leaves state number process page (Some address) inside = refused_leaves state number Pattern address inside
-  execute_leaves state number process page None inside = λ refused. absurd (refused refl)
-
-  protect_leaves : (state : State) (number process page mode : ℕ) (refusal : Option CallRefusal) → number < length state.threads
-      → Leaves state number regs (protect_outcome_by state number next process page mode refusal)
-  protect_leaves state number process page mode (Some refusal) inside = refused_leaves state number refusal 0 inside
-  protect_leaves state number process page mode None inside =
-      by_test state number regs (mode == 1) _ _
-      (execute_leaves state number process page (heap_pattern state process page) inside)
+  protect_leaves : (process page mode : ℕ) (refusal : Option CallRefusal)
+      → Leaves state number (protect_outcome_by state number next process page mode refusal)
+  protect_leaves process page mode (Some refusal) = refused_leaves refusal 0
+  protect_leaves process page mode None =
+      by_test state number (mode == 1) _ _ (execute_leaves process page (heap_pattern state process page))
       (λ refused. absurd (refused refl))
 
-  number_leaves : (state : State) (number : ℕ) (thread : Thread) (call : ℕ) → number < length state.threads
-      → Leaves state number regs (outcome_by_number state number thread next call)
-  number_leaves state number thread call inside =
-      by_test state number regs (call == 0) _ _ (exit_leaves state number)
-      (by_test state number regs (call == 1) _ _ (λ no. absurd no)
-      (by_test state number regs (call == 2) _ _ (register_leaves state number (process_now thread) _ inside)
-      (by_test state number regs (call == 3) _ _ (bind_leaves state number thread _ inside)
-      (by_test state number regs (call == 4) _ _ (protect_leaves state number (process_now thread) (rdi next) (rsi next) _ inside)
-      (refused_leaves state number NoCall 0 inside)))))
+  number_leaves : (thread : Thread) (call : ℕ) → Leaves state number (outcome_by_number state number thread next call)
+  number_leaves thread call =
+      by_test state number (call == 0) _ _ exit_leaves
+      (by_test state number (call == 1) _ _ (λ no. absurd no)
+      (by_test state number (call == 2) _ _ (register_leaves (process_now thread) _)
+      (by_test state number (call == 3) _ _ (bind_leaves thread _)
+      (by_test state number (call == 4) _ _ (protect_leaves (process_now thread) (rdi next) (rsi next) _)
+      (refused_leaves NoCall 0)))))
 
-  -- a refused call, by its line and the state that it left
-  pub called_leaves : (state : State) (number : ℕ) (line : Event) (after : State) → number < length state.threads
-      → ◌≡◌ {A = Outcome} (line, after) (syscall_outcome state number next) → IsDeclined line → LeavesAll state after number regs
-  unfolding syscall_outcome
-  called_leaves state number line after inside is =
-      subst (λ (outcome : Outcome). Leaves state number regs outcome) (sym is)
-      (number_leaves state number (thread_at state number) (rax next) inside)
+-- ---- lines of no system call
+
+-- its line is not that of a refused call
+abbrev IsOther : Outcome → Type 0
+IsOther outcome = IsDeclined outcome.0 → ⊥
+
+other_by_test : (test : Bool) (first second : Outcome) → IsOther first → IsOther second → IsOther (if test then first else second)
+other_by_test true first second one other = one
+other_by_test false first second one other = other
+
+fault_is_other : (state : State) (number : ℕ) (kind : FaultKind) (address : ℕ) → IsOther (fault_outcome state number kind address)
+fault_is_other state number kind address =
+    other_by_test ((thread_at state number).view == 0) _ _ (λ declined. declined) (λ declined. declined)
+
+stop_is_other : (state : State) (number : ℕ) (stop : BusStop) (outcome : Outcome) → StopsWith state number stop outcome
+    → IsOther outcome
+stop_is_other state number (FaultStop kind address) outcome stops =
+    subst IsOther (sym stops) (fault_is_other state number kind address.0)
+stop_is_other state number (Missing frame) outcome stops = absurd stops
+
+stay_is_other : (state : State) (number : ℕ) (thread : Thread) (line : Event) (status : ℕ) → (IsDeclined line → ⊥)
+    → IsOther (refusal_or_fault state number thread line status)
+stay_is_other state number thread line status other =
+    other_by_test (thread.view == 0) _ _ other (fault_is_other state number kind.Switch thread.regs.rip)
+
+return_is_other : (test : Bool) → IsDeclined (if test then Turn else Return) → ⊥
+return_is_other true declined = declined
+return_is_other false declined = declined
+
+call_is_other : (state : State) (number : ℕ) (thread : Thread) (index : ℕ) (binding : Option Binding)
+    → IsOther (call_outcome state number thread index binding)
+call_is_other state number thread index None = stay_is_other state number thread (Unbound index) _ (λ declined. declined)
+call_is_other state number thread index (Some binding) =
+    other_by_test (rsi thread.regs == binding.key) _ _
+    (other_by_test (pool_word state binding.server == 0) _ _ (λ declined. declined) (λ declined. declined))
+    (λ declined. declined)
+
+-- a call or a return through VMFUNC
+kernel_is_other : (state : State) (number : ℕ) → IsOther (kernel_call state number)
+unfolding kernel_call
+kernel_is_other state number =
+    let thread = thread_at state number in
+    other_by_test (eax thread.regs == 0) _ _
+    (other_by_test (ecx thread.regs == 0) _ _ (return_is_other (thread.view == 0))
+    (call_is_other state number thread (ecx thread.regs) (binding_with thread.bindings (ecx thread.regs))))
+    (stay_is_other state number thread (BadLeaf (ecx thread.regs)) _ (λ declined. declined))
+
+vmfunc_is_other : (state : State) (number : ℕ) (binding : Option Binding) → IsOther (vmfunc_outcome_by state number binding)
+vmfunc_is_other state number None = kernel_is_other state number
+vmfunc_is_other state number (Some binding) = λ declined. declined
+
+phase_is_other : (state : State) (number : ℕ) (flight : Flight) (decided : Option Decision)
+    → IsOther (phase_outcome state number flight decided)
+phase_is_other state number flight None = λ declined. declined
+phase_is_other state number flight (Some decided) = kernel_is_other state number
+
+-- ---- a step
+
+-- a thread that runs is there
+running_inside : (threads : List Thread) (number : ℕ) → (unwrap_or (slice_get threads number) no_thread).state ≡ Running
+    → number < length threads
+unfolding no_thread
+running_inside [] number running = absurd cc
+running_inside (first ∷ threads) zero running = omega arith
+running_inside (first ∷ threads) (suc number) running = omega (arith, running_inside threads number running)
+
+module _ (state : State) (number : ℕ) (outcome : Outcome) where
+  other_leaves : IsOther outcome → Leaves state number outcome
+  other_leaves other = λ declined. absurd (other declined)
+
+  effect_leaves : (insn : Insn) (effect : Effect) (left : Regs) (after : State) → number < length state.threads
+      → outcome ≡ outcome_by_effect vmfunc_outcome state number insn (thread_at state number).regs effect left after
+      → Leaves state number outcome
+  unfolding vmfunc_outcome syscall_outcome
+  effect_leaves insn Next left after inside is = other_leaves (subst IsOther (sym is) (λ declined. declined))
+  effect_leaves insn Syscall left after inside is =
+      subst (Leaves state number) (sym is)
+      (number_leaves (next_rip insn (thread_at state number).regs) state number inside (thread_at state number) _)
+  effect_leaves insn Undefined left after inside is = other_leaves (subst IsOther (sym is) (fault_is_other state number _ _))
+  effect_leaves insn Switch left after inside is =
+      other_leaves (subst IsOther (sym is) (vmfunc_is_other state number (called_binding (thread_at state number))))
+
+  performed_leaves : (insn : Insn) (answer : Result Effect BusStop) (left : Regs) (after : State)
+      → number < length state.threads
+      → PerformsBy vmfunc_outcome state number insn (thread_at state number).regs answer left after outcome
+      → Leaves state number outcome
+  performed_leaves insn (Ok effect) left after inside is = effect_leaves insn effect left after inside is
+  performed_leaves insn (Err stop) left after inside stops = other_leaves (stop_is_other state number stop outcome stops)
+
+  fetched_leaves : (view : ℕ) (fetched : Result Insn BusStop) → number < length state.threads
+      → FollowsFetch vmfunc_outcome state number view (thread_at state number).regs fetched outcome → Leaves state number outcome
+  fetched_leaves view (Ok insn) inside follows =
+      let execution : Execution State (Unit {0}) = execution_in_view state number view insn (thread_at state number).regs in
+      performed_leaves insn execution.answer execution.registers execution.meaning inside follows
+  fetched_leaves view (Err stop) inside stops = other_leaves (stop_is_other state number stop outcome stops)
+
+  going_leaves : (flight : Option Flight) → number < length state.threads
+      → GoesOn state number (thread_at state number) flight outcome → Leaves state number outcome
+  unfolding landing_step
+  going_leaves None inside (fetched, fetches, follows) =
+      fetched_leaves (thread_at state number).view fetched inside follows
+  going_leaves (Some flight) inside is =
+      other_leaves (subst IsOther (sym is) (phase_is_other state number _ _))
+
+  step_leaves : (end : EndKind) → (thread_at state number).state ≡ end
+      → StepsBy state number (thread_at state number) end outcome → Leaves state number outcome
+  unfolding thread_at
+  step_leaves Running running goes = going_leaves (flight_at state number) (running_inside state.threads number running) goes
+  step_leaves (Ended status) ended is = other_leaves (subst IsOther (sym is) (λ declined. declined))
+  step_leaves (Faulted kind address) ended is = other_leaves (subst IsOther (sym is) (λ declined. declined))
+
+-- a step with the line of a refused call leaves all but five registers of its thread
+pub steps_leave : (old : State) (core : ℕ) (event : Event) (new : State) → Steps old core event new → IsDeclined event
+    → LeavesAll old new core
+steps_leave old core event new steps = step_leaves old core (event, new) (thread_at old core).state refl steps

@@ -2,7 +2,7 @@
 //!
 //! The leaf is in EAX, the index in ECX and the key in RSI. Each refusal of a call leads home with a status in R9.
 
-ghost use Rattle.std.specs.Prelude.{◌≡◌, ◌<◌, ◌≤◌, ◌^◌, length};
+ghost use Rattle.std.specs.Prelude.{◌≡◌, ◌<◌, ◌≤◌, ◌^◌};
 ghost use Rattle.sb_trace.specs.declared.event.Event.TheVariants.{Entered};
 ghost use Rattle.sb_abi.specs.Numbers.{status_number};
 ghost use Rattle.sb_state.specs.State.{thread_at};
@@ -37,9 +37,7 @@ fn refused_regs(regs: &Regs, status: CallStatus) -> Regs
 
 // A refused call, with its line: the thread is in its home view.
 fn refuse(state: &mut PlainState, core: u8, line: Event, status: CallStatus) -> Event
-    requires { core < length state.old.threads }
-    ensures refused { (result, state.new) ≡ refusal_outcome state.old core (thread_at state.old core) line (status_number status) }
-    ensures count { length state.new.threads ≡ length state.old.threads }
+    ensures { (result, state.new) ≡ refusal_outcome state.old core (thread_at state.old core) line (status_number status) }
 {
     let regs = refused_regs(&state.thread(core).regs, status);
     state.set_view(core, 0, regs);
@@ -48,9 +46,7 @@ fn refuse(state: &mut PlainState, core: u8, line: Event, status: CallStatus) -> 
 
 // No view is switched: in a server's view that is a fault at the VMFUNC.
 fn stay(state: &mut PlainState, core: u8, line: Event, status: CallStatus) -> Event
-    requires { core < length state.old.threads }
-    ensures stayed { (result, state.new) ≡ refusal_or_fault state.old core (thread_at state.old core) line (status_number status) }
-    ensures count { length state.new.threads ≡ length state.old.threads }
+    ensures { (result, state.new) ≡ refusal_or_fault state.old core (thread_at state.old core) line (status_number status) }
 {
     let thread = state.thread(core);
     let (view, rip) = (thread.view, thread.regs.rip);
@@ -63,9 +59,7 @@ fn stay(state: &mut PlainState, core: u8, line: Event, status: CallStatus) -> Ev
 
 // Index 0 leads home.
 fn return_home(state: &mut PlainState, core: u8) -> Event
-    requires { core < length state.old.threads }
-    ensures returned { (result, state.new) ≡ return_outcome state.old core (thread_at state.old core) }
-    ensures count { length state.new.threads ≡ length state.old.threads }
+    ensures { (result, state.new) ≡ return_outcome state.old core (thread_at state.old core) }
 {
     let thread = state.thread(core);
     let (view, regs) = (thread.view, thread.regs);
@@ -113,11 +107,9 @@ fn lowest_bit(word: u64) -> u32
 
 // The server's lowest free stack, by its pool word, is taken, and the thread stands at the handler.
 fn enter(state: &mut PlainState, core: u8, binding: Binding, word: u64) -> Event
-    requires inside { core < length state.old.threads }
-    requires some { 0 < word }
+    requires { 0 < word }
     ensures line { result ≡ Entered binding.index (lowest_bit word) }
     ensures entered { state.new ≡ state_at_handler state.old core (thread_at state.old core) binding word }
-    ensures count { length state.new.threads ≡ length state.old.threads }
 {
     let stack = lowest_bit(word);
     let handler = handler_of(state, binding.server);
@@ -132,9 +124,7 @@ fn enter(state: &mut PlainState, core: u8, binding: Binding, word: u64) -> Event
 
 // A call with the key: it enters where a server stack is free.
 fn take_stack(state: &mut PlainState, core: u8, binding: Binding) -> Event
-    requires { core < length state.old.threads }
-    ensures taken { (result, state.new) ≡ entry_outcome state.old core (thread_at state.old core) binding (pool_word state.old binding.server) }
-    ensures count { length state.new.threads ≡ length state.old.threads }
+    ensures { (result, state.new) ≡ entry_outcome state.old core (thread_at state.old core) binding (pool_word state.old binding.server) }
 {
     let index = u32::from(binding.index);
     match pool_word(state, binding.server) {
@@ -152,9 +142,7 @@ fn take_stack(state: &mut PlainState, core: u8, binding: Binding) -> Event
 
 // A call through the binding of an index, if there is one.
 fn call_through(state: &mut PlainState, core: u8, index: u32) -> Event
-    requires { core < length state.old.threads }
-    ensures called { (result, state.new) ≡ call_outcome state.old core (thread_at state.old core) index (binding_with (thread_at state.old core).bindings index) }
-    ensures count { length state.new.threads ≡ length state.old.threads }
+    ensures { (result, state.new) ≡ call_outcome state.old core (thread_at state.old core) index (binding_with (thread_at state.old core).bindings index) }
 {
     let thread = state.thread(core);
     let key = thread.regs.general[RSI];
@@ -171,9 +159,7 @@ fn call_through(state: &mut PlainState, core: u8, index: u32) -> Event
 /// VMFUNC of the thread of a core, done at once, and its line.
 #[tactic(auto, unfolding(sb_trace::specs::KernelCall::kernel_call))]
 pub fn kernel_call(state: &mut PlainState, core: u8) -> Event
-    requires { core < length state.old.threads }
-    ensures called { (result, state.new) ≡ kernel_call state.old core }
-    ensures count { length state.new.threads ≡ length state.old.threads }
+    ensures { (result, state.new) ≡ kernel_call state.old core }
 {
     let regs = state.thread(core).regs;
     let (leaf, index) = (eax(&regs), ecx(&regs));

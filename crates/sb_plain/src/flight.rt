@@ -3,7 +3,7 @@
 //! A VMFUNC into a server begins a flight. Each step of it is a phase; one phase decides the call, and does it then, in
 //! one step. Before that the thread stays as it was at the VMFUNC.
 
-ghost use Rattle.std.specs.Prelude.{◌≡◌, ◌<◌, length};
+ghost use Rattle.std.specs.Prelude.{◌≡◌};
 ghost use Rattle.sb_state.specs.State.{thread_at};
 ghost use Rattle.sb_trace.specs.Flight.{is_key, bound_pool, with_mask, decided_at, phase_after, next_flight, phase_outcome, landing_step, called_binding, vmfunc_outcome};
 
@@ -86,9 +86,7 @@ fn next_flight(flight: Flight) -> Option<Flight>
 
 // A phase that decides the call does the kernel's call; each other one lands.
 fn phase_step(state: &mut PlainState, core: u8, flight: Flight, decided: Option<Decision>) -> Event
-    requires { core < length state.old.threads }
-    ensures landed { (result, state.new) ≡ phase_outcome state.old core flight decided }
-    ensures count { length state.new.threads ≡ length state.old.threads }
+    ensures { (result, state.new) ≡ phase_outcome state.old core flight decided }
 {
     if decided.is_none() {
         state.set_flight(core, next_flight(flight));
@@ -104,9 +102,7 @@ fn phase_step(state: &mut PlainState, core: u8, flight: Flight, decided: Option<
 /// A step of the thread of a core in its flight, and its line.
 #[tactic(auto, unfolding(sb_trace::specs::Flight::landing_step))]
 pub fn landing_step(state: &mut PlainState, core: u8, flight: Flight) -> Event
-    requires { core < length state.old.threads }
-    ensures flown { (result, state.new) ≡ landing_step state.old core flight }
-    ensures count { length state.new.threads ≡ length state.old.threads }
+    ensures { (result, state.new) ≡ landing_step state.old core flight }
 {
     let thread = state.thread(core);
     let key = thread.regs.general[RSI];
@@ -133,9 +129,7 @@ fn called_binding(thread: &Thread) -> Option<Binding>
 /// VMFUNC of the thread of a core, and its line: a flight begins where it leads into a server.
 #[tactic(auto, unfolding(sb_trace::specs::Flight::vmfunc_outcome))]
 pub fn vmfunc(state: &mut PlainState, core: u8) -> Event
-    requires { core < length state.old.threads }
-    ensures switched { (result, state.new) ≡ vmfunc_outcome state.old core }
-    ensures count { length state.new.threads ≡ length state.old.threads }
+    ensures { (result, state.new) ≡ vmfunc_outcome state.old core }
 {
     let Some(binding) = called_binding(state.thread(core)) else {
         return kernel_call(state, core);

@@ -60,7 +60,6 @@ pub fn perform(
     ensures answer { result ≡ (execution_of (plain thread view) (row_of insn.now regs.old) regs.old state.old tt).answer }
     ensures registers { regs.new ≡ (execution_of (plain thread view) (row_of insn.now regs.old) regs.old state.old tt).registers }
     ensures memory { state.new ≡ (execution_of (plain thread view) (row_of insn.now regs.old) regs.old state.old tt).meaning }
-    ensures threads { state.new.threads ≡ state.old.threads }
     ensures fault { IfErr result IsFault }
     ensures regs_left { result ≢ Ok Effect.Next → regs.new ≡ regs.old }
     ensures memory_left { result ≢ Ok Effect.Next → state.new ≡ state.old }

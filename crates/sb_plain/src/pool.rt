@@ -21,7 +21,6 @@ pub fn pool_word(state: &PlainState, process: u32) -> u64
 #[tactic(auto, unfolding(sb_state::specs::PageWords::with_word, sb_state::specs::State::contents, sb_state::specs::State::with_contents))]
 pub fn set_pool_word(state: &mut PlainState, process: u32, word: u64)
     ensures put { state.new ≡ with_word state.old (Pool process) 0 word }
-    ensures threads { state.new.threads ≡ state.old.threads }
     ensures free { state.new.free ≡ state.old.free }
 {
     state.pages.put_word(PageName::Pool(process), 0, word);

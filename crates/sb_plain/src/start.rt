@@ -10,7 +10,7 @@ use crate::plain::Plain;
 use sb_bundle::Image;
 use sb_load::Loaded;
 use sb_rewrite::Rewritten;
-use sb_state::{PlainState, Process};
+use sb_state::{PlainState, Process, no_thread};
 use sb_tramp::KeyWords;
 use std::alloc::{AllocError, Global};
 
@@ -57,6 +57,7 @@ fn first_state(alloc: Global, loaded: &Loaded) -> Result<PlainState, AllocError>
         pages,
         processes: start_processes(alloc, loaded)?,
         threads: start_threads(alloc, cores)?,
+        absent: no_thread(),
         flights: start_flights(alloc, cores.len())?,
         free,
         keys: KeyWords::new(Vec::from_slice(alloc, bundle.keys.items())?),

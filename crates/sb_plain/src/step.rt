@@ -1,6 +1,6 @@
 //! A step of the plain machine.
 
-ghost use Rattle.std.specs.Prelude.{◌≡◌, ◌<◌, length};
+ghost use Rattle.std.specs.Prelude.{◌≡◌, length};
 ghost use Rattle.sb_insn.specs.Grammar.{IsValid};
 ghost use Rattle.sb_state.specs.State.{thread_at, flight_at};
 ghost use Rattle.sb_trace.specs.Flight.{vmfunc_outcome};
@@ -9,6 +9,7 @@ ghost use Rattle.sb_trace.specs.OneStep.{StepsAlike};
 ghost use Rattle.sb_trace.specs.Changes.{StepChanges};
 ghost use Rattle.sb_trace.specs.Laws.{HasOneSwitch};
 ghost use Rattle.sb_trace.specs.Sound.{IsSound};
+ghost use Rattle.sb_plain.specs.Declined.{IsDeclined, LeavesAll};
 ghost use Rattle.sb_plain.specs.Faults.{IsFault};
 
 use crate::flight::{landing_step, vmfunc};
@@ -23,10 +24,8 @@ use sb_trace::{Event, Line};
 
 // A refused access is a fault.
 fn stop_thread(state: &mut PlainState, core: u8, stop: BusStop) -> Event
-    requires inside { core < length state.old.threads }
-    requires fault { IsFault stop }
-    ensures stopped { StopsWith state.old core stop (result, state.new) }
-    ensures count { length state.new.threads ≡ length state.old.threads }
+    requires { IsFault stop }
+    ensures { StopsWith state.old core stop (result, state.new) }
 {
     match stop {
         BusStop::Fault(kind, at) => fault(state, core, kind, at.0),
@@ -36,10 +35,8 @@ fn stop_thread(state: &mut PlainState, core: u8, stop: BusStop) -> Event
 
 // The instruction that was fetched, from these registers, in this view.
 fn execute_next(state: &mut PlainState, core: u8, view: u16, insn: &Insn, regs: &Regs) -> Event
-    requires inside { core < length state.old.threads }
-    requires valid { IsValid insn.now }
-    ensures performed { Performs vmfunc_outcome state.old core view insn.now regs.now (result, state.new) }
-    ensures count { length state.new.threads ≡ length state.old.threads }
+    requires { IsValid insn.now }
+    ensures { Performs vmfunc_outcome state.old core view insn.now regs.now (result, state.new) }
 {
     let rip = regs.rip;
     let mut next = *regs;
@@ -57,9 +54,7 @@ fn execute_next(state: &mut PlainState, core: u8, view: u16, insn: &Insn, regs: 
 
 // The instruction at RIP of a thread with these registers in this view.
 fn run_from(state: &mut PlainState, core: u8, view: u16, regs: &Regs) -> Event
-    requires { core < length state.old.threads }
-    ensures ran { RunsOn vmfunc_outcome state.old core view regs.now (result, state.new) }
-    ensures count { length state.new.threads ≡ length state.old.threads }
+    ensures { RunsOn vmfunc_outcome state.old core view regs.now (result, state.new) }
 {
     match fetch_next(state, u32::from(core), view, regs.rip) {
         Ok(insn) => execute_next(state, core, view, &insn, regs),
@@ -69,9 +64,7 @@ fn run_from(state: &mut PlainState, core: u8, view: u16, regs: &Regs) -> Event
 
 // The step of a thread that runs: its flight goes on, or it executes an instruction.
 fn go_on(state: &mut PlainState, core: u8) -> Event
-    requires { core < length state.old.threads }
-    ensures ran { GoesOn state.old core (thread_at state.old core) (flight_at state.old core) (result, state.new) }
-    ensures count { length state.new.threads ≡ length state.old.threads }
+    ensures { GoesOn state.old core (thread_at state.old core) (flight_at state.old core) (result, state.new) }
 {
     if let Some(flight) = state.flight(core) {
         return landing_step(state, core, flight);
@@ -83,10 +76,8 @@ fn go_on(state: &mut PlainState, core: u8) -> Event
 
 // A step of a core: a thread that has ended is idle.
 fn next_line(state: &mut PlainState, core: u8) -> Line
-    requires { core < length state.old.threads }
     ensures core { result.core ≡ core }
     ensures step { Steps state.old core result.event state.new }
-    ensures count { length state.new.threads ≡ length state.old.threads }
 {
     let event = match state.thread(core).state {
         EndKind::Running => go_on(state, core),
@@ -98,15 +89,16 @@ fn next_line(state: &mut PlainState, core: u8) -> Line
 impl Plain {
     /// One step of a core: its line. It takes no memory.
     ///
-    /// A thread that has ended is idle. From a sound state, as each state of a run is (docs/LAWS.md), a step is one of the
+    /// A thread that has ended is idle, and so is a core that has none. A system call that is refused leaves all but RIP, RAX,
+    /// RCX, RDX and R11 of its thread. From a sound state, as each state of a run is (docs/LAWS.md), a step is one of the
     /// machine that calls in one step, or has a landing line and changes flights alone; and VMFUNC's bytes may be fetched at
     /// one address alone.
     pub fn step(&mut self, core: u8) -> Line
-        requires { core < length self.old.threads }
         ensures core { result.core ≡ core }
         ensures step { Steps self.old core result.event self.new }
         ensures count { length self.new.threads ≡ length self.old.threads }
         ensures at_once { IsSound self.old → StepsAlike self.old core result.event self.new }
+        ensures declined { IsDeclined result.event → LeavesAll self.old self.new core }
         ensures changes { StepChanges self.old core result.event self.new }
         ensures one_switch { IsSound self.old → HasOneSwitch self.new }
         ensures sound { IsSound self.old → IsSound self.new }

@@ -12,13 +12,12 @@ mod register;
 #[cfg(test)]
 mod tests;
 
-ghost use Rattle.std.specs.Prelude.{◌≡◌, ◌<◌, length};
+ghost use Rattle.std.specs.Prelude.{◌≡◌};
 ghost use Rattle.sb_exec.specs.Operand.{next_rip};
 ghost use Rattle.sb_calls.specs.SyscallRegisters.{after_syscall};
 ghost use Rattle.sb_state.specs.State.{thread_at};
 ghost use Rattle.sb_trace.specs.SyscallAnswer.{state_after_call, syscall_refusal, syscall_acceptance};
 ghost use Rattle.sb_trace.specs.Syscall.{exit_outcome, outcome_by_number, syscall_outcome};
-ghost use Rattle.sb_plain.specs.Declined.{IsDeclined, LeavesAll};
 
 use crate::home::send_home;
 use bind::bind;
@@ -35,9 +34,7 @@ use sb_trace::Event;
 
 // The thread goes on after SYSCALL, with an answer and a second value.
 fn go_on(state: &mut PlainState, core: u8, next: &Regs, answer: u64, second: u64)
-    requires { core < length state.old.threads }
-    ensures returned { state.new ≡ state_after_call state.old core next.now answer second }
-    ensures count { length state.new.threads ≡ length state.old.threads }
+    ensures { state.new ≡ state_after_call state.old core next.now answer second }
 {
     state.set_regs(core, regs_with_answer(next, answer, second));
 }
@@ -50,9 +47,7 @@ fn decline(
     refusal: CallRefusal,
     second: u64,
 ) -> Event
-    requires { core < length state.old.threads }
-    ensures declined { (result, state.new) ≡ syscall_refusal state.old core next.now refusal second }
-    ensures count { length state.new.threads ≡ length state.old.threads }
+    ensures { (result, state.new) ≡ syscall_refusal state.old core next.now refusal second }
 {
     let answer = refusal.number();
     go_on(state, core, next, answer, second);
@@ -64,9 +59,7 @@ fn decline(
 
 // The call did what it does, and has no second value.
 fn accept(state: &mut PlainState, core: u8, next: &Regs) -> Event
-    requires { core < length state.old.threads }
-    ensures accepted { (result, state.new) ≡ syscall_acceptance state.old core next.now }
-    ensures count { length state.new.threads ≡ length state.old.threads }
+    ensures { (result, state.new) ≡ syscall_acceptance state.old core next.now }
 {
     go_on(state, core, next, 0, 0);
     Event::Sys {
@@ -79,9 +72,7 @@ fn accept(state: &mut PlainState, core: u8, next: &Regs) -> Event
 
 // At home the thread ends with a status; in a server's view it is sent home.
 fn exit(state: &mut PlainState, core: u8, next: &Regs) -> Event
-    requires { core < length state.old.threads }
-    ensures exited { (result, state.new) ≡ exit_outcome state.old core next.now }
-    ensures count { length state.new.threads ≡ length state.old.threads }
+    ensures { (result, state.new) ≡ exit_outcome state.old core next.now }
 {
     let status = next.general[RDI];
     if state.thread(core).view != 0 {
@@ -96,9 +87,7 @@ fn exit(state: &mut PlainState, core: u8, next: &Regs) -> Event
 // ---- by number
 
 fn call_by_number(state: &mut PlainState, core: u8, next: &Regs, number: u64) -> Event
-    requires { core < length state.old.threads }
-    ensures called { (result, state.new) ≡ outcome_by_number state.old core (thread_at state.old core) next.now number }
-    ensures count { length state.new.threads ≡ length state.old.threads }
+    ensures { (result, state.new) ≡ outcome_by_number state.old core (thread_at state.old core) next.now number }
 {
     match number {
         0 => exit(state, core, next),
@@ -116,12 +105,9 @@ fn call_by_number(state: &mut PlainState, core: u8, next: &Regs, number: u64) ->
 }
 
 /// SYSCALL of the thread of a core, which began with these registers, and its line.
-#[tactic(auto, using(crate::proofs::Declined::called_leaves), unfolding(sb_trace::specs::Syscall::syscall_outcome))]
+#[tactic(auto, unfolding(sb_trace::specs::Syscall::syscall_outcome))]
 pub fn system_call(state: &mut PlainState, core: u8, insn: &Insn, regs: &Regs) -> Event
-    requires { core < length state.old.threads }
-    ensures called { (result, state.new) ≡ syscall_outcome state.old core (after_syscall (next_rip insn.now regs.now) regs.now) }
-    ensures declined { IsDeclined result → LeavesAll state.old state.new core regs.now }
-    ensures count { length state.new.threads ≡ length state.old.threads }
+    ensures { (result, state.new) ≡ syscall_outcome state.old core (after_syscall (next_rip insn.now regs.now) regs.now) }
 {
     let next = after_syscall(regs.rip.wrapping_add(insn.length() as u64), regs);
     call_by_number(state, core, &next, next.general[RAX])

@@ -6,7 +6,9 @@ use sb_bus::{Bus, BusStop, FaultKind};
 use sb_insn::{Flags, Regs};
 use sb_list::Listed;
 use sb_memory::Linear;
-use sb_state::{Bindings, EndKind, Page, PageName, Pages, PlainBus, PlainState, Thread};
+use sb_state::{
+    Bindings, EndKind, Page, PageName, Pages, PlainBus, PlainState, Thread, no_thread,
+};
 use sb_tramp::KeyWords;
 use std::alloc::Global;
 use std::test::Fail;
@@ -65,6 +67,7 @@ fn state(alloc: Global) -> Result<PlainState, Fail> {
         pages,
         processes: Vec::new(alloc),
         threads,
+        absent: no_thread(),
         flights: vec![in alloc; None; 3]?,
         free: 0,
         keys: KeyWords::new(Vec::new(alloc)),

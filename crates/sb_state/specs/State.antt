@@ -1,5 +1,5 @@
 -- The state of the plain machine: pages by name, processes, threads, and what is left to be given out.
-use Rattle.std.specs.Prelude.{ℕ, ◌==◌, ◌||◌, Bool, false, List, [], ◌∷◌, Option, Some, None, slice_get, slice_set, unwrap_or, if◌then◌else◌}
+use Rattle.std.specs.Prelude.{ℕ, ◌==◌, ◌||◌, Bool, false, List, [], ◌∷◌, Option, Some, None, replicate, slice_get, slice_set, unwrap_or, if◌then◌else◌}
 use Rattle.sb_insn.specs.declared.registers.Regs.{Regs}
 use Rattle.sb_state.specs.declared.end_kind.EndKind.{EndKind}
 use Rattle.sb_state.specs.declared.end_kind.EndKind.TheVariants.{Ended}
@@ -73,7 +73,7 @@ with_contents state name bytes = record state { pages = with_page_bytes state.pa
 unfoldable pub no_thread : Thread
 no_thread = record {
   home = 0;
-  regs = record { general = []; rip = 0; flags = record { cf = false; pf = false; zf = false; sf = false; of = false } };
+  regs = record { general = replicate 16 0; rip = 0; flags = record { cf = false; pf = false; zf = false; sf = false; of = false } };
   view = 0;
   bindings = [];
   state = Ended 0;

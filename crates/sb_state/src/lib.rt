@@ -50,4 +50,5 @@ pub use process::Process;
 pub use registers::{eax, ecx, zero_result};
 pub use start_bytes::{home_record, home_trampoline, page_bytes, server_trampoline};
 pub use state::{Binding, Decision, Flight, Registration, Thread};
+pub use thread::no_thread;
 pub use translate::reach;

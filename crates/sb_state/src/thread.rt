@@ -1,53 +1,74 @@
-//! The thread that a core runs: the one of its number.
+//! The thread that a core runs: the one of its number. Where there is none, it is one that has ended, and no call changes it.
 
 ghost use Rattle.std.specs.Prelude.{◌≡◌, ◌<◌, ◌++◌, ◌∷◌, [], length};
-ghost use Rattle.sb_state.specs.State.{thread_at, with_thread, with_regs, with_end, with_view, flight_at, with_flight};
+ghost use Rattle.sb_state.specs.State.{no_thread, thread_at, with_thread, with_regs, with_end, with_view, flight_at, with_flight};
 
+use crate::bindings::Bindings;
 use crate::end_kind::EndKind;
 use crate::plain_state::PlainState;
 use crate::state::{Binding, Flight, Thread};
-use sb_insn::Regs;
+use sb_insn::{Flags, Regs};
+
+/// What stands in place of a thread that is not there: one that has ended.
+#[tactic(auto, unfolding(crate::specs::State::no_thread))]
+pub fn no_thread() -> Thread
+    ensures { result ≡ no_thread }
+{
+    Thread {
+        home: 0,
+        regs: Regs {
+            general: [0; 16],
+            rip: 0,
+            flags: Flags::CLEAR,
+        },
+        view: 0,
+        bindings: Bindings::new(),
+        state: EndKind::Ended(0),
+    }
+}
 
 impl PlainState {
     /// The thread of a core.
     #[tactic(auto, unfolding(crate::specs::State::thread_at))]
     pub fn thread(&self, core: u8) -> &Thread
-        requires { core < length self.now.threads }
         ensures { result.now ≡ thread_at self.now core }
     {
-        &self.threads[usize::from(core)]
+        match self.threads.get(usize::from(core)) {
+            Some(thread) => thread,
+            None => &self.absent,
+        }
     }
 
     /// Gives the thread of a core these registers.
     #[tactic(auto, unfolding(crate::specs::State::thread_at, crate::specs::State::with_regs))]
     pub fn set_regs(&mut self, core: u8, regs: Regs)
-        requires { core < length self.old.threads }
-        ensures set { self.new ≡ with_regs self.old core regs }
-        ensures count { length self.new.threads ≡ length self.old.threads }
+        ensures { self.new ≡ with_regs self.old core regs }
     {
-        self.threads[usize::from(core)].regs = regs;
+        if usize::from(core) < self.threads.len() {
+            self.threads[usize::from(core)].regs = regs;
+        }
     }
 
     /// Ends the thread of a core.
     #[tactic(auto, unfolding(crate::specs::State::thread_at, crate::specs::State::with_end))]
     pub fn set_end(&mut self, core: u8, end: EndKind)
-        requires { core < length self.old.threads }
-        ensures set { self.new ≡ with_end self.old core end }
-        ensures count { length self.new.threads ≡ length self.old.threads }
+        ensures { self.new ≡ with_end self.old core end }
     {
-        self.threads[usize::from(core)].state = end;
+        if usize::from(core) < self.threads.len() {
+            self.threads[usize::from(core)].state = end;
+        }
     }
 
     /// Puts the thread of a core into a view, with these registers.
     #[tactic(auto, unfolding(crate::specs::State::thread_at, crate::specs::State::with_view))]
     pub fn set_view(&mut self, core: u8, view: u16, regs: Regs)
-        requires { core < length self.old.threads }
-        ensures set { self.new ≡ with_view self.old core view regs }
-        ensures count { length self.new.threads ≡ length self.old.threads }
+        ensures { self.new ≡ with_view self.old core view regs }
     {
-        let thread = &mut self.threads[usize::from(core)];
-        thread.view = view;
-        thread.regs = regs;
+        if usize::from(core) < self.threads.len() {
+            let thread = &mut self.threads[usize::from(core)];
+            thread.view = view;
+            thread.regs = regs;
+        }
     }
 
     /// The flight of the thread of a core, where it is in flight.
@@ -72,11 +93,11 @@ impl PlainState {
     /// Gives the thread of a core a binding behind its others.
     #[tactic(auto, unfolding(crate::specs::State::thread_at))]
     pub fn push_binding(&mut self, core: u8, binding: Binding)
-        requires inside { core < length self.old.threads }
-        requires room { length (thread_at self.old core).bindings < 15 }
-        ensures set { self.new ≡ with_thread self.old core (record (thread_at self.old core) { bindings = (thread_at self.old core).bindings ++ binding ∷ [] }) }
-        ensures count { length self.new.threads ≡ length self.old.threads }
+        requires { length (thread_at self.old core).bindings < 15 }
+        ensures { self.new ≡ with_thread self.old core (record (thread_at self.old core) { bindings = (thread_at self.old core).bindings ++ binding ∷ [] }) }
     {
-        self.threads[usize::from(core)].bindings.push(binding);
+        if usize::from(core) < self.threads.len() {
+            self.threads[usize::from(core)].bindings.push(binding);
+        }
     }
 }

@@ -1,6 +1,6 @@
 //! System call 3: a thread gets a view of a server.
 
-ghost use Rattle.std.specs.Prelude.{◌≡◌, ◌<◌, ◌≤◌, ◌+◌, ◌-◌, ◌^◌, ◌++◌, ◌∷◌, None, length, drop};
+ghost use Rattle.std.specs.Prelude.{◌≡◌, ◌<◌, ◌≤◌, ◌+◌, ◌-◌, ◌^◌, ◌++◌, None, length, drop};
 ghost use Rattle.sb_tramp.specs.Record.{record_bytes};
 ghost use Rattle.sb_state.specs.declared.page.PageName.TheVariants.{Record};
 ghost use Rattle.sb_state.specs.State.{page_with, thread_at};
@@ -86,12 +86,10 @@ fn draw_key(state: &mut PlainState) -> u64
 // The thread has a view of a server more, with its pages and a key of its own.
 #[tactic(auto, unfolding(sb_trace::specs::SyscallBind::with_binding, sb_state::specs::State::thread_at, sb_state::specs::State::registration_at, sb_state::specs::State::process_at))]
 fn make_binding(state: &mut PlainState, core: u8, server: u32) -> Binding
-    requires inside { core < length state.old.threads }
     requires bindings { length (thread_at state.old core).bindings < 15 }
     requires frames { 10 ≤ state.old.free }
     ensures binding { result ≡ new_binding state.old (thread_at state.old core) server }
     ensures made { state.new ≡ with_binding state.old core (thread_at state.old core) (new_binding state.old (thread_at state.old core) server) }
-    ensures count { length state.new.threads ≡ length state.old.threads }
 {
     let handler = handler_of(state, server);
     let key = draw_key(state);
@@ -107,9 +105,7 @@ fn make_binding(state: &mut PlainState, core: u8, server: u32) -> Binding
 /// Binds the thread to the process in RDI. RDX becomes the index of the view, R8 its key, and R10 the address of its
 /// buffer.
 pub fn bind(state: &mut PlainState, core: u8, next: &Regs) -> Event
-    requires { core < length state.old.threads }
-    ensures bound { (result, state.new) ≡ bind_outcome state.old core (thread_at state.old core) next.now (refusal_of_bind state.old (thread_at state.old core) (rdi next.now)) }
-    ensures count { length state.new.threads ≡ length state.old.threads }
+    ensures { (result, state.new) ≡ bind_outcome state.old core (thread_at state.old core) next.now (refusal_of_bind state.old (thread_at state.old core) (rdi next.now)) }
 {
     let server = next.general[RDI];
     if let Some(refusal) = refusal_of(state, state.thread(core), server) {

@@ -1,6 +1,6 @@
 //! System call 4: a heap page is written, or executed.
 
-ghost use Rattle.std.specs.Prelude.{◌≡◌, ◌<◌, ◌+◌, ◌^◌, length};
+ghost use Rattle.std.specs.Prelude.{◌≡◌, ◌<◌, ◌+◌, ◌^◌};
 ghost use Rattle.sb_state.specs.State.{thread_at, process_at};
 ghost use Rattle.sb_state.specs.Registers.{rdi, rsi};
 ghost use Rattle.sb_state.specs.Windows.{process_now};
@@ -27,8 +27,7 @@ fn heap_count(state: &PlainState, process: u32) -> u32
 
 #[tactic(auto, unfolding(sb_trace::specs::SyscallProtect::with_heap_mode))]
 fn set_executable(state: &mut PlainState, process: u32, page: u32, executable: bool)
-    ensures protected { state.new ≡ with_heap_mode state.old process page executable }
-    ensures threads { state.new.threads ≡ state.old.threads }
+    ensures { state.new ≡ with_heap_mode state.old process page executable }
 {
     let name = PageName::Heap(process, page);
     state.pages.set_executable(name, executable);
@@ -36,10 +35,8 @@ fn set_executable(state: &mut PlainState, process: u32, page: u32, executable: b
 
 // Executable only where the bytes of VMFUNC stand neither in the page nor across its borders with executable ones.
 fn make_executable(state: &mut PlainState, core: u8, next: &Regs, process: u32, page: u32) -> Event
-    requires inside { core < length state.old.threads }
-    requires behind { page + 1 < 2 ^ 32 }
-    ensures made { (result, state.new) ≡ execute_mode_outcome state.old core next.now process page (heap_pattern state.old process page) }
-    ensures count { length state.new.threads ≡ length state.old.threads }
+    requires { page + 1 < 2 ^ 32 }
+    ensures { (result, state.new) ≡ execute_mode_outcome state.old core next.now process page (heap_pattern state.old process page) }
 {
     if let Some(address) = state.heap_pattern(process, page) {
         return decline(state, core, next, CallRefusal::Pattern, address);
@@ -52,9 +49,7 @@ fn make_executable(state: &mut PlainState, core: u8, next: &Regs, process: u32, 
 ///
 /// Where the bytes of VMFUNC refuse it, RDX has the lowest address at which they stand.
 pub fn protect(state: &mut PlainState, core: u8, next: &Regs) -> Event
-    requires { core < length state.old.threads }
-    ensures protected { (result, state.new) ≡ protect_outcome state.old core next.now (process_now (thread_at state.old core)) (rdi next.now) (rsi next.now) }
-    ensures count { length state.new.threads ≡ length state.old.threads }
+    ensures { (result, state.new) ≡ protect_outcome state.old core next.now (process_now (thread_at state.old core)) (rdi next.now) (rsi next.now) }
 {
     let process = process_now(state.thread(core));
     let (page, mode) = (next.general[RDI], next.general[RSI]);

@@ -1,6 +1,6 @@
 //! System call 2: the process becomes a server.
 
-ghost use Rattle.std.specs.Prelude.{◌≡◌, ◌<◌, ◌≤◌, ◌-◌, ◌*◌, ◌++◌, None, length, slice_get};
+ghost use Rattle.std.specs.Prelude.{◌≡◌, ◌<◌, ◌≤◌, ◌-◌, ◌*◌, ◌++◌, None, slice_get};
 ghost use Rattle.sb_state.specs.State.{thread_at, process_at};
 ghost use Rattle.sb_state.specs.Registers.{rdi, rsi};
 ghost use Rattle.sb_state.specs.Windows.{process_now};
@@ -105,8 +105,7 @@ fn set_registration(state: &mut PlainState, process: u32, registration: Registra
 fn make_server(state: &mut PlainState, process: u32, handler: u64, stacks: u32)
     requires count { stacks ≤ 16 }
     requires frames { 4 * stacks ≤ state.old.free }
-    ensures made { state.new ≡ with_server state.old process handler stacks }
-    ensures count { length state.new.threads ≡ length state.old.threads }
+    ensures { state.new ≡ with_server state.old process handler stacks }
 {
     set_pool_word(state, process, (1 << stacks) - 1);
     take_stacks(state, process, PAGES * stacks);
@@ -115,9 +114,7 @@ fn make_server(state: &mut PlainState, process: u32, handler: u64, stacks: u32)
 
 /// Makes the process that the view shows a server: its handler is in RDI, its number of stacks in RSI.
 pub fn register(state: &mut PlainState, core: u8, next: &Regs) -> Event
-    requires { core < length state.old.threads }
-    ensures registered { (result, state.new) ≡ register_outcome state.old core next.now (process_now (thread_at state.old core)) (refusal_of_register state.old (thread_at state.old core).view (process_now (thread_at state.old core)) (rdi next.now) (rsi next.now)) }
-    ensures count { length state.new.threads ≡ length state.old.threads }
+    ensures { (result, state.new) ≡ register_outcome state.old core next.now (process_now (thread_at state.old core)) (refusal_of_register state.old (thread_at state.old core).view (process_now (thread_at state.old core)) (rdi next.now) (rsi next.now)) }
 {
     let thread = state.thread(core);
     let (view, process) = (thread.view, process_now(thread));

@@ -1,9 +1,7 @@
-use Rattle.std.proofs.Common.{rules, ap, ◌∙◌}
+use Rattle.std.proofs.Common.{rules}
 use Rattle.sb_exec.specs.Rows.{row_of}
 use Rattle.sb_plain.proofs.ByThread.{performed}
-use Rattle.sb_state.specs.State.{State}
 use Rattle.sb_plain.proofs.Faults.{execution_faults}
-use Rattle.sb_plain.proofs.Threads.{execution_threads}
 use Rattle.sb_plain.proofs.instruction.perform.Goals as goal
 
 pub returns-clause-answer : goal.returns-clause-answer
@@ -34,8 +32,3 @@ returns-clause-fault c =
     _ _ _ _ c.execute.result (search rules) c.execute.ensures.row in
     rw left.answer
     (execution_faults c.args.thread c.args.view (row_of c.args.insn.now c.args.regs.now) c.args.regs.now c.args.state.now)
-
-pub returns-clause-threads : goal.returns-clause-threads
-returns-clause-threads c =
-    ap (λ (state : State). state.threads) (returns-clause-memory c)
-    ∙ execution_threads c.args.thread c.args.view (row_of c.args.insn.now c.args.regs.now) c.args.regs.now c.args.state.now

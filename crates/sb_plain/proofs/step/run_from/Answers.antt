@@ -6,12 +6,12 @@ use Rattle.sb_trace.specs.Flight.{vmfunc_outcome}
 use Rattle.sb_trace.specs.Step.{Performs}
 use Rattle.sb_plain.proofs.step.run_from.Goals as goal
 
-pub returns-in-Ok-clause-ran : goal.returns-in-Ok-clause-ran
-returns-in-Ok-clause-ran c = (
+pub returns-in-Ok : goal.returns-in-Ok
+returns-in-Ok c = (
   Ok c.in-Ok.insn,
   subst (λ (thread : ℕ). FetchesOn (plain thread c.args.view) c.args.state.now c.args.regs.now.rip tt tt (Ok c.in-Ok.insn))
       c.from.ensures c.in-Ok.ensures.fetched,
   subst (λ (state : State). Performs vmfunc_outcome state c.args.core c.args.view c.in-Ok.insn c.args.regs.now
       (c.execute_next.result, c.execute_next.new.state))
-      c.in-Ok.ensures.same c.execute_next.ensures.performed,
+      c.in-Ok.ensures.same c.execute_next.ensures,
 )
