@@ -1,5 +1,5 @@
 -- A refused system call leaves all but five registers of its thread as they were.
-use Rattle.std.proofs.Common.{◌≡◌, ◌≢◌, ℕ, zero, suc, ◌+◌, ◌<◌, ◌==◌, Bool, true, false, List, [], ◌∷◌, length, Option, Some, None, Result, Ok, Err, refl, sym, ap, ◌∙◌, subst, if◌then◌else◌, get_or-set_other, get_or-set_same}
+use Rattle.std.proofs.Common.{◌≡◌, ◌≢◌, ℕ, zero, suc, ◌+◌, ◌<◌, ◌==◌, Bool, true, false, List, [], ◌∷◌, length, Option, Some, None, Result, Ok, Err, refl, sym, ap, ◌∙◌, subst, if◌then◌else◌, arith, get_or-set_other, get_or-set_same}
 use Rattle.std.proofs.lemmas.List.{length-set}
 use Rattle.std.specs.Prelude.{slice_index, slice_get, slice_set, unwrap_or}
 use Rattle.std.proofs.lemmas.Option.{slice_get_read}
@@ -22,7 +22,7 @@ use Rattle.sb_state.specs.declared.state.Binding.{Binding}
 use Rattle.sb_state.specs.declared.state.Decision.{Decision}
 use Rattle.sb_state.specs.declared.state.Flight.{Flight}
 use Rattle.sb_state.specs.declared.state.Thread.{Thread}
-use Rattle.sb_state.specs.Registers.{eax, ecx, rdi, rsi}
+use Rattle.sb_state.specs.Registers.{rax, eax, ecx, rdi, rsi}
 use Rattle.sb_state.specs.State.{State, thread_at, flight_at, no_thread, with_regs}
 use Rattle.sb_trace.specs.Home.{Outcome, fault_outcome}
 use Rattle.sb_trace.specs.KernelCall.{binding_with, pool_word, refusal_or_fault, call_outcome, kernel_call}
@@ -208,7 +208,8 @@ module _ (state : State) (number : ℕ) (outcome : Outcome) where
   effect_leaves insn Next left after inside is = other_leaves (subst IsOther (sym is) (λ declined. declined))
   effect_leaves insn Syscall left after inside is =
       subst (Leaves state number) (sym is)
-      (number_leaves (next_rip insn (thread_at state number).regs) state number inside (thread_at state number) _)
+      (number_leaves (next_rip insn (thread_at state number).regs) state number inside (thread_at state number)
+      (rax (after_syscall (next_rip insn (thread_at state number).regs) (thread_at state number).regs)))
   effect_leaves insn Undefined left after inside is = other_leaves (subst IsOther (sym is) (fault_is_other state number _ _))
   effect_leaves insn Switch left after inside is =
       other_leaves (subst IsOther (sym is) (vmfunc_is_other state number (called_binding (thread_at state number))))
