@@ -1,10 +1,17 @@
 //! Pages, and the windows of linear addresses (docs/FORMATS.md, "The memory of a thread").
 //!
-//! A window begins at an address, in bytes, and at the page of that address. But for the rewrite area each has 512 pages,
-//! which are 2 MiB.
+//! A window begins at an address, in bytes, and at the page of that address. Each has 512 pages, which are 2 MiB, but the
+//! rewrite area, which has 16, and the window of buffers, which has 2048.
 
-/// The pages of each window but the rewrite area's.
+/// The pages of each window but the rewrite area's and that of buffers.
 pub const WINDOW_PAGES: u64 = 512;
+
+/// The threads that the windows have room for.
+pub const WINDOW_THREADS: u64 = 32;
+
+/// The threads that a machine starts with at most, and those that the page tables serve: their buffers fill the first 2 MiB
+/// of the window of buffers.
+pub const MAX_THREADS: u64 = 8;
 
 /// The rewrite area: where rewritten instructions are moved to.
 pub const AREA_ADDRESS: u64 = 0x1000;
@@ -47,6 +54,9 @@ pub const BUFFER_DISTANCE: u64 = 0x4000;
 
 /// The buffers of a thread: one for each index, of which 0 is not used.
 pub const BUFFERS_PER_THREAD: u64 = 16;
+
+/// The pages of the window of buffers.
+pub const BUFFERS_WINDOW_PAGES: u64 = WINDOW_THREADS * BUFFERS_PER_THREAD * BUFFER_PAGES;
 
 /// The save pages and stacks of threads.
 pub const STACKS_ADDRESS: u64 = 0x300_0000;

@@ -1,6 +1,7 @@
 -- Which bundles there are: each field within its limits.
 use Rattle.std.specs.Prelude.{ℕ, ◌≤◌, ◌<◌, ◌^◌, List, length}
 use Rattle.std.specs.List.{AllByRecursion}
+use Rattle.sb_abi.specs.declared.space.TheConstants.{MAX_THREADS}
 use Rattle.sb_bundle.specs.declared.limits.Limits.{Limits}
 use Rattle.sb_bundle.specs.declared.bundle.Bundle.{Bundle}
 use Rattle.sb_bundle.specs.declared.bundle.Image.{Image}
@@ -10,9 +11,9 @@ use Rattle.sb_bundle.specs.declared.bundle.CoreStart.{CoreStart}
 abbrev pub from_to : ℕ → ℕ → Limits
 from_to least most = record { least = least; most = most }
 
--- cores, each with one thread
+-- cores, each with one thread: as many as the page tables serve
 abbrev pub core_limits : Limits
-core_limits = from_to 1 8
+core_limits = from_to 1 MAX_THREADS
 
 -- processes
 abbrev pub process_limits : Limits

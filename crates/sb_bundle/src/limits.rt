@@ -3,6 +3,8 @@
 ghost use Rattle.std.specs.Prelude.{◌≡◌};
 ghost use Rattle.sb_bundle.specs.Fields.{is_within};
 
+use sb_abi::MAX_THREADS;
+
 /// The least and the greatest number that a field may have.
 #[derive(Clone, Copy, Debug, PartialEq, Eq)]
 pub struct Limits {
@@ -22,7 +24,10 @@ impl Limits {
 }
 
 /// How many cores, each with one thread.
-pub const CORES: Limits = Limits { least: 1, most: 8 };
+pub const CORES: Limits = Limits {
+    least: 1,
+    most: MAX_THREADS as u32,
+};
 /// How many processes.
 pub const PROCESSES: Limits = Limits { least: 1, most: 16 };
 /// How many frames of 4,096 bytes: the kernels' 512 and at least one more.

@@ -1,11 +1,12 @@
 -- The state that a loaded bundle starts.
-use Rattle.std.specs.Prelude.{◌-◌, List, [], ◌∷◌, map}
+use Rattle.std.specs.Prelude.{◌-◌, ◌≤◌, length, List, [], ◌∷◌, map}
+use Rattle.sb_abi.specs.declared.space.TheConstants.{MAX_THREADS}
 use Rattle.sb_state.specs.State.{State}
 use Rattle.sb_state.specs.Start.{ProcessImage, ThreadEntry, start_state}
 use Rattle.sb_bundle.specs.declared.bundle.Image.{Image}
 use Rattle.sb_bundle.specs.declared.bundle.CoreStart.{CoreStart}
 use Rattle.sb_rewrite.specs.Output.{Output}
-use Rattle.sb_load.specs.Loading.{Load}
+use Rattle.sb_load.specs.Loading.{Load, IsLoadable}
 use Rattle.sb_load.specs.Need.{need_of, have_of}
 
 -- the image of a process: what its text becomes stands in place of the text
@@ -31,3 +32,13 @@ abbrev pub first_state : Load → State
 first_state load =
     start_state (images_loaded load) (map entry_of load.bundle.cores)
     (have_of load.bundle - need_of load.bundle load.rewritten) load.bundle.keys
+
+-- ---- its threads
+
+-- the state has no more threads than the page tables serve
+abbrev pub HasFewThreads : State → Type 0
+HasFewThreads state = length state.threads ≤ MAX_THREADS
+
+-- each bundle that may be loaded starts with so few
+abbrev pub StartsHaveFewThreads : Type 0
+StartsHaveFewThreads = (load : Load) → IsLoadable load → HasFewThreads (first_state load)

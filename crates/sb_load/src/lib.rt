@@ -5,8 +5,9 @@
 //! (`BadEntry`); and a bundle with fewer frames than it takes (`NoFrames`). No bundle has two answers (`one_answer`).
 //!
 //! `Loaded` owns a copy of the bundle, and for each process its rewritten text. To contracts it is `Load`: the bundle,
-//! and what rewriting gave; `specs/FirstState.antt` defines the state that it starts. Not inside: the bundle's format
-//! (`sb_bundle`), how a text is rewritten (`sb_rewrite`), and the machine.
+//! and what rewriting gave; `specs/FirstState.antt` defines the state that it starts, which has no more threads than the
+//! page tables serve (`starts_have_few_threads`). Not inside: the bundle's format (`sb_bundle`), how a text is rewritten
+//! (`sb_rewrite`), and the machine.
 //!
 //! ```text
 //! let loaded = load(alloc, &bundle)?;                // or NoFrames { need: 25, have: 24 }, written "frames 25 24"
@@ -15,11 +16,13 @@
 #![tactic(auto)]
 
 mod entries;
+mod laws;
 mod loaded;
 mod loading;
 mod need;
 mod refusal;
 
+pub use laws::{one_answer, starts_have_few_threads};
 pub use loaded::Loaded;
-pub use loading::{load, one_answer};
+pub use loading::load;
 pub use refusal::LoadRefusal;

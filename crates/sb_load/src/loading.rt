@@ -3,7 +3,7 @@
 ghost use Rattle.std.specs.Prelude.{◌≡◌, ◌≤◌, length};
 ghost use Rattle.std.specs.List.{AllByRecursion};
 ghost use Rattle.sb_bundle.specs.Limits.{IsBundle, IsImage};
-ghost use Rattle.sb_load.specs.Loading.{Loads, OneAnswer};
+ghost use Rattle.sb_load.specs.Loading.{Loads};
 ghost use Rattle.sb_load.specs.Checks.{refusal_of, RewritesTexts, ChecksFrames, AllSmallAreas};
 
 use crate::entries::check_entries;
@@ -72,9 +72,3 @@ pub fn load(alloc: Global, bundle: &Bundle) -> Result<Loaded, LoadRefusal>
     let need = check_frames(bundle, rewritten.items())?;
     Ok(Loaded::new(bundle.copied(alloc)?, rewritten, need))
 }
-
-/// A law, which does nothing when it is called: what `load` promises leaves one answer for each bundle, but for want of
-/// memory.
-pub fn one_answer()
-    ensures { OneAnswer }
-{}

@@ -17,3 +17,4 @@ pub mod Reading
 pub mod Refused
 pub mod Remembered
 pub mod Unmovable
+pub mod Within

@@ -1,5 +1,5 @@
 -- What rewriting gives: the bytes of the text and of the rewrite area, and which instruction is where.
-use Rattle.std.specs.Prelude.{◌≡◌, ◌⊎◌, ℕ, ◌+◌, ◌-◌, List, [], ◌∷◌, ◌++◌, length, map, flat_map, replicate, Contains, Option, Some, None}
+use Rattle.std.specs.Prelude.{◌≡◌, ◌⊎◌, ℕ, ◌+◌, ◌-◌, ◌<◌, ◌≤◌, List, [], ◌∷◌, ◌++◌, length, map, flat_map, replicate, Contains, Option, Some, None}
 use Rattle.std.specs.List.Sorted.{IsStrictlyIncreasing}
 use Rattle.sb_insn.specs.Spelling.{spelling}
 use Rattle.sb_forms.specs.declared.answer.Form.{Form}
@@ -72,6 +72,10 @@ output places = record {
 -- these bytes and lists
 abbrev pub made_of : List ℕ → List ℕ → List ℕ → List Edit → List Move → Output
 made_of text area starts edits moves = record { text = text; area = area; starts = starts; edits = edits; moves = moves }
+
+-- the address is one of those from the least to before the end
+abbrev pub IsBetween : ℕ → ℕ → ℕ → Type 0
+IsBetween least end at = (least ≤ at) × (at < end)
 
 -- starts come in order, and so do moves, by their starts and by their mains
 pub record IsOrdered (made : Output) : Type 0 where

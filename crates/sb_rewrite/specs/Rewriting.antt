@@ -9,7 +9,7 @@ use Rattle.sb_rewrite.specs.declared.refusal.RewriteRefusal.TheVariants.{Undecod
 use Rattle.sb_rewrite.specs.Listing.{text_address, spelled_bytes, AllValid, IsUndecodedAt}
 use Rattle.sb_rewrite.specs.Target.{direct_target, IsBadTarget}
 use Rattle.sb_rewrite.specs.Placing.{Placement, slot_bytes, places, area_address, area_end}
-use Rattle.sb_rewrite.specs.Output.{Output, output, starts_of, RunsAt}
+use Rattle.sb_rewrite.specs.Output.{Output, output, starts_of, RunsAt, IsBetween}
 
 -- ---- what is wrong with an instruction
 
@@ -91,6 +91,14 @@ Rewrites text (Err Memory) = Unit {0}
 -- what a text becomes has as many bytes as the text
 abbrev pub KeepsLength : Type 0
 KeepsLength = (text : List ℕ) (made : Output) → Rewrites text (Ok made) → length made.text ≡ length text
+
+-- ---- where instructions start
+
+-- each start of what a text becomes is the address of one of the text's bytes
+abbrev pub StartsStandInText : Type 0
+StartsStandInText =
+    (text : List ℕ) (made : Output) → Rewrites text (Ok made)
+    → AllByRecursion (IsBetween text_address (text_address + length text)) made.starts
 
 -- ---- why the answer is the only one
 

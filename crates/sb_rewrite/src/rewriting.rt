@@ -6,7 +6,7 @@ ghost use Rattle.sb_forms.specs.Places.{HasForm};
 ghost use Rattle.sb_rewrite.specs.Listing.{text_address, IsListing};
 ghost use Rattle.sb_rewrite.specs.Placing.{place, area_address, is_after_0f};
 ghost use Rattle.sb_rewrite.specs.Turns.{IsTextInsn, JumpsLeadWell, ChecksTargets, ChecksMovable, with_start, Puts, IsPutRefusal, PutsAll};
-ghost use Rattle.sb_rewrite.specs.Rewriting.{Rewrites, KeepsLength, OneRewriting, OneOriginal};
+ghost use Rattle.sb_rewrite.specs.Rewriting.{Rewrites, KeepsLength, StartsStandInText, OneRewriting, OneOriginal};
 
 use crate::draft::Draft;
 use crate::text_insn::{TextInsn, decode_first};
@@ -168,6 +168,11 @@ pub fn rewrite(alloc: Global, text: &[u8]) -> Result<Rewritten, RewriteRefusal>
 /// A law, which does nothing when it is called: what a text becomes has as many bytes as the text.
 pub fn rewriting_keeps_length()
     ensures { KeepsLength }
+{}
+
+/// A law, which does nothing when it is called: each instruction of a text that is rewritten starts at one of its bytes.
+pub fn starts_stand_in_text()
+    ensures { StartsStandInText }
 {}
 
 /// A law, which does nothing when it is called: a text has one answer, but for want of memory, and one original

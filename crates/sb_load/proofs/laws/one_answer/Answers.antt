@@ -1,5 +1,5 @@
 use Rattle.sb_load.proofs.OneAnswer.{one_answer}
-use Rattle.sb_load.proofs.loading.one_answer.Goals as goal
+use Rattle.sb_load.proofs.laws.one_answer.Goals as goal
 
 pub returns : goal.returns
 returns c = one_answer
