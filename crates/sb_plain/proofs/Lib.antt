@@ -5,4 +5,5 @@ pub mod InPage
 pub mod Declined
 pub mod Bits
 pub mod Lawful
+pub mod SoundStart
 pub mod FirstSound

@@ -1,6 +1,10 @@
--- The parts of a process that have bytes at the start.
-use Rattle.std.specs.Prelude.{ℕ}
+-- The parts of a process that have bytes at the start, and what the start of a loaded bundle is made from.
+use Rattle.std.specs.Prelude.{ℕ, ◌<◌, ◌≤◌, ◌^◌, length, map}
+use Rattle.std.specs.List.{AllByRecursion}
+use Rattle.sb_abi.specs.declared.space.TheConstants.{MAX_THREADS}
+use Rattle.sb_load.specs.Loading.{Load, IsLoadable}
 pub use Rattle.sb_load.specs.FirstState.{image_of, images_of, images_loaded, entry_of, first_state}
+use Rattle.sb_trace.specs.Laws.{IsImageSound, IsEntrySound}
 use Rattle.sb_state.specs.declared.page.PageName.{PageName}
 use Rattle.sb_state.specs.declared.page.PageName.TheVariants.{Text, Area, Data}
 use Rattle.sb_plain.specs.declared.start.pages.Part.{Part}
@@ -17,3 +21,17 @@ abbrev pub part_filler : Part → ℕ
 part_filler part.Text = 0xCC
 part_filler part.Area = 0xCC
 part_filler part.Data = 0
+
+-- ---- what the start is made from
+
+-- sound images, entries in them, few of both, and key words: what a sound state starts from
+pub record HasSoundStart (load : Load) : Type 0 where
+  pub images : AllByRecursion IsImageSound (images_loaded load)
+  pub image_count : length (images_loaded load) ≤ 16
+  pub entries : AllByRecursion (IsEntrySound (length (images_loaded load))) (map entry_of load.bundle.cores)
+  pub entry_count : length (map entry_of load.bundle.cores) ≤ MAX_THREADS
+  pub keys : AllByRecursion (λ key. key < 2 ^ 64) load.bundle.keys
+
+-- each bundle that may be loaded has that
+abbrev pub LoadsHaveSoundStarts : Type 0
+LoadsHaveSoundStarts = (load : Load) → IsLoadable load → HasSoundStart load

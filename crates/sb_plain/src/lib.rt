@@ -23,6 +23,7 @@ mod end;
 mod flight;
 mod home;
 mod instruction;
+mod laws;
 mod plain;
 mod pool;
 #[cfg(test)]
@@ -31,4 +32,5 @@ mod start;
 mod step;
 mod system_call;
 
+pub use laws::loads_have_sound_starts;
 pub use plain::Plain;
