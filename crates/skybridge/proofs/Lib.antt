@@ -1,5 +1,4 @@
 pub mod Parts
-pub mod Schedule
 pub mod Determined
 pub mod Apart
 pub mod Limit

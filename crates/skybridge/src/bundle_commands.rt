@@ -1,13 +1,13 @@
 //! From the bytes of an input to what a command writes of it, or why there is nothing to write.
 
-ghost use Rattle.std.specs.Prelude.{IfOk, length, string_bytes};
+ghost use Rattle.std.specs.Prelude.{IfOk, string_bytes};
 ghost use Rattle.sb_trace.specs.Run.{RunBy};
 ghost use Rattle.sb_trace.specs.Step.{Steps};
 ghost use Rattle.sb_load.specs.Loading.{IsLoadable};
 ghost use Rattle.skybridge.specs.Runs.{RunsTo};
 ghost use Rattle.skybridge.specs.Output.{IsReport, IsOutput};
 ghost use Rattle.skybridge.specs.Answer.{Reports, ReportsBundle};
-ghost use Rattle.sb_bundle.specs.Limits.{IsBundle, AllBelow};
+ghost use Rattle.sb_bundle.specs.Limits.{IsBundle};
 
 use crate::command_text::{check_text, rewrite_text};
 use crate::words::BundleCommand;
@@ -34,7 +34,6 @@ pub enum Refusal {
 
 // A step for each entry of the schedule.
 fn run(alloc: Global, plain: &mut Plain, schedule: &[u8]) -> Result<Lines, AllocError>
-    requires { AllBelow (length plain.old.threads) schedule.now }
     ensures { IfOk result (λ lines. RunBy Steps plain.old schedule.now lines plain.new) }
 {
     let mut lines = Vec::new(alloc);
