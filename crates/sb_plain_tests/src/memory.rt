@@ -6,9 +6,7 @@ use sb_bus::{Bus, BusStop, FaultKind};
 use sb_insn::{Flags, Regs};
 use sb_list::Listed;
 use sb_memory::Linear;
-use sb_state::{
-    Bindings, EndKind, Page, PageName, Pages, PlainBus, PlainState, Thread, no_thread,
-};
+use sb_state::{Bindings, EndKind, Page, PageName, Pages, PlainBus, PlainState, Thread, no_thread};
 use sb_tramp::KeyWords;
 use std::alloc::Global;
 use std::test::Fail;
