@@ -13,8 +13,6 @@ use sb_insn::registers::RSI;
 use sb_state::{Binding, Decision, Flight, PlainState, Thread, eax, ecx};
 use sb_trace::{Event, VMFUNC_PHASE};
 
-#[cfg(test)]
-mod tests;
 
 // ---- what a phase looks at
 

@@ -26,8 +26,6 @@ mod instruction;
 mod laws;
 mod plain;
 mod pool;
-#[cfg(test)]
-mod samples;
 mod start;
 mod step;
 mod system_call;

@@ -15,8 +15,6 @@ use sb_tramp::KeyWords;
 use std::alloc::{AllocError, Global};
 
 mod pages;
-#[cfg(test)]
-mod tests;
 mod threads;
 
 use pages::start_pages;

@@ -9,8 +9,6 @@
 mod bind;
 mod protect;
 mod register;
-#[cfg(test)]
-mod tests;
 
 ghost use Rattle.std.specs.Prelude.{◌≡◌};
 ghost use Rattle.sb_exec.specs.Operand.{next_rip};

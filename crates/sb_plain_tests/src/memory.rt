@@ -7,7 +7,7 @@ use sb_insn::{Flags, Regs};
 use sb_list::Listed;
 use sb_memory::Linear;
 use sb_state::{
-    Bindings, EndKind, Page, PageName, Pages, PlainBus, PlainState, Thread, no_thread,
+    Binding, Bindings, EndKind, Page, PageName, Pages, PlainBus, PlainState, Thread, no_thread,
 };
 use sb_tramp::KeyWords;
 use std::alloc::Global;
@@ -139,5 +139,37 @@ fn text_is_fetched_and_not_read(rt: HostRuntime) -> Result<(), Fail> {
     assert_eq!(rt; bus.fetch(Linear(TEXT)), Ok(0x31));
     assert_eq!(rt; bus.load(Linear(TEXT), 1), fault(FaultKind::Memory, TEXT));
     assert_eq!(rt; bus.fetch(Linear(DATA)), fault(FaultKind::Memory, DATA));
+    Ok(())
+}
+
+#[test]
+fn a_ninth_thread_has_its_buffer(rt: HostRuntime) -> Result<(), Fail> {
+    let mut state = state(rt.alloc())?;
+    for _ in 3..8 {
+        state.threads.push(thread(0))?;
+    }
+    let mut bindings = Bindings::new();
+    bindings.push(Binding {
+        index: 1,
+        server: 1,
+        key: 0,
+    });
+    state.threads.push(Thread {
+        bindings,
+        ..thread(0)
+    })?;
+    for number in 0..4 {
+        let name = PageName::Buffer(8, 1, number);
+        state.pages.push(page(rt.alloc(), name, &[], 0)?)?;
+    }
+    // It stores in its home, the last byte of the four pages included, and the server's view has what it stored.
+    for (at, value) in [(0x220_4000, 7), (0x220_7FF8, 9)] {
+        let stored = PlainBus::new(&mut state, 8, 0).store(Linear(at), 8, value);
+        assert_eq!(rt; stored, Ok(()));
+        let loaded = PlainBus::new(&mut state, 8, 1).load(Linear(at), 8);
+        assert_eq!(rt; loaded, Ok(value));
+    }
+    let past = PlainBus::new(&mut state, 8, 0).load(Linear(0x220_8000), 1);
+    assert_eq!(rt; past, fault(FaultKind::Memory, 0x220_8000));
     Ok(())
 }

@@ -1,0 +1,79 @@
+//! The start of a small machine, and steps of it.
+
+use sb_bundle::read_bundle;
+use sb_load::load;
+use sb_plain::Plain;
+use sb_trace::Event;
+use std::alloc::Global;
+use std::test::Fail;
+
+/// A bundle of 600 frames and three key words. Process 0 has XOR EAX, EAX and SYSCALL; process 1 has the same, a byte of
+/// data and a page of heap. Both cores start in process 1 at its second instruction.
+#[rattlefmt::skip]
+const BUNDLE: [u8; 101] = [
+    0x53, 0x4B, 0x59, 0x42, 1, 0, 2, 2, 0x58, 0x02, 0, 0, 3, 0, 0, 0, 0, 0, 0, 0, // header
+    5, 0, 0, 0, 0, 0, 0, 0, 6, 0, 0, 0, 0, 0, 0, 0, 7, 0, 0, 0, 0, 0, 0, 0, // key words
+    4, 0, 0, 0, 0, 0, 0, 0, 0, 0, 0, 0, 0x31, 0xC0, 0x0F, 0x05, // process 0
+    4, 0, 0, 0, 1, 0, 0, 0, 1, 0, 0, 0, 0x31, 0xC0, 0x0F, 0x05, 7, // process 1
+    1, 0, 0, 0, 2, 0, 0x40, 0, 0, 0, 0, 0, // core 0
+    1, 0, 0, 0, 2, 0, 0x40, 0, 0, 0, 0, 0, // core 1
+];
+
+/// A bundle of 600 frames with MOV EAX, 00D4010F and SYSCALL, which core 0 starts at. The MOV holds the bytes of VMFUNC.
+#[rattlefmt::skip]
+const MOVED: [u8; 51] = [
+    0x53, 0x4B, 0x59, 0x42, 1, 0, 1, 1, 0x58, 0x02, 0, 0, 0, 0, 0, 0, 0, 0, 0, 0, // header
+    7, 0, 0, 0, 0, 0, 0, 0, 0, 0, 0, 0, 0xB8, 0x0F, 0x01, 0xD4, 0, 0x0F, 0x05, // process 0
+    0, 0, 0, 0, 0, 0, 0x40, 0, 0, 0, 0, 0, // core 0
+];
+
+/// The machine that a bundle starts.
+fn start(alloc: Global, bytes: &[u8]) -> Result<Plain, Fail> {
+    let bundle = read_bundle(alloc, bytes)
+        .ok()
+        .ok_or("the bytes are a bundle")?;
+    let loaded = load(alloc, &bundle).ok().ok_or("the bundle may be loaded")?;
+    Ok(Plain::new(alloc, &loaded)?)
+}
+
+#[test]
+fn a_machine_starts_with_these_threads(rt: HostRuntime) -> Result<(), Fail> {
+    let end = start(rt.alloc(), &BUNDLE)?.end(rt.alloc())?;
+    // Of 88 frames 24 are for two processes, 4 for their pages, and 24 for two threads.
+    assert_eq!(rt; (end.free, end.keys), (36, 3));
+    assert_eq!(rt; end.threads.items().len(), 2);
+    for (number, thread) in end.threads.items().iter().enumerate() {
+        assert_eq!(rt; (thread.home, thread.view, thread.present), (1, 0, 1));
+        assert_eq!(rt; thread.regs.rip, 0x40_0002);
+        assert_eq!(rt; thread.flight, None);
+        assert_eq!(rt; thread.regs.general[7], number as u64);
+    }
+    Ok(())
+}
+
+#[test]
+fn a_moved_instruction_runs_through_its_slot(rt: HostRuntime) -> Result<(), Fail> {
+    let mut plain = start(rt.alloc(), &MOVED)?;
+    for rip in [0x40_0000, 0x1000, 0x1008, 0x100F, 0x1016, 0x1018, 0x1020] {
+        assert_eq!(rt; plain.step(0).event, Event::Step { rip });
+    }
+    let end = plain.end(rt.alloc())?;
+    assert_eq!(rt; end.threads.items().len(), 1);
+    for thread in end.threads.items() {
+        // RAX and RCX, and the address of the SYSCALL.
+        assert_eq!(rt;
+            (thread.regs.general[0], thread.regs.general[1]),
+            (0xD4_010F, 0)
+        );
+        assert_eq!(rt; thread.regs.rip, 0x40_0005);
+    }
+    Ok(())
+}
+
+#[test]
+fn a_core_without_a_thread_is_idle(rt: HostRuntime) -> Result<(), Fail> {
+    let mut plain = start(rt.alloc(), &MOVED)?;
+    assert_eq!(rt; plain.step(1).event, Event::Idle);
+    assert_eq!(rt; plain.step(0).event, Event::Step { rip: 0x40_0000 });
+    Ok(())
+}
