@@ -20,10 +20,10 @@ use Rattle.sb_state.specs.PageWords.{zeros}
 use Rattle.sb_state.specs.Start.{ProcessImage, ThreadEntry, page_padded, page_of, padded_page, page_count, padded_pages, heap_page, heap_pages, process_pages, home_words, thread_pages, trampoline_pages, images_pages, threads_pages, start_threads, start_state}
 use Rattle.sb_trace.specs.Code.{fetched_byte, code_byte, HasNoCodePattern}
 use Rattle.sb_trace.specs.Sound.{HasPage, HasView, IsFlightSound}
-use Rattle.sb_trace.specs.Laws.{IsImageSound, StartIsSound}
+use Rattle.sb_trace.specs.Laws.{IsImageSound}
 use Rattle.sb_state.proofs.Names.{name_same}
 use Rattle.sb_state.proofs.PageLists.{either, found_added}
-use Rattle.sb_state.proofs.Start.{zeros_size, record_size, EachPage, found_each, each_both, each_from}
+use Rattle.sb_state.proofs.Start.{zeros_size, record_size, EachPage, found_each, each_both, each_from, count_threads}
 use Rattle.sb_trace.proofs.CodeSound.{AreCodePagesSound}
 
 -- ---- bytes that fill pages
@@ -152,7 +152,7 @@ unfolding trampoline_pages
 trampoline_starts images = ((refl, home_size, refl), ((refl, server_size, refl), tt))
 
 -- the pages of the start
-abbrev first_pages : List ProcessImage → List ThreadEntry → List Page
+abbrev pub first_pages : List ProcessImage → List ThreadEntry → List Page
 first_pages images entries = images_pages 0 images ++ (threads_pages 0 entries ++ trampoline_pages)
 
 pages_start : (images : List ProcessImage) (entries : List ThreadEntry)
@@ -339,15 +339,11 @@ none_flies zero number = refl
 none_flies (suc count) zero = refl
 none_flies (suc count) (suc number) = none_flies count number
 
-threads_start_as_many : (entries : List ThreadEntry) (first : ℕ) → length (start_threads first entries) ≡ length entries
-threads_start_as_many [] first = refl
-threads_start_as_many (entry ∷ entries) first = ap suc (threads_start_as_many entries (first + 1))
-
 -- a flight, or none, for each thread
 pub places_start : (images : List ProcessImage) (entries : List ThreadEntry) (free : ℕ) (keys : List ℕ)
     → length (start_state images entries free keys).flights ≡ length (start_state images entries free keys).threads
 places_start images entries free keys =
-    length-replicate {A = Option Flight} (length entries) None ∙ sym (threads_start_as_many entries 0)
+    length-replicate {A = Option Flight} (length entries) None ∙ sym (count_threads 0 entries)
 
 -- each thread starts in a view that it has
 pub views_start : (images : List ProcessImage) (entries : List ThreadEntry) (free : ℕ) (keys : List ℕ) (number : ℕ)
@@ -362,10 +358,3 @@ pub flights_start : (images : List ProcessImage) (entries : List ThreadEntry) (f
 unfolding thread_at flight_at
 flights_start images entries free keys number =
     subst (IsFlightSound (thread_at (start_state images entries free keys) number)) (sym (none_flies (length entries) number)) tt
-
-pub start_is_sound : StartIsSound
-start_is_sound images entries free keys sound homes few words = record {
-  views = views_start images entries free keys;
-  places = places_start images entries free keys;
-  flights = flights_start images entries free keys;
-}

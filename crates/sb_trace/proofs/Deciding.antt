@@ -10,7 +10,6 @@ use Rattle.sb_state.specs.declared.page.PageName.TheVariants.{Pool}
 use Rattle.sb_state.specs.declared.state.Binding.{Binding}
 use Rattle.sb_state.specs.declared.state.Decision.{Decision}
 use Rattle.sb_state.specs.declared.state.Decision.TheVariants as decision
-use Rattle.sb_state.specs.declared.state.Flight.{Flight}
 use Rattle.sb_state.specs.declared.state.Thread.{Thread}
 use Rattle.sb_state.specs.State.{State, thread_at, with_view, with_contents, registration_at}
 use Rattle.sb_state.specs.PageWords.{with_word}

@@ -3,11 +3,9 @@ use Rattle.std.proofs.Common.{◌≡◌, ◌≢◌, ◌∙◌, sym, ap, subst, �
 use Rattle.std.specs.Prelude.{Option, Some, None, if◌then◌else◌, slice_get, unwrap_or, not}
 use Rattle.std.specs.Option.{option_map}
 use Rattle.std.proofs.lemmas.Bool.{cases_eq, and_parts}
-use Rattle.sb_insn.specs.declared.registers.Regs.{Regs}
 use Rattle.sb_exec.specs.Fetching.{Stands, fetch_of}
 use Rattle.sb_scan.specs.Pattern.{pattern}
 use Rattle.sb_trace.specs.declared.event.Event.{Event}
-use Rattle.sb_trace.specs.declared.event.Event.TheVariants.{Turn, Return, WrongKey, PoolEmpty, Entered}
 use Rattle.sb_state.specs.declared.end_kind.EndKind.{EndKind}
 use Rattle.sb_state.specs.declared.end_kind.EndKind.TheVariants.{Running, Ended, Faulted}
 use Rattle.sb_state.specs.declared.state.Binding.{Binding}
@@ -15,19 +13,17 @@ use Rattle.sb_state.specs.declared.state.Decision.{Decision}
 use Rattle.sb_state.specs.declared.state.Decision.TheVariants as decision
 use Rattle.sb_state.specs.declared.state.Flight.{Flight}
 use Rattle.sb_state.specs.declared.state.Thread.{Thread}
-use Rattle.sb_state.specs.State.{State, thread_at, with_view, flight_at, with_flight}
-use Rattle.sb_state.specs.PageWords.{with_word}
-use Rattle.sb_state.specs.State.{with_contents}
+use Rattle.sb_state.specs.State.{State, thread_at, flight_at, with_flight}
 use Rattle.sb_state.specs.PlainMemory.{plain}
 use Rattle.sb_state.specs.Registers.{eax, ecx, rsi}
 use Rattle.sb_trace.specs.Home.{Outcome}
-use Rattle.sb_trace.specs.KernelCall.{binding_with, pool_word, state_at_handler, call_outcome, outcome_by_index, kernel_call, lowest_bit}
+use Rattle.sb_trace.specs.KernelCall.{binding_with, kernel_call}
 use Rattle.sb_trace.specs.Flight.{flight_binding, is_key, bound_pool, decided_at, phase_after, at_phase, next_flight, phase_outcome, landing_step, first_flight, called_binding, vmfunc_outcome_by, vmfunc_outcome}
 use Rattle.sb_trace.specs.Step.{GoesOn, StepsBy, Steps}
 use Rattle.sb_trace.specs.Sound.{ArePagesSound, IsMask, IsThreadOfFlight, IsInFlight, IsFlightSound, IsSound}
 use Rattle.sb_state.proofs.Names.{number}
-use Rattle.sb_state.proofs.Cases.{claim_if, none_some}
-use Rattle.sb_state.proofs.Threads.{set_same, thread_set, flight_there}
+use Rattle.sb_state.proofs.Cases.{none_some}
+use Rattle.sb_state.proofs.Threads.{set_same, flight_there}
 use Rattle.sb_trace.proofs.Threads.{running_there, thread_other, flight_other, bound_there}
 use Rattle.sb_trace.proofs.Kernel.{Did, did_call}
 use Rattle.sb_trace.proofs.Steps.{instruction_claims, did_next, steps_change}

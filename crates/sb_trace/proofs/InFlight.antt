@@ -1,6 +1,6 @@
 -- What the phase of a flight says: before the decision it stands at the VMFUNC, and behind it no phase decides again.
-use Rattle.std.proofs.Common.{◌≡◌, ◌≢◌, ◌∙◌, sym, subst, ℕ, zero, suc, ◌+◌, ◌%◌, ◌^◌, ◌<◌, ◌≤◌, Bool, true, false, List, [], ◌∷◌, ◌==◌, ◌⊎◌, length, refl, arith, inl, inr}
-use Rattle.std.specs.Prelude.{Option, Some, None, slice_index_or, if◌then◌else◌}
+use Rattle.std.proofs.Common.{◌≡◌, ◌≢◌, subst, ℕ, zero, suc, ◌%◌, ◌^◌, ◌<◌, ◌≤◌, true, List, [], ◌∷◌, ◌==◌, ◌⊎◌, length, refl, arith, inl, inr}
+use Rattle.std.specs.Prelude.{Option, Some, None, slice_index_or}
 use Rattle.std.specs.List.{AllByRecursion, Contains}
 use Rattle.sb_state.specs.declared.state.Binding.{Binding}
 use Rattle.sb_state.specs.declared.state.Decision.{Decision}
@@ -13,7 +13,8 @@ use Rattle.sb_trace.specs.Flight.{phase_after}
 use Rattle.sb_trace.specs.KernelCall.{binding_with}
 use Rattle.sb_trace.specs.Sound.{vmfunc_address, phases_of, IsMask, IsThreadSound, IsInFlight}
 use Rattle.sb_state.proofs.Cases.{same_some}
-use Rattle.sb_trace.proofs.Threads.{each_at, running_there, bound_there}
+use Rattle.sb_trace.proofs.ProcessFacts.{all_at}
+use Rattle.sb_trace.proofs.Threads.{running_there, bound_there}
 use Rattle.std.proofs.lemmas.Bool.Decides.{Decides-eqb}
 
 abbrev pub flight_of : ℕ → ℕ → ℕ → Option Decision → Flight
@@ -159,7 +160,7 @@ pub flight_away : (state : State) (core : ℕ) (flight : Flight) → AllByRecurs
     → IsInFlight (thread_at state core) flight → flight.index ≢ 0
 flight_away state core flight all flies none =
     let its : IsThreadSound state (thread_at state core) =
-    each_at (IsThreadSound state) state.threads core (thread_at state core) all (running_there state core flies.running) in
+    all_at (IsThreadSound state) state.threads core (thread_at state core) all (running_there state core flies.running) in
     let least = (its.each flight.index flies.binding flies.bound).least in
     let same = (bound_there (thread_at state core).bindings flight.index flies.binding flies.bound).0 in
     omega (arith, least, same, none)

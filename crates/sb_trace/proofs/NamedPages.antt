@@ -1,5 +1,5 @@
 -- Lists of pages by the names that stand in them.
-use Rattle.std.proofs.Common.{◌≡◌, ◌∙◌, sym, ap, subst, ℕ, zero, suc, ◌+◌, ◌<◌, Bool, true, false, List, [], ◌∷◌, ◌++◌, ◌==◌, ◌&&◌, ◌||◌, refl, arith}
+use Rattle.std.proofs.Common.{◌≡◌, ◌∙◌, sym, ap, subst, ℕ, zero, suc, ◌+◌, ◌<◌, Bool, true, false, List, [], ◌∷◌, ◌++◌, ◌==◌, ◌||◌, refl, arith}
 use Rattle.std.specs.Prelude.{Option, Some, None, is_some, map, nat_lt, if◌then◌else◌}
 use Rattle.std.specs.List.{AllByRecursion}
 use Rattle.std.proofs.lemmas.Bool.{ne_eqb}
@@ -148,6 +148,27 @@ own_behind (page ∷ first) second own =
     new_behind page first second (both_none (find_page first page.name) (find_page second page.name) none).1
     (own_behind first second own.1)
 
+-- a page whose name no page behind it has, where none behind has the name of one of these
+none_behind : (page : Page) (first second : List Page) → EachPage (λ one. find_page (page ∷ first) one.name ≡ None) second
+    → (find_page second page.name ≡ None) × EachPage (λ one. find_page first one.name ≡ None) second
+none_behind page first [] new = (refl, tt)
+none_behind page first (one ∷ second) new =
+    let parts = apart_by (same_name page.name one.name) page (find_page first one.name) new.0 in
+    let apart : same_name one.name page.name ≡ false =
+    turned_by (same_name one.name page.name) one.name page.name refl parts.0 in
+    let more = none_behind page first second new.1 in
+    (behind_by (same_name one.name page.name) one (find_page second page.name) apart more.0, (parts.1, more.1))
+
+pub own_new : (first second : List Page) → HaveOwnNames first → HaveOwnNames second
+    → EachPage (λ one. find_page first one.name ≡ None) second
+    → HaveOwnNames (first ++ second)
+own_new [] second one other new = other
+own_new (page ∷ first) second one other new =
+    let parts = none_behind page first second new in (
+      found_added first second page.name ∙ none_either (find_page first page.name) (find_page second page.name) one.0 parts.0,
+      own_new first second one.1 other parts.1,
+    )
+
 -- ---- lists of pages by a test of names
 
 -- the pages are those of the names of a test, each once
@@ -177,6 +198,16 @@ pub hold_both : (first second : List Page) (test other : PageName → Bool) → 
     → Hold (first ++ second) (λ name. test name || other name)
 hold_both first second test other one two apart = record {
   once = own_added first second one.once two.once (no_test other second first two apart);
+  exactly = λ name. there_added first second name
+      ∙ or_same (is_there first name) (test name) (is_there second name) (other name) (one.exactly name) (two.exactly name);
+}
+
+-- of two lists, of which the second has no name of the first
+pub hold_new : (first second : List Page) (test other : PageName → Bool) → Hold first test → Hold second other
+    → EachPage (λ page. test page.name ≡ false) second
+    → Hold (first ++ second) (λ name. test name || other name)
+hold_new first second test other one two new = record {
+  once = own_new first second one.once two.once (no_test test first second one new);
   exactly = λ name. there_added first second name
       ∙ or_same (is_there first name) (test name) (is_there second name) (other name) (one.exactly name) (two.exactly name);
 }

@@ -1,7 +1,6 @@
 -- A pool word is a word, since its page has bytes.
-use Rattle.std.proofs.Common.{◌≡◌, sym, ap, subst, ℕ, zero, suc, ◌^◌, ◌<◌, List, [], ◌∷◌, refl, arith}
+use Rattle.std.proofs.Common.{◌≡◌, ℕ, zero, suc, ◌^◌, ◌<◌, List, [], ◌∷◌, refl, arith}
 use Rattle.std.specs.Prelude.{Option, Some, None, slice_index}
-use Rattle.std.specs.List.{AllByRecursion}
 use Rattle.byteorder.specs.Numbers.{little_from-lt}
 use Rattle.sb_memory.specs.Words.{word_at}
 use Rattle.sb_state.specs.declared.page.Page.{Page}

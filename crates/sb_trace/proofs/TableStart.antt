@@ -1,5 +1,5 @@
 -- The pages of the start are those of the table, each once.
-use Rattle.std.proofs.Common.{◌≡◌, ◌∙◌, sym, ap, subst, ℕ, zero, suc, ◌+◌, ◌*◌, ◌/◌, ◌<◌, ◌≤◌, Bool, true, false, List, [], ◌∷◌, ◌++◌, ◌==◌, ◌&&◌, ◌||◌, length, refl, arith}
+use Rattle.std.proofs.Common.{◌≡◌, ◌∙◌, sym, ap, subst, ℕ, zero, suc, ◌+◌, ◌*◌, ◌<◌, ◌≤◌, Bool, true, false, List, [], ◌∷◌, ◌++◌, ◌==◌, ◌&&◌, ◌||◌, length, refl, arith}
 use Rattle.std.specs.Prelude.{Option, Some, None, is_some, map, not, nat_lt, slice_get, if◌then◌else◌}
 use Rattle.std.specs.Option.{option_map, option_and_then}
 use Rattle.std.specs.List.{AllByRecursion}
@@ -8,10 +8,9 @@ use Rattle.std.proofs.lemmas.Bool.Decides.{Decides-eqb, Decides-ltb}
 use Rattle.sb_state.specs.declared.page.PageName.{PageName}
 use Rattle.sb_state.specs.declared.page.PageName.TheVariants.{Text, Area, Data, Heap, Pool, ServerStack, Save, Stack, Buffer, Record, Scratch, HomeTrampoline, ServerTrampoline}
 use Rattle.sb_state.specs.declared.page.Page.{Page}
-use Rattle.sb_state.specs.declared.state.Thread.{Thread}
 use Rattle.sb_state.specs.PageName.{same_name}
 use Rattle.sb_state.specs.PageWords.{zeros}
-use Rattle.sb_state.specs.State.{State, Process, page_with, process_at, registration_of, registration_at}
+use Rattle.sb_state.specs.State.{find_page, page_with, process_at, registration_of, registration_at}
 use Rattle.sb_state.specs.Windows.{process_of_view, process_shown}
 use Rattle.sb_state.specs.Start.{ProcessImage, ThreadEntry, padded_page, page_count, padded_pages, heap_page, heap_pages, process_pages, home_words, record_bytes, thread_pages, trampoline_pages, images_pages, threads_pages, start_thread, start_threads, start_process, start_state}
 use Rattle.sb_tramp.specs.Home.{home_page}
@@ -590,3 +589,11 @@ table_starts images entries free keys all =
       once = held.once;
       exactly = λ name. held.exactly name ∙ start_table images entries free keys name;
     }
+
+-- the record page of a view is there at the start where the view is
+pub start_there : (images : List ProcessImage) (entries : List ThreadEntry) (free : ℕ) (keys : List ℕ) (thread view : ℕ)
+    → is_some (find_page (start_state images entries free keys).pages (Record thread view))
+    ≡ is_some (process_shown (start_threads 0 entries) thread view)
+unfolding is_in_table
+start_there images entries free keys thread view =
+    (start_held images entries).exactly (Record thread view) ∙ start_table images entries free keys (Record thread view)

@@ -2,7 +2,6 @@
 use Rattle.std.proofs.Common.{◌≡◌, ◌≢◌, ◌∙◌, sym, ap, subst, ℕ, zero, suc, Bool, true, false, List, [], ◌∷◌, ◌==◌, length, refl, slice_set, inl, inr}
 use Rattle.std.specs.Prelude.{Option, Some, None, slice_get, unwrap_or, if◌then◌else◌}
 use Rattle.std.specs.Option.{option_map}
-use Rattle.std.specs.List.{AllByRecursion}
 use Rattle.std.proofs.lemmas.Bool.{cases_eq}
 use Rattle.std.proofs.lemmas.List.{length-set}
 use Rattle.sb_state.specs.declared.end_kind.EndKind.TheVariants.{Running}
@@ -73,15 +72,6 @@ pub flight_other : (old : State) (number : ℕ) (new : State) (other : ℕ) → 
     → flight_at new other ≡ flight_at old other
 unfolding flight_at
 flight_other old number new other only apart = ap (λ found. unwrap_or found None) (only.flights other apart)
-
--- ---- lists
-
--- what is said of each element is said of the one at a place
-pub each_at : {A : Type 0} (Claim : A → Type 0) (list : List A) (place : ℕ) (value : A) → AllByRecursion Claim list
-    → slice_get list place ≡ Some value → Claim value
-each_at Claim [] place value all is = absurd cc
-each_at Claim (first ∷ list) zero value all is = let same : first ≡ value = cc in subst Claim same all.0
-each_at Claim (first ∷ list) (suc place) value all is = each_at Claim list place value all.1 is
 
 -- ---- a thread that is there
 

@@ -1,11 +1,11 @@
 //! The laws of runs of the plain machine: functions without a body, each of which states one (docs/LAWS.md).
 
-ghost use Rattle.sb_trace.specs.Laws.{StartIsSound, StepsKeepSound, RunsKeepSound, LandingsDrop, StepsDrop, HasOneRun, FlightLines, StepsChange, OnePattern, RunsKeepOneSwitch, SwitchStands, HasOneText, TextsAreOfLawfulRuns, ReportsDrop, ReportsAreOfLawfulRuns};
+ghost use Rattle.sb_trace.specs.Laws.{StartIsSound, StepsKeepSound, RunsKeepSound, LandingsDrop, StepsDrop, HasOneRun, FlightLines, StepsChange, AddedPagesAreNew, OnePattern, RunsKeepOneSwitch, SwitchStands, HasOneText, TextsAreOfLawfulRuns, ReportsDrop, ReportsAreOfLawfulRuns};
 ghost use Rattle.sb_trace.specs.OneStep.{StepsOnce};
 ghost use Rattle.sb_trace.specs.Step.{Steps};
 
-/// What holds of pages, views and flights (`IsSound`) holds at the start of images whose texts and rewrite areas hold
-/// VMFUNC's bytes nowhere.
+/// What holds in each state of a run (`IsSound`) holds at the start of at most 16 images and 32 threads: of sound images, whose
+/// texts and rewrite areas hold VMFUNC's bytes nowhere, of threads whose homes are there, and of key words.
 pub fn start_is_sound()
     ensures { StartIsSound }
 {}
@@ -34,9 +34,9 @@ pub fn flights_decide()
 
 /// What a step may change, by its line.
 ///
-/// An instruction changes only bytes of pages that its thread may write in its view; an entry only the pool word of the
-/// server; of system calls, registration, binding and a change of mode only what they are for; and all else no page.
-/// Of threads, a step changes only the one that makes it.
+/// An instruction changes only bytes of pages that its thread may write in its view; an entry only the lowest free bit of the
+/// server's pool word; of system calls, registration, binding and a change of mode only what they are for; a landing line only
+/// flights; an idle step nothing; and all else no page. Of threads, a step changes only the one that makes it.
 pub fn steps_change()
     ensures { StepsChange }
 {}
@@ -62,4 +62,9 @@ pub fn runs_have_one_text()
     ensures lawful { TextsAreOfLawfulRuns }
     ensures dropped { ReportsDrop }
     ensures report { ReportsAreOfLawfulRuns }
+{}
+
+/// Each page that a step adds has a name that no page had.
+pub fn added_pages_are_new()
+    ensures { AddedPagesAreNew }
 {}

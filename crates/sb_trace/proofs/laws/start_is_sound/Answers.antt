@@ -1,4 +1,4 @@
-use Rattle.sb_trace.proofs.Beginning.{start_is_sound}
+use Rattle.sb_trace.proofs.SoundRuns.{start_is_sound}
 use Rattle.sb_trace.proofs.laws.start_is_sound.Goals as goal
 
 pub returns : goal.returns
