@@ -8,8 +8,8 @@
 //! each instruction as a row of data (`specs/`): what is loaded, what is stored after it, and the registers and the
 //! stored number as functions of the loaded number. A row is composed of the operands by their form, one function over
 //! numbers for each operation, and the write back; which of them an instruction has, a table says by its name in the
-//! opcode maps of `sb_insn`. Laws say when a row does the same on two memories (`Pair`). Not inside: a memory, and what
-//! a system call or a switch does.
+//! opcode maps of `sb_insn`. Laws say when a row does the same on two memories (`Pair`), and that each leaves numbers of
+//! 64 bits in the registers. Not inside: a memory, and what a system call or a switch does.
 //!
 //! Where the SDM leaves a value open, the rows choose. IMUL keeps ZF and PF. A shift by more than 1 clears OF. BSF
 //! changes no flag but ZF, and of 0 leaves its destination whole, as CMPXCHG leaves a register that is not equal. A
@@ -33,7 +33,7 @@ mod table;
 mod words;
 mod write_back;
 
-pub use action::{Action, After, Effect, Exchange, Load, MemoryUse, Location, Store};
+pub use action::{Action, After, Effect, Exchange, Load, Location, MemoryUse, Store};
 pub use execution::execute;
 pub use fetch::{fetch_insn, first_insn, one_fetch, one_fetch_on};
 pub use pair::{

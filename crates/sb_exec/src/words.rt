@@ -1,8 +1,8 @@
 //! Registers of 64 bits: laws by which an instruction leaves them so.
 
-use sb_bus::Bus;
-
 ghost use Rattle.sb_exec.specs.Words.{RowsKeepWords, ExecutionsKeepWords};
+
+use sb_bus::Bus;
 
 /// The row of each instruction leaves words in the registers, whatever word it loads.
 pub fn rows_keep_words()

@@ -63,6 +63,28 @@ abbrev pub after_word : {Account : Type 0} → (PhysCall → Physical → Accoun
 after_word rule memory (Ok place) word account = rule (WriteWord place.0 word) memory account
 after_word rule memory (Err stop) word account = account
 
+-- the memory after the lowest bytes of a value are put from an address upwards, if each of them leads somewhere
+abbrev pub bytes_stored : View → ℕ → ℕ → ℕ → Physical
+bytes_stored core address size value = put_answer core.physical (bytes_from (store_place core) address size) value
+
+-- the account after that: each byte is read before the first is written
+abbrev pub after_bytes_stored : {Account : Type 0} → (PhysCall → Physical → Account → Account) → View → ℕ → ℕ → ℕ
+    → Account → Account
+after_bytes_stored rule core address size value account =
+    after_answer rule core.physical (bytes_from (store_place core) address size) value
+    (account_after_reads rule core.physical (load_calls core Write address size) account)
+
+-- the memory after a word is put at its address, if that leads somewhere
+abbrev pub word_stored : View → ℕ → ℕ → Physical
+word_stored core address word = put_word_at core.physical (place_of core Write address) word
+
+-- the account after that: each byte of the word is looked up, and none is read
+abbrev pub after_word_stored : {Account : Type 0} → (PhysCall → Physical → Account → Account) → View → ℕ → ℕ
+    → Account → Account
+after_word_stored rule core address word account =
+    after_word rule core.physical (place_of core Write address) word
+    (account_after_reads rule core.physical (look_calls core address 8) account)
+
 -- the bytes are all those of one word of memory
 abbrev pub is_whole : ℕ → ℕ → Bool
 is_whole address size = (size == 8) && (address % 8 == 0)
@@ -70,9 +92,7 @@ is_whole address size = (size == 8) && (address % 8 == 0)
 -- the memory after a store: a whole word is written as one, and others byte by byte
 unfoldable pub memory_stored : View → ℕ → ℕ → ℕ → Physical
 memory_stored core address size value =
-    if is_whole address size
-    then put_word_at core.physical (place_of core Write address) value
-    else put_answer core.physical (bytes_from (store_place core) address size) value
+    if is_whole address size then word_stored core address value else bytes_stored core address size value
 
 -- the view after a store
 abbrev pub view_stored : View → ℕ → ℕ → ℕ → View
@@ -82,10 +102,8 @@ view_stored core address size value = with_memory core (memory_stored core addre
 unfoldable pub store_rule : {Account : Type 0} → (PhysCall → Physical → Account → Account) → View → ℕ → ℕ → ℕ → Account → Account
 store_rule rule core address size value account =
     if is_whole address size
-    then after_word rule core.physical (place_of core Write address) value
-    (account_after_reads rule core.physical (look_calls core address size) account)
-    else after_answer rule core.physical (bytes_from (store_place core) address size) value
-    (account_after_reads rule core.physical (load_calls core Write address size) account)
+    then after_word_stored rule core address value account
+    else after_bytes_stored rule core address size value account
 
 -- the account after a call
 unfoldable pub view_rule : {Account : Type 0} → (PhysCall → Physical → Account → Account) → BusCall → View → Account → Account

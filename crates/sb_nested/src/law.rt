@@ -9,9 +9,8 @@ ghost use Rattle.sb_memory.specs.declared.address.Access.TheVariants.{Write};
 ghost use Rattle.sb_memory.specs.declared.address.Frame.{Frame};
 ghost use Rattle.sb_memory.specs.declared.address.PhysAddr.{PhysAddr};
 ghost use Rattle.sb_bus.specs.declared.stop.BusStop.TheVariants.{Missing};
-ghost use Rattle.sb_bus.specs.Access.{bytes_from};
 ghost use Rattle.sb_nested.specs.View.{View, place_of, view_byte};
-ghost use Rattle.sb_nested.specs.Store.{memory_stored, put_answer, store_place};
+ghost use Rattle.sb_nested.specs.Store.{bytes_stored, memory_stored};
 ghost use Rattle.sb_walks.specs.Entry.{frame_in};
 ghost use Rattle.sb_walks.specs.Ept.{ept_walk};
 ghost use Rattle.sb_walks.specs.Gaps.{NoGap, ept_gap, nested_gap};
@@ -28,7 +27,7 @@ pub fn at_most_24_words()
 ///
 /// A whole word is not read before, and is written by one call; it is stored as its bytes would be.
 pub fn stores_change_what_they_reach()
-    ensures bytes { (core : View) (address size value : ℕ) → address < 2 ^ 64 → memory_stored core address size value ≡ put_answer core.physical (bytes_from (store_place core) address size) value }
+    ensures bytes { (core : View) (address size value : ℕ) → address < 2 ^ 64 → memory_stored core address size value ≡ bytes_stored core address size value }
     ensures others { (core : View) (address size value place : ℕ) → address < 2 ^ 64 → ((k : ℕ) (at : PhysAddr) → k < size → place_of core Write ((address + k) % 2 ^ 64) ≡ Ok at → place ≢ at.0) → get_or (memory_stored core address size value).bytes place 0 ≡ get_or core.physical.bytes place 0 }
     ensures same { (core : View) (address size value : ℕ) (frames : List ℕ) → address < 2 ^ 64 → ((k : ℕ) (at : PhysAddr) → k < size → place_of core Write ((address + k) % 2 ^ 64) ≡ Ok at → Contains frames (frame_of at.0)) → SameOutside frames core.physical (memory_stored core address size value) }
 {}

@@ -5,7 +5,7 @@ ghost use Rattle.sb_memory.specs.Accounts.{account_after_reads};
 ghost use Rattle.sb_memory.specs.declared.address.Access.TheVariants.{Write};
 ghost use Rattle.sb_bus.specs.Access.{IsSize, byte_for, bytes_from, store_answer};
 ghost use Rattle.sb_nested.specs.View.{byte_calls, view_byte, with_memory};
-ghost use Rattle.sb_nested.specs.Store.{AllHeld, after_answer, after_writes, load_calls, put_answer, put_value, store_place};
+ghost use Rattle.sb_nested.specs.Store.{AllHeld, after_bytes_stored, after_writes, bytes_stored, load_calls, put_value, store_place};
 
 use crate::walk::Walk;
 use sb_bus::BusStop;
@@ -63,9 +63,9 @@ fn store_places<W: Walk>(walk: &mut W, at: Linear, into: &mut [PhysAddr]) -> Res
 pub fn store_bytes<W: Walk>(walk: &mut W, at: Linear, size: u8, value: u64) -> Result<(), BusStop>
     requires size { IsSize size }
     ensures answer { result ≡ store_answer (byte_for (view_byte (W.view walk.old)) Write) at.0 size }
-    ensures stored { W.view walk.new ≡ with_memory (W.view walk.old) (put_answer (W.view walk.old).physical (bytes_from (store_place (W.view walk.old)) at.0 size) value) }
+    ensures stored { W.view walk.new ≡ with_memory (W.view walk.old) (bytes_stored (W.view walk.old) at.0 size value) }
     ensures stopped { IfErr result (λ stop. W.view walk.new ≡ W.view walk.old) }
-    ensures account { W.account walk.new ≡ after_answer W.rule (W.view walk.old).physical (bytes_from (store_place (W.view walk.old)) at.0 size) value (account_after_reads W.rule (W.view walk.old).physical (load_calls (W.view walk.old) Write at.0 size) (W.account walk.old)) }
+    ensures account { W.account walk.new ≡ after_bytes_stored W.rule (W.view walk.old) at.0 size value (W.account walk.old) }
     ensures kept { W.kept walk.new ≡ W.kept walk.old }
 {
     let mut places = [PhysAddr(0); 8];

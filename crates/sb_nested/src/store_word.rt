@@ -5,8 +5,8 @@ ghost use Rattle.sb_memory.specs.Accounts.{account_after_reads};
 ghost use Rattle.sb_memory.specs.Outcome.{done};
 ghost use Rattle.sb_memory.specs.declared.address.Access.TheVariants.{Write};
 ghost use Rattle.sb_bus.specs.Access.{byte_for, bytes_from, store_answer};
-ghost use Rattle.sb_nested.specs.View.{place_of, view_byte, walk_place, with_memory};
-ghost use Rattle.sb_nested.specs.Store.{after_word, look_calls, put_word_at};
+ghost use Rattle.sb_nested.specs.View.{view_byte, walk_place, with_memory};
+ghost use Rattle.sb_nested.specs.Store.{after_word_stored, look_calls, word_stored};
 
 use crate::walk::Walk;
 use sb_bus::BusStop;
@@ -32,9 +32,9 @@ fn look_on<W: Walk>(walk: &mut W, at: Linear, count: u8) -> Result<(), BusStop>
 pub fn store_word<W: Walk>(walk: &mut W, at: Linear, word: u64) -> Result<(), BusStop>
     requires aligned { at.0 % 8 ≡ 0 }
     ensures answer { result ≡ store_answer (byte_for (view_byte (W.view walk.old)) Write) at.0 8 }
-    ensures stored { W.view walk.new ≡ with_memory (W.view walk.old) (put_word_at (W.view walk.old).physical (place_of (W.view walk.old) Write at.0) word) }
+    ensures stored { W.view walk.new ≡ with_memory (W.view walk.old) (word_stored (W.view walk.old) at.0 word) }
     ensures stopped { IfErr result (λ stop. W.view walk.new ≡ W.view walk.old) }
-    ensures account { W.account walk.new ≡ after_word W.rule (W.view walk.old).physical (place_of (W.view walk.old) Write at.0) word (account_after_reads W.rule (W.view walk.old).physical (look_calls (W.view walk.old) at.0 8) (W.account walk.old)) }
+    ensures account { W.account walk.new ≡ after_word_stored W.rule (W.view walk.old) at.0 word (W.account walk.old) }
     ensures kept { W.kept walk.new ≡ W.kept walk.old }
 {
     let place = walk.place(at, Access::Write)?;

@@ -97,13 +97,16 @@ buffer_at thread index number _ = refl
 
 -- ---- pages of each kind
 
-pub texts_numbered : (process filler : ℕ) (bytes : List ℕ) → AreNumbered (padded_page (Text process) filler bytes) (text_place process)
+pub texts_numbered : (process filler : ℕ) (bytes : List ℕ)
+    → AreNumbered (padded_page (Text process) filler bytes) (text_place process)
 texts_numbered process filler bytes = record { at = text_at process; own = own_number process }
 
-pub areas_numbered : (process filler : ℕ) (bytes : List ℕ) → AreNumbered (padded_page (Area process) filler bytes) (area_place process)
+pub areas_numbered : (process filler : ℕ) (bytes : List ℕ)
+    → AreNumbered (padded_page (Area process) filler bytes) (area_place process)
 areas_numbered process filler bytes = record { at = area_at process; own = own_number process }
 
-pub data_numbered : (process filler : ℕ) (bytes : List ℕ) → AreNumbered (padded_page (Data process) filler bytes) (data_place process)
+pub data_numbered : (process filler : ℕ) (bytes : List ℕ)
+    → AreNumbered (padded_page (Data process) filler bytes) (data_place process)
 data_numbered process filler bytes = record { at = data_at process; own = own_number process }
 
 pub heaps_numbered : (process : ℕ) → AreNumbered (heap_page process) (heap_place process)

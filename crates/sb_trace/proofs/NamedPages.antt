@@ -1,5 +1,5 @@
 -- Lists of pages by the names that stand in them.
-use Rattle.std.proofs.Common.{◌≡◌, ◌∙◌, sym, ap, subst, ℕ, zero, suc, ◌+◌, ◌<◌, Bool, true, false, List, [], ◌∷◌, ◌++◌, ◌==◌, ◌||◌, refl, arith}
+use Rattle.std.proofs.Common.{◌≡◌, ◌∙◌, sym, ap, subst, ℕ, zero, suc, ◌+◌, ◌<◌, Bool, true, false, List, [], ◌∷◌, ◌++◌, ◌==◌, ◌&&◌, ◌||◌, refl, arith}
 use Rattle.std.specs.Prelude.{Option, Some, None, is_some, map, nat_lt, if◌then◌else◌}
 use Rattle.std.specs.List.{AllByRecursion}
 use Rattle.std.proofs.lemmas.Bool.{ne_eqb}
@@ -14,6 +14,24 @@ use Rattle.sb_trace.specs.Changes.{page_name}
 use Rattle.sb_state.proofs.Names.{name_same}
 use Rattle.sb_state.proofs.PageLists.{changed, KeepsNames, either, found_added}
 use Rattle.sb_state.proofs.Start.{EachPage}
+
+-- ---- tests
+
+pub or_false : (test : Bool) → (test || false) ≡ test
+or_false true = refl
+or_false false = refl
+
+pub or_self : (test : Bool) → (test || test) ≡ test
+or_self true = refl
+or_self false = refl
+
+pub and_false : (test : Bool) → (test && false) ≡ false
+and_false true = refl
+and_false false = refl
+
+pub and_true : (test : Bool) → (test && true) ≡ test
+and_true true = refl
+and_true false = refl
 
 -- ---- names
 
@@ -72,7 +90,8 @@ pub changed_names : (change : Page → Page) → KeepsNames change → (pages : 
     → map page_name (changed change pages name) ≡ map page_name pages
 changed_names change keeps [] name = refl
 changed_names change keeps (page ∷ pages) name =
-    names_by (same_name page.name name) change keeps page pages (changed change pages name) (changed_names change keeps pages name)
+    names_by (same_name page.name name) change keeps page pages (changed change pages name)
+    (changed_names change keeps pages name)
 
 -- ---- pages behind others
 
@@ -82,7 +101,8 @@ some_either (Some page) second = refl
 
 pub there_added : (first second : List Page) (name : PageName)
     → is_there (first ++ second) name ≡ (is_there first name || is_there second name)
-there_added first second name = ap is_some (found_added first second name) ∙ some_either (find_page first name) (find_page second name)
+there_added first second name =
+    ap is_some (found_added first second name) ∙ some_either (find_page first name) (find_page second name)
 
 none_either : (first second : Option Page) → first ≡ None → second ≡ None → either first second ≡ None
 none_either None second one other = other

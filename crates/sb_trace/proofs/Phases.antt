@@ -1,5 +1,5 @@
 -- The phases of a landing: once the call is decided, no later phase decides it again.
-use Rattle.std.proofs.Common.{◌≡◌, ◌≢◌, ◌∙◌, sym, subst, ℕ, ◌+◌, ◌≤◌, Bool, true, false, ◌==◌, ◌||◌, refl, arith, inl, inr, ◌⊎◌}
+use Rattle.std.proofs.Common.{◌≡◌, ◌≢◌, sym, subst, ℕ, ◌+◌, ◌≤◌, Bool, true, false, ◌==◌, ◌||◌, refl, arith, inl, inr, ◌⊎◌}
 use Rattle.std.specs.Prelude.{nat_le, Option, Some, None, if◌then◌else◌}
 use Rattle.std.proofs.lemmas.Bool.Decides.{Decides-eqb}
 use Rattle.sb_state.specs.declared.state.Decision.{Decision}
@@ -64,71 +64,6 @@ next_phase phase decided mask next =
       },
       sym (same_some _ _ to),
     )))))))))
-
--- ---- behind the decision
-
--- the next number, where the phase has no rule of its own
-plain_on : (phase : ℕ) (decided : Option Decision) (mask next : ℕ) → phase ≢ 1 → phase ≢ 4 → phase ≢ 9 → phase ≢ 18
-    → NextPhase phase decided mask next → next ≡ phase + 1
-plain_on phase decided mask next one four nine eighteen (inl (at, to)) = absurd (one at)
-plain_on phase decided mask next one four nine eighteen (inr (inl (at, to))) = absurd (four at)
-plain_on phase decided mask next one four nine eighteen (inr (inr (inl (at, to)))) = absurd (nine at)
-plain_on phase decided mask next one four nine eighteen (inr (inr (inr (inl (at, to))))) = absurd (eighteen at)
-plain_on phase decided mask next one four nine eighteen (inr (inr (inr (inr (plain, to))))) = to
-
-from_17 : (phase : ℕ) (decided : Option Decision) (mask next : ℕ) → 17 ≤ phase → NextPhase phase decided mask next → 17 ≤ next
-from_17 phase decided mask next from (inl (at, to)) = omega arith
-from_17 phase decided mask next from (inr (inl (at, to))) = omega arith
-from_17 phase decided mask next from (inr (inr (inl (at, to)))) = omega arith
-from_17 phase decided mask next from (inr (inr (inr (inl (at, to))))) = omega arith
-from_17 phase decided mask next from (inr (inr (inr (inr (plain, to))))) = omega arith
-
-wrong_key_1 : (phase mask next : ℕ) → phase ≡ 1 → NextPhase phase (Some decision.WrongKey) mask next → 17 ≤ next
-wrong_key_1 phase mask next at (inl (one, to)) = omega arith
-wrong_key_1 phase mask next at (inr (inl (four, to))) = absurd (omega arith)
-wrong_key_1 phase mask next at (inr (inr (inl (nine, to)))) = absurd (omega arith)
-wrong_key_1 phase mask next at (inr (inr (inr (inl (eighteen, to))))) = absurd (omega arith)
-wrong_key_1 phase mask next at (inr (inr (inr (inr (plain, to))))) = absurd (plain.one at)
-
-zero_mask : (test : Bool) (mask next : ℕ) → (mask == 0) ≡ test → mask ≡ 0 → next ≡ (if test then 19 else 5) → next ≡ 19
-zero_mask true mask next is zero to = to
-zero_mask false mask next is zero to = absurd (other_number mask 0 is zero)
-
-empty_4 : (phase mask next : ℕ) → mask ≡ 0 → phase ≡ 4 → NextPhase phase (Some decision.PoolEmpty) mask next → 17 ≤ next
-empty_4 phase mask next zero at (inl (one, to)) = absurd (omega arith)
-empty_4 phase mask next zero at (inr (inl (four, to))) = let is : next ≡ 19 = zero_mask (mask == 0) mask next refl zero to in
-    omega arith
-empty_4 phase mask next zero at (inr (inr (inl (nine, to)))) = absurd (omega arith)
-empty_4 phase mask next zero at (inr (inr (inr (inl (eighteen, to))))) = absurd (omega arith)
-empty_4 phase mask next zero at (inr (inr (inr (inr (plain, to))))) = absurd (plain.four at)
-
-entered_on : (phase mask next : ℕ) → 9 ≤ phase → phase ≤ 16 → NextPhase phase (Some decision.Entered) mask next
-    → (9 ≤ next) × (next ≤ 16)
-entered_on phase mask next from to (inl (one, is)) = absurd (omega arith)
-entered_on phase mask next from to (inr (inl (four, is))) = absurd (omega arith)
-entered_on phase mask next from to (inr (inr (inl (nine, is)))) = (omega arith, omega arith)
-entered_on phase mask next from to (inr (inr (inr (inl (eighteen, is))))) = absurd (omega arith)
-entered_on phase mask next from to (inr (inr (inr (inr (plain, is))))) = let apart = plain.sixteen in
-    (omega arith, omega (arith, apart))
-
-follows_by : (decided : Decision) (phase mask next : ℕ) → FollowsDecision decided phase mask
-    → NextPhase phase (Some decided) mask next → FollowsDecision decided next mask
-follows_by decision.WrongKey phase mask next (inl at) is = inr (wrong_key_1 phase mask next at is)
-follows_by decision.WrongKey phase mask next (inr from) is = inr (from_17 phase (Some decision.WrongKey) mask next from is)
-follows_by decision.PoolEmpty phase mask next (inl (zero, inl three)) is =
-    let to : next ≡ phase + 1 =
-    plain_on phase (Some decision.PoolEmpty) mask next (λ at. omega arith) (λ at. omega arith) (λ at. omega arith)
-    (λ at. omega arith) is in
-    inl (zero, inr (omega arith))
-follows_by decision.PoolEmpty phase mask next (inl (zero, inr four)) is = inr (empty_4 phase mask next zero four is)
-follows_by decision.PoolEmpty phase mask next (inr from) is = inr (from_17 phase (Some decision.PoolEmpty) mask next from is)
-follows_by decision.Entered phase mask next (from, to) is = entered_on phase mask next from to is
-
-pub follows_on : (decided : Decision) (phase mask next : ℕ) → FollowsDecision decided phase mask
-    → phase_after phase (Some decided) mask ≡ Some next
-    → FollowsDecision decided next mask
-follows_on decided phase mask next follows is =
-    follows_by decided phase mask next follows (next_phase phase (Some decided) mask next is)
 
 -- ---- deciding
 
@@ -197,36 +132,6 @@ decides_no_more first phase fits pool mask other follows =
 -- a phase that follows a decision loads no mask
 pub loads_no_more : (decided : Decision) (phase mask : ℕ) → FollowsDecision decided phase mask → phase ≢ 2
 loads_no_more decided phase mask follows = (not_deciding decided phase mask follows).1
-
--- the phase behind the deciding one follows the decision
-decided_on : (decided : Decision) (phase : ℕ) (fits : Bool) (pool old mask next : ℕ) → Decides phase fits pool old decided
-    → (phase ≡ 2 → mask ≡ pool) → NextPhase phase (Some decided) mask next
-    → FollowsDecision decided next mask
-decided_on decision.WrongKey phase fits pool old mask next at loads is =
-    let zero_phase : phase ≡ 0 = at.0 in
-    let to : next ≡ phase + 1 =
-    plain_on phase (Some decision.WrongKey) mask next (λ one. omega arith) (λ four. omega arith) (λ nine. omega arith)
-    (λ eighteen. omega arith) is in
-    inl (omega arith)
-decided_on decision.PoolEmpty phase fits pool old mask next at loads is =
-    let two : phase ≡ 2 = at.0 in
-    let to : next ≡ phase + 1 =
-    plain_on phase (Some decision.PoolEmpty) mask next (λ one. omega arith) (λ four. omega arith) (λ nine. omega arith)
-    (λ eighteen. omega arith) is in
-    inl (loads at.0 ∙ at.1, inl (omega arith))
-decided_on decision.Entered phase fits pool old mask next at loads is =
-    let eight : phase ≡ 8 = at.0 in
-    let to : next ≡ phase + 1 =
-    plain_on phase (Some decision.Entered) mask next (λ one. omega arith) (λ four. omega arith) (λ nine. omega arith)
-    (λ eighteen. omega arith) is in
-    (omega arith, omega arith)
-
-pub follows_first : (decided : Decision) (phase : ℕ) (fits : Bool) (pool old mask next : ℕ)
-    → decided_at phase fits pool old ≡ Some decided → (phase ≡ 2 → mask ≡ pool)
-    → phase_after phase (Some decided) mask ≡ Some next → FollowsDecision decided next mask
-follows_first decided phase fits pool old mask next at loads is =
-    decided_on decided phase fits pool old mask next (decides phase fits pool old decided at) loads
-    (next_phase phase (Some decided) mask next is)
 
 -- ---- before the decision
 

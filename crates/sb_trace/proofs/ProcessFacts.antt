@@ -4,7 +4,7 @@ use Rattle.std.specs.Prelude.{Some, None, slice_get}
 use Rattle.std.specs.List.{AllByRecursion}
 use Rattle.std.proofs.lemmas.Bool.{cases_eq}
 use Rattle.std.proofs.lemmas.Bool.Decides.{Decides-eqb}
-use Rattle.std.proofs.lemmas.List.{length-set}
+use Rattle.std.proofs.lemmas.List.{length-set, length-map}
 use Rattle.sb_trace.specs.declared.event.Event.{Event}
 use Rattle.sb_trace.specs.declared.event.Event.TheVariants.{Step as StepLine, Extra, Stray, Sys, Entered, Landing, Idle}
 use Rattle.sb_state.specs.declared.page.Page.{Page}
@@ -119,6 +119,7 @@ processes_kept_by old core new sound (inr (inl (process, adds))) =
     (all_at IsProcessSound old.processes process adds.found sound adds.there) adds.listed adds.some adds.few))
 processes_kept_by old core new sound (inr (inr adds)) = subst (AllByRecursion IsProcessSound) (sym adds.processes) sound
 
+-- by the line of the step
 pub processes_kept : (old : State) (core : ℕ) (event : Event) (new : State) → AllByRecursion IsProcessSound old.processes
     → StepChanges old core event new → AllByRecursion IsProcessSound new.processes
 processes_kept old core event new sound changes =
@@ -133,6 +134,7 @@ as_many_processes old core new (inr (inl (process, adds))) =
     ∙ length-set old.processes process (registered_as adds.found adds.handler adds.stacks)
 as_many_processes old core new (inr (inr adds)) = ap (λ list. length list) adds.processes
 
+-- so there are no more than before
 pub process_count_kept : (old : State) (core : ℕ) (event : Event) (new : State) → length old.processes ≤ 16
     → StepChanges old core event new → length new.processes ≤ 16
 process_count_kept old core event new few changes =
@@ -192,10 +194,6 @@ images_sound (image ∷ images) sound = (
   images_sound images sound.1,
 )
 
-as_many_images : (images : List ProcessImage) → length (map start_process images) ≡ length images
-as_many_images [] = refl
-as_many_images (image ∷ images) = ap suc (as_many_images images)
-
 -- the processes of sound images are sound
 pub processes_start : (images : List ProcessImage) (entries : List ThreadEntry) (free : ℕ) (keys : List ℕ)
     → AllByRecursion IsImageSound images → AllByRecursion IsProcessSound (start_state images entries free keys).processes
@@ -204,13 +202,15 @@ processes_start images entries free keys sound = images_sound images sound
 -- a process for each image
 pub images_counted : (images : List ProcessImage) (entries : List ThreadEntry) (free : ℕ) (keys : List ℕ)
     → length (start_state images entries free keys).processes ≡ length images
-images_counted images entries free keys = as_many_images images
+images_counted images entries free keys = length-map images start_process
 
+-- there are as many processes as images
 pub process_count_start : (images : List ProcessImage) (entries : List ThreadEntry) (free : ℕ) (keys : List ℕ)
     → length images ≤ 16 → length (start_state images entries free keys).processes ≤ 16
 process_count_start images entries free keys few =
-    let same = as_many_images images in omega (arith, same, few)
+    let same = length-map images start_process in omega (arith, same, few)
 
+-- the key words of the start are those that it is given
 pub keys_start : (images : List ProcessImage) (entries : List ThreadEntry) (free : ℕ) (keys : List ℕ)
     → AllByRecursion (λ key. key < 2 ^ 64) keys
     → AllByRecursion (λ key. key < 2 ^ 64) (start_state images entries free keys).keys

@@ -157,24 +157,23 @@ view_kept : (old : State) (core : ℕ) (event : Event) (new : State) (number vie
     → StepChanges old core event new → has_view old number view ≡ true
     → binding_with (thread_at new number).bindings view ≡ binding_with (thread_at old number).bindings view
     → HasPage new.pages (Record number view)
-      (record_bytes (words_of_view new number (thread_at new number) (binding_with (thread_at new number).bindings view)))
+    (record_bytes (words_of_view new number (thread_at new number) (binding_with (thread_at new number).bindings view)))
 view_kept old core event new number view sound changes shown same =
     let was = some_shown (process_shown old.threads number view) shown in
     let own = sound.records number view was.0 was.1 in
     let adds = line_adds old core event new changes.rest in
     let words : words_of_view new number (thread_at new number) (binding_with (thread_at old number).bindings view)
-        ≡ words_of_view old number (thread_at old number) (binding_with (thread_at old number).bindings view) =
+    ≡ words_of_view old number (thread_at old number) (binding_with (thread_at old number).bindings view) =
     words_stay old new number (thread_at old number) (thread_at new number) (binding_with (thread_at old number).bindings view)
     (homes_stay old core new number changes.thread)
     (λ binding bound.
     let told = served old number view binding sound.threads bound in
-    ap handler_in (registered_stays old core new adds binding.server told.0 told.1) ∙ ap handler_in (sym told.1)) in
-    (
+    ap handler_in (registered_stays old core new adds binding.server told.0 told.1) ∙ ap handler_in (sym told.1)) in (
       own.0,
       line_keeps old core number view event new changes.rest own.0 own.1,
       own.2
-      ∙ ap record_bytes
-      (sym words ∙ ap (λ found. words_of_view new number (thread_at new number) found) (sym same)),
+          ∙ ap record_bytes
+          (sym words ∙ ap (λ found. words_of_view new number (thread_at new number) found) (sym same)),
     )
 
 -- ---- the view that is added
@@ -226,8 +225,8 @@ in_table state number view table = table.exactly (Record number view)
 new_record : (old : State) (core : ℕ) (new : State) → ArePagesOfTable old → OnlyThread old core new
     → (adds : AddsView old core new)
     → HasPage new.pages (Record core adds.binding.index)
-      (record_bytes (words_of_view new core (thread_at new core)
-      (binding_with (thread_at new core).bindings adds.binding.index)))
+    (record_bytes (words_of_view new core (thread_at new core)
+    (binding_with (thread_at new core).bindings adds.binding.index)))
 unfolding registration_at
 new_record old core new table only adds =
     let index : ℕ = adds.binding.index in
@@ -241,15 +240,14 @@ new_record old core new table only adds =
     registered_stays old core new (inr (inr adds)) adds.binding.server adds.registration adds.registered in
     let same : words_of_view new core (thread_at new core) (Some adds.binding) ≡ words =
     ap (λ home. server_record core home adds.binding.key (handler_in (registration_at new adds.binding.server))) only.home
-    ∙ ap (λ (one : Option Registration). server_record core (thread_at old core).home adds.binding.key (handler_in one)) told in
-    (
+    ∙ ap (λ (one : Option Registration). server_record core (thread_at old core).home adds.binding.key (handler_in one)) told in (
       page_with (Record core index) (record_bytes words),
       ap (λ list. find_page list (Record core index)) adds.pages
-      ∙ (found_added old.pages (binding_pages core index words) (Record core index)
-      ∙ (ap (λ found. either found (find_page (binding_pages core index words) (Record core index))) none
-      ∙ own_record core index words)),
+          ∙ (found_added old.pages (binding_pages core index words) (Record core index)
+          ∙ (ap (λ found. either found (find_page (binding_pages core index words) (Record core index))) none
+          ∙ own_record core index words)),
       ap record_bytes
-      (sym same ∙ ap (λ found. words_of_view new core (thread_at new core) found) (sym bound)),
+          (sym same ∙ ap (λ found. words_of_view new core (thread_at new core) found) (sym bound)),
     )
 
 -- ---- by what is added
@@ -262,7 +260,7 @@ added_view : (test : Bool) (old : State) (core : ℕ) (event : Event) (new : Sta
     → StepChanges old core event new → (adds : AddsView old core new) → (adds.binding.index == view) ≡ test
     → has_view new core view ≡ true
     → HasPage new.pages (Record core view)
-      (record_bytes (words_of_view new core (thread_at new core) (binding_with (thread_at new core).bindings view)))
+    (record_bytes (words_of_view new core (thread_at new core) (binding_with (thread_at new core).bindings view)))
 added_view true old core event new view sound changes adds is shown =
     subst (λ n. HasPage new.pages (Record core n)
     (record_bytes (words_of_view new core (thread_at new core) (binding_with (thread_at new core).bindings n))))
@@ -276,7 +274,7 @@ added_view false old core event new view sound changes adds is shown =
 records_by : (old : State) (core : ℕ) (event : Event) (new : State) (number view : ℕ) → IsSound old
     → StepChanges old core event new → Adds old core new → has_view new number view ≡ true
     → HasPage new.pages (Record number view)
-      (record_bytes (words_of_view new number (thread_at new number) (binding_with (thread_at new number).bindings view)))
+    (record_bytes (words_of_view new number (thread_at new number) (binding_with (thread_at new number).bindings view)))
 records_by old core event new number view sound changes (inl stay) shown =
     view_kept old core event new number view sound changes
     (ap is_some (sym (shown_stays old core new number view changes.thread stay.bindings)) ∙ shown)
@@ -326,7 +324,8 @@ process_first entries process image =
     (each_both (IsFirstPage entries) (padded_pages (Area process) 0xCC image.area) _
     (each_from (IsFirstPage entries) (padded_page (Area process) 0xCC image.area) 0 (page_count (length image.area)) (λ page. tt))
     (each_both (IsFirstPage entries) (padded_pages (Data process) 0 image.initial) _
-    (each_from (IsFirstPage entries) (padded_page (Data process) 0 image.initial) 0 (page_count (length image.initial)) (λ page. tt))
+    (each_from (IsFirstPage entries) (padded_page (Data process) 0 image.initial) 0 (page_count (length image.initial))
+    (λ page. tt))
     (each_both (IsFirstPage entries) (heap_pages process image.heap_pages) _
     (each_from (IsFirstPage entries) (heap_page process) 0 image.heap_pages (λ page. tt)) (tt, tt))))
 
@@ -342,7 +341,7 @@ thread_first : (entries : List ThreadEntry) (thread : ℕ) (entry : ThreadEntry)
 unfolding thread_pages home_of
 thread_first entries thread entry there =
     let words : record_bytes (home_words thread entry.home)
-        ≡ record_bytes (home_words thread (home_of (slice_get entries thread))) =
+    ≡ record_bytes (home_words thread (home_of (slice_get entries thread))) =
     ap (λ found. record_bytes (home_words thread (home_of found))) (sym there) in
     (tt, (tt, (tt, (tt, (tt, (words, (tt, tt)))))))
 
@@ -400,12 +399,12 @@ records_start images entries free keys number view process shown =
     let parts = and_parts (is_some (slice_get entries number)) (view == 0) own in
     let there = there_page (find_page state.pages (Record number view))
     (start_there images entries free keys number view ∙ ap is_some shown) in
-    let first = found_each (IsFirstPage entries) state.pages (Record number view) there.0 (pages_first images entries) there.1 in
-    (
+    let first =
+    found_each (IsFirstPage entries) state.pages (Record number view) there.0 (pages_first images entries) there.1 in (
       there.0,
       there.1,
       subst (λ name. IsFirst entries name there.0.bytes) (found_name state.pages (Record number view) there.0 there.1) first
-      ∙ ap record_bytes
-      (sym (start_words state number view (slice_get entries number) (slice_get (start_threads 0 entries) number)
-      (got_thread entries 0 number) parts.0)),
+          ∙ ap record_bytes
+          (sym (start_words state number view (slice_get entries number) (slice_get (start_threads 0 entries) number)
+          (got_thread entries 0 number) parts.0)),
     )

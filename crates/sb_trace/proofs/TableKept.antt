@@ -31,7 +31,7 @@ use Rattle.sb_state.proofs.Modes.{mode_changes}
 use Rattle.sb_state.proofs.Start.{EachPage, each_from}
 use Rattle.sb_state.proofs.Threads.{set_other}
 use Rattle.sb_trace.proofs.Threads.{thread_other}
-use Rattle.sb_trace.proofs.NamedPages.{same_there, same_own, changed_names, Hold, hold_as, hold_new, hold_both, hold_one, hold_from, is_below, below_none}
+use Rattle.sb_trace.proofs.NamedPages.{or_false, or_self, and_false, same_there, same_own, changed_names, Hold, hold_as, hold_new, hold_both, hold_one, hold_from, is_below, below_none}
 use Rattle.sb_trace.proofs.NameNumbers.{server_stack_place, server_stacks_numbered, buffer_place, buffers_numbered}
 use Rattle.sb_trace.proofs.TableStart.{within}
 
@@ -72,18 +72,6 @@ shown_stays old core new number view only bindings =
     (homes_stay old core new number only) (bindings number)
 
 -- ---- what is added to a table
-
-or_false : (test : Bool) → (test || false) ≡ test
-or_false true = refl
-or_false false = refl
-
-or_self : (test : Bool) → (test || test) ≡ test
-or_self true = refl
-or_self false = refl
-
-and_false : (test : Bool) → (test && false) ≡ false
-and_false true = refl
-and_false false = refl
 
 -- whether pages of this kind may be added
 abbrev pub is_added : PageName → Bool
@@ -228,7 +216,8 @@ stacks_by true processes process other page handler stacks found is there none =
     subst (λ (n : ℕ). (nat_lt page (4 * stacks_in (registration_of (slice_get processes n))) || nat_lt page (4 * stacks))
     ≡ nat_lt page (4 * stacks_in (registration_of (slice_get (slice_set processes process (server found handler stacks)) n))))
     same
-    (ap (λ (test : Bool). test || nat_lt page (4 * stacks)) (none_before process (slice_get processes process) found page there none)
+    (ap (λ (test : Bool). test || nat_lt page (4 * stacks))
+    (none_before process (slice_get processes process) found page there none)
     ∙ ap (λ (one : Option Process). nat_lt page (4 * stacks_in (registration_of one)))
     (sym (set_got processes process found (server found handler stacks) there)))
 stacks_by false processes process other page handler stacks found is there none =
@@ -377,16 +366,17 @@ own_view_by false home view bindings last =
     served (bindings ++ last ∷ []) view
     ∙ (bound_behind bindings last view ∙ ap (λ (test : Bool). test || (last.index == view)) (sym (served bindings view)))
 
-got_thread : (found : Option Thread) (one : Thread) → is_some found ≡ is_some (Some one) → found ≡ Some (unwrap_or found no_thread)
-got_thread None one there = absurd cc
-got_thread (Some thread) one there = refl
+thread_got : (found : Option Thread) (one : Thread) → is_some found ≡ is_some (Some one)
+    → found ≡ Some (unwrap_or found no_thread)
+thread_got None one there = absurd cc
+thread_got (Some thread) one there = refl
 
 pub own_view : (old : State) (core : ℕ) (new : State) (view : ℕ) → OnlyThread old core new → (adds : AddsView old core new)
     → has_view new core view ≡ (has_view old core view || (adds.binding.index == view))
 unfolding process_shown thread_at
 own_view old core new view only adds =
     let there : slice_get new.threads core ≡ Some (unwrap_or (slice_get new.threads core) no_thread) =
-    got_thread (slice_get new.threads core) (thread_at old core) (there_stays old core new core only ∙ ap is_some adds.there) in
+    thread_got (slice_get new.threads core) (thread_at old core) (there_stays old core new core only ∙ ap is_some adds.there) in
     ap (λ found. is_some (option_and_then (process_of_view view) found)) there
     ∙ (ap (λ home. is_some (view_in view home (thread_at new core).bindings)) only.home
     ∙ (ap (λ list. is_some (view_in view (thread_at old core).home list)) adds.bindings
@@ -430,7 +420,7 @@ unfolding is_in_table process_at registration_at same_name
 grows_view old core new only adds =
     let index : ℕ = adds.binding.index in
     let views : (thread view : ℕ)
-        → (has_view old thread view || ((core == thread) && (index == view))) ≡ has_view new thread view =
+    → (has_view old thread view || ((core == thread) && (index == view))) ≡ has_view new thread view =
     λ (thread view : ℕ). views_by (core == thread) old core new thread view refl only adds in
     record {
       processes = ap length adds.processes;
@@ -481,7 +471,7 @@ view_fresh images old core index words none = (
   (
     none,
     each_from (λ page. is_in_table images old page.name ≡ false) (buffer_page core index) 0 4
-    (λ page. no_buffer_before images old core index page none),
+        (λ page. no_buffer_before images old core index page none),
   ),
 )
 
@@ -519,9 +509,12 @@ written_kept old core view new thread writes table =
 
 line_kept : (old : State) (core : ℕ) (event : Event) (new : State) → OnlyThread old core new → LineChanges old core event new
     → ArePagesOfTable old → ArePagesOfTable new
-line_kept old core (StepLine rip) new thread writes table = written_kept old core (thread_at old core).view new thread writes table
-line_kept old core (Extra rip) new thread writes table = written_kept old core (thread_at old core).view new thread writes table
-line_kept old core (Stray rip) new thread writes table = written_kept old core (thread_at old core).view new thread writes table
+line_kept old core (StepLine rip) new thread writes table =
+    written_kept old core (thread_at old core).view new thread writes table
+line_kept old core (Extra rip) new thread writes table =
+    written_kept old core (thread_at old core).view new thread writes table
+line_kept old core (Stray rip) new thread writes table =
+    written_kept old core (thread_at old core).view new thread writes table
 line_kept old core (Entered index slot) new thread enters table =
     only_kept old core _ new thread enters.only
     (word_names old (Pool enters.server) (pool_word old enters.server - 2 ^ slot)) table

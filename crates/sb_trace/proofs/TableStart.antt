@@ -19,7 +19,7 @@ use Rattle.sb_trace.specs.Table.{ImagePages, FitWindows, stacks_in, is_in_table,
 use Rattle.sb_trace.specs.SyscallProtect.{heap_count}
 use Rattle.sb_trace.specs.Laws.{IsImageSound}
 use Rattle.sb_state.proofs.Start.{EachPage, each_both, each_from}
-use Rattle.sb_trace.proofs.NamedPages.{Hold, hold_as, hold_both, hold_one, hold_from, is_below, below_none, less_same, same_tests}
+use Rattle.sb_trace.proofs.NamedPages.{or_false, and_false, and_true, Hold, hold_as, hold_both, hold_one, hold_from, is_below, below_none, less_same, same_tests}
 use Rattle.sb_trace.proofs.NameNumbers.{text_place, area_place, data_place, heap_place, stack_place, texts_numbered, areas_numbered, data_numbered, heaps_numbered, stack_page, stacks_numbered}
 
 -- ---- names of numbered processes and threads
@@ -56,18 +56,6 @@ not_before held first (one ∷ list) name below =
     let apart : (first == number_of name) ≡ false = ne_eqb first (number_of name) (λ same. omega (arith, same, below)) in
     rw apart (not_before held (first + 1) list name (omega (arith, below)))
 
-or_false : (test : Bool) → (test || false) ≡ test
-or_false true = refl
-or_false false = refl
-
-and_false : (test : Bool) → (test && false) ≡ false
-and_false true = refl
-and_false false = refl
-
-and_true : (test : Bool) → (test && true) ≡ test
-and_true true = refl
-and_true false = refl
-
 -- the one of the number of the name says whether it is
 numbered_at : {A : Type 0} (held : A → PageName → Bool) (list : List A) (first place : ℕ) (name : PageName)
     → number_of name ≡ first + place → numbered held first list name ≡ held_by held (slice_get list place) name
@@ -102,15 +90,67 @@ below_if : (test : Bool) (count page : ℕ) → is_below count (if test then Som
 below_if true count page = refl
 below_if false count page = refl
 
-last_below : (test : Bool) (count page : ℕ) → (is_below count (if test then Some page else None) || false) ≡ (test && nat_lt page count)
+last_below : (test : Bool) (count page : ℕ)
+    → (is_below count (if test then Some page else None) || false) ≡ (test && nat_lt page count)
 last_below test count page = or_false (is_below count (if test then Some page else None)) ∙ below_if test count page
 
+abbrev pool_page : ℕ → Page
+pool_page process = page_with (Pool process) zeros
+
+-- the pages of a process from its heap on, from its data on, and from its rewrite area on, and their names
+abbrev from_heap : ℕ → ProcessImage → List Page
+from_heap process image = heap_pages process image.heap_pages ++ pool_page process ∷ []
+
+abbrev from_data : ℕ → ProcessImage → List Page
+from_data process image = padded_pages (Data process) 0 image.initial ++ from_heap process image
+
+abbrev from_area : ℕ → ProcessImage → List Page
+from_area process image = padded_pages (Area process) 0xCC image.area ++ from_data process image
+
+abbrev in_heap : ℕ → ProcessImage → PageName → Bool
+in_heap process image name = is_below image.heap_pages (heap_place process name) || same_name (Pool process) name
+
+abbrev in_data : ℕ → ProcessImage → PageName → Bool
+in_data process image name = is_below (page_count (length image.initial)) (data_place process name) || in_heap process image name
+
+abbrev in_area : ℕ → ProcessImage → PageName → Bool
+in_area process image name = is_below (page_count (length image.area)) (area_place process name) || in_data process image name
+
+abbrev in_text : ℕ → ProcessImage → PageName → Bool
+in_text process image name = is_below (page_count (length image.text)) (text_place process name) || in_area process image name
+
+heap_held : (process : ℕ) (image : ProcessImage) → Hold (from_heap process image) (in_heap process image)
+unfolding same_name
+heap_held process image =
+    hold_both (heap_pages process image.heap_pages) (pool_page process ∷ [])
+    (λ name. is_below image.heap_pages (heap_place process name)) (λ name. same_name (Pool process) name)
+    (hold_from (heap_page process) (heap_place process) image.heap_pages (heaps_numbered process)) (hold_one (pool_page process))
+    (each_from (λ page. same_name (Pool process) page.name ≡ false) (heap_page process) 0 image.heap_pages (λ number. refl))
+
+data_held : (process : ℕ) (image : ProcessImage) → Hold (from_data process image) (in_data process image)
+unfolding same_name
+data_held process image =
+    let count = page_count (length image.initial) in
+    hold_both (padded_pages (Data process) 0 image.initial) (from_heap process image)
+    (λ name. is_below count (data_place process name)) (in_heap process image)
+    (hold_from (padded_page (Data process) 0 image.initial) (data_place process) count (data_numbered process 0 image.initial))
+    (heap_held process image)
+    (each_from (λ page. in_heap process image page.name ≡ false) (padded_page (Data process) 0 image.initial) 0 count
+    (λ number. refl))
+
+area_held : (process : ℕ) (image : ProcessImage) → Hold (from_area process image) (in_area process image)
+unfolding same_name
+area_held process image =
+    let count = page_count (length image.area) in
+    hold_both (padded_pages (Area process) 0xCC image.area) (from_data process image)
+    (λ name. is_below count (area_place process name)) (in_data process image)
+    (hold_from (padded_page (Area process) 0xCC image.area) (area_place process) count (areas_numbered process 0xCC image.area))
+    (data_held process image)
+    (each_from (λ page. in_data process image page.name ≡ false) (padded_page (Area process) 0xCC image.area) 0 count
+    (λ number. refl))
+
 process_names : (process : ℕ) (image : ProcessImage) (name : PageName)
-    → (is_below (page_count (length image.text)) (text_place process name)
-    || (is_below (page_count (length image.area)) (area_place process name)
-    || (is_below (page_count (length image.initial)) (data_place process name)
-    || (is_below image.heap_pages (heap_place process name) || same_name (Pool process) name))))
-    ≡ ((process == number_of name) && in_image image name)
+    → in_text process image name ≡ ((process == number_of name) && in_image image name)
 unfolding same_name
 process_names process image (Text other page) = last_below (process == other) (page_count (length image.text)) page
 process_names process image (Area other page) = last_below (process == other) (page_count (length image.area)) page
@@ -126,49 +166,18 @@ process_names process image (Scratch other view) = sym (and_false (process == ot
 process_names process image HomeTrampoline = sym (and_false (process == 0))
 process_names process image ServerTrampoline = sym (and_false (process == 0))
 
-abbrev pool_page : ℕ → Page
-pool_page process = page_with (Pool process) zeros
-
 process_held : (process : ℕ) (image : ProcessImage)
     → Hold (process_pages process image) (λ name. (process == number_of name) && in_image image name)
 unfolding process_pages same_name
 process_held process image =
-    let texts = page_count (length image.text) in
-    let areas = page_count (length image.area) in
-    let initials = page_count (length image.initial) in
-    let heaps = hold_both (heap_pages process image.heap_pages) (pool_page process ∷ [])
-    (λ name. is_below image.heap_pages (heap_place process name)) (λ name. same_name (Pool process) name)
-    (hold_from (heap_page process) (heap_place process) image.heap_pages (heaps_numbered process)) (hold_one (pool_page process))
-    (each_from (λ page. same_name (Pool process) page.name ≡ false) (heap_page process) 0 image.heap_pages (λ number. refl)) in
-    let given = hold_both (padded_pages (Data process) 0 image.initial) (heap_pages process image.heap_pages ++ pool_page process ∷ [])
-    (λ name. is_below initials (data_place process name))
-    (λ name. is_below image.heap_pages (heap_place process name) || same_name (Pool process) name)
-    (hold_from (padded_page (Data process) 0 image.initial) (data_place process) initials (data_numbered process 0 image.initial)) heaps
-    (each_from
-    (λ page. (is_below image.heap_pages (heap_place process page.name) || same_name (Pool process) page.name) ≡ false)
-    (padded_page (Data process) 0 image.initial) 0 initials (λ number. refl)) in
-    let area = hold_both (padded_pages (Area process) 0xCC image.area)
-    (padded_pages (Data process) 0 image.initial ++ (heap_pages process image.heap_pages ++ pool_page process ∷ []))
-    (λ name. is_below areas (area_place process name))
-    (λ name. is_below initials (data_place process name) || (is_below image.heap_pages (heap_place process name) || same_name
-    (Pool process) name))
-    (hold_from (padded_page (Area process) 0xCC image.area) (area_place process) areas (areas_numbered process 0xCC image.area)) given
-    (each_from
-    (λ page. (is_below initials (data_place process page.name) || (is_below image.heap_pages (heap_place process page.name)
-    || same_name (Pool process) page.name)) ≡ false)
-    (padded_page (Area process) 0xCC image.area) 0 areas (λ number. refl)) in
-    let text = hold_both (padded_pages (Text process) 0xCC image.text)
-    (padded_pages (Area process) 0xCC image.area ++ (padded_pages (Data process) 0 image.initial ++
-    (heap_pages process image.heap_pages ++ pool_page process ∷ [])))
-    (λ name. is_below texts (text_place process name))
-    (λ name. is_below areas (area_place process name) || (is_below initials (data_place process name) ||
-    (is_below image.heap_pages (heap_place process name) || same_name (Pool process) name)))
-    (hold_from (padded_page (Text process) 0xCC image.text) (text_place process) texts (texts_numbered process 0xCC image.text)) area
-    (each_from
-    (λ page. (is_below areas (area_place process page.name) || (is_below initials (data_place process page.name) ||
-    (is_below image.heap_pages (heap_place process page.name) || same_name (Pool process) page.name))) ≡ false)
-    (padded_page (Text process) 0xCC image.text) 0 texts (λ number. refl)) in
-    hold_as (process_pages process image) _ (λ name. (process == number_of name) && in_image image name) text
+    let count = page_count (length image.text) in
+    hold_as (process_pages process image) (in_text process image) (λ name. (process == number_of name) && in_image image name)
+    (hold_both (padded_pages (Text process) 0xCC image.text) (from_area process image)
+    (λ name. is_below count (text_place process name)) (in_area process image)
+    (hold_from (padded_page (Text process) 0xCC image.text) (text_place process) count (texts_numbered process 0xCC image.text))
+    (area_held process image)
+    (each_from (λ page. in_area process image page.name ≡ false) (padded_page (Text process) 0xCC image.text) 0 count
+    (λ number. refl)))
     (process_names process image)
 
 -- a test that no name of a process's pages passes
@@ -562,7 +571,8 @@ start_table images entries free keys (Scratch thread view) =
 start_table images entries free keys HomeTrampoline =
     rw (none_of in_image 0 images HomeTrampoline (λ image. refl), none_of in_entry 0 entries HomeTrampoline (λ entry. refl)) refl
 start_table images entries free keys ServerTrampoline =
-    rw (none_of in_image 0 images ServerTrampoline (λ image. refl), none_of in_entry 0 entries ServerTrampoline (λ entry. refl)) refl
+    rw (none_of in_image 0 images ServerTrampoline (λ image. refl), none_of in_entry 0 entries ServerTrampoline (λ entry. refl))
+    refl
 
 -- ---- the windows
 

@@ -124,8 +124,8 @@ found_by_index (first ∷ bindings) zero one own there =
     subst (λ (is : Binding). binding_with (first ∷ bindings) is.index ≡ Some is) (same_some first one there)
     (self_by (first.index == first.index) first.index first (binding_with bindings first.index) refl)
 found_by_index (first ∷ bindings) (suc place) one own there =
-    own_by (first.index == one.index) first one (binding_with bindings one.index) (none_same first one bindings place own.0 there)
-    (found_by_index bindings place one own.1 there)
+    own_by (first.index == one.index) first one (binding_with bindings one.index)
+    (none_same first one bindings place own.0 there) (found_by_index bindings place one own.1 there)
 
 -- ---- a binding stays sound
 

@@ -103,7 +103,8 @@ readable ServerTrampoline executable is = absurd cc
 
 -- a page that is seen is there, and is accessed as its name says
 abbrev IsSeen : State → Seen → Type 0
-IsSeen state seen = (page : Page) × (find_page state.pages seen.name ≡ Some page) × (seen.mode ≡ mode_of seen.name page.executable)
+IsSeen state seen =
+    (page : Page) × (find_page state.pages seen.name ≡ Some page) × (seen.mode ≡ mode_of seen.name page.executable)
 
 seen_by : (state : State) (name : PageName) (found : Option Page) (seen : Seen) → find_page state.pages name ≡ found
     → option_map (λ (page : Page). record { name = name; mode = mode_of name page.executable }) found ≡ Some seen
@@ -296,7 +297,8 @@ handler_words state core one word has =
 entered_words : (state : State) (core : ℕ) (one : Binding) (word : ℕ) → HasWords state core
     → LeavesWords core (entry_outcome state core (thread_at state core) one word)
 entered_words state core one word has =
-    claim_if (LeavesWords core) (word == 0) _ _ (λ none. refused_words state core (line.PoolEmpty one.index) status.PoolEmpty has.regs)
+    claim_if (LeavesWords core) (word == 0) _ _
+    (λ none. refused_words state core (line.PoolEmpty one.index) status.PoolEmpty has.regs)
     (λ some. handler_words state core one word has)
 
 called_words : (state : State) (core index : ℕ) (found : Option Binding) → HasWords state core

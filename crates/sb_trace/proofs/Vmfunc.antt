@@ -1,5 +1,5 @@
 -- VMFUNC is fetched where its bytes stand, and where it is fetched its bytes stand.
-use Rattle.std.proofs.Common.{◌≡◌, ◌∙◌, ap, subst, ℕ, ◌+◌, ◌<◌, Bool, true, false, List, ◌++◌, length, refl, arith, Result, Ok, length-append, rules}
+use Rattle.std.proofs.Common.{◌≡◌, ◌∙◌, ap, subst, ℕ, Bool, true, false, ◌++◌, refl, Result, Ok, rules}
 use Rattle.std.specs.Prelude.{Option, Some, None, IsTrue}
 use Rattle.std.specs.Option.{option_to_list}
 use Rattle.sb_insn.specs.declared.insn.Insn.{Insn}
@@ -48,13 +48,6 @@ vmfunc_spelled insn valid is =
 
 pub vmfunc_valid : IsValid (opcode_alone Vmfunc)
 vmfunc_valid = search rules
-
--- ---- prefixes of a spelling
-
-longer_prefix : (whole rest : List ℕ) (count : ℕ) (prefix : List ℕ) → length prefix ≡ count → count < length whole
-    → prefix ≡ whole ++ rest → ⊥
-longer_prefix whole rest count prefix size below is =
-    let sum : length prefix ≡ length whole + length rest = ap length is ∙ length-append whole rest in omega (arith, sum)
 
 -- ---- fetching
 

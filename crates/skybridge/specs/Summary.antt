@@ -6,13 +6,13 @@ use Rattle.sb_trace.specs.declared.end.EndState.{EndState}
 use Rattle.sb_trace.specs.declared.event.Event.{Event}
 use Rattle.sb_trace.specs.declared.event.Event.TheVariants as event
 use Rattle.sb_trace.specs.declared.event.Line.{Line}
-use Rattle.skybridge.specs.declared.summary.Kind.{Kind}
-use Rattle.skybridge.specs.declared.summary.Kind.TheVariants as kind
+use Rattle.skybridge.specs.declared.summary.LineKind.{LineKind}
+use Rattle.skybridge.specs.declared.summary.LineKind.TheVariants as kind
 use Rattle.skybridge.specs.Generator.{generated}
 use Rattle.skybridge.specs.Runs.{IsTextOfRun}
 
 -- What a line counts as. Instructions that the rewriter added, and those that strayed, count as steps.
-abbrev pub counts_as : Kind → Event → Bool
+abbrev pub counts_as : LineKind → Event → Bool
 counts_as kind.Step (event.Step rip) = true
 counts_as kind.Step (event.Extra rip) = true
 counts_as kind.Step (event.Stray rip) = true
@@ -34,7 +34,7 @@ counts_as kind.Idle event.Idle = true
 counts_as kind event = false
 
 -- the words with which such lines begin, behind the number of the core or of the binding
-abbrev pub kind_text : Kind → List ℕ
+abbrev pub kind_text : LineKind → List ℕ
 kind_text kind.Step = codes "step"
 kind_text kind.Print = codes "print"
 kind_text kind.Sys = codes "sys"
@@ -53,16 +53,16 @@ kind_text kind.Landing = codes "landing"
 kind_text kind.Idle = codes "idle"
 
 -- all kinds, in the order of the summary
-abbrev pub kinds : List Kind
+abbrev pub kinds : List LineKind
 kinds =
     kind.Step ∷ kind.Print ∷ kind.Sys ∷ kind.Exit ∷ kind.Fault ∷ kind.ServerFault ∷ kind.ServerExit ∷ kind.Entered
     ∷ kind.WrongKey ∷ kind.PoolEmpty ∷ kind.Unbound ∷ kind.BadLeaf ∷ kind.Return ∷ kind.Turn ∷ kind.Landing ∷ kind.Idle ∷ []
 
 -- how many lines are of the kind
-abbrev pub count_of : List Line → Kind → ℕ
+abbrev pub count_of : List Line → LineKind → ℕ
 count_of lines kind = count_by (λ line. counts_as kind line.event) lines
 
-abbrev pub count_line : List Line → Kind → List ℕ
+abbrev pub count_line : List Line → LineKind → List ℕ
 count_line lines kind = kind_text kind ++ (codes " " ++ (decimal (count_of lines kind) ++ codes "\n"))
 
 -- a line for each kind

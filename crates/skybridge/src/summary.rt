@@ -9,7 +9,7 @@ use std::fmt;
 
 /// What a line of a report counts as.
 #[derive(Clone, Copy, Debug, PartialEq, Eq)]
-enum Kind {
+enum LineKind {
     /// An instruction: listed, added by the rewriter, or strayed.
     Step,
     Print,
@@ -31,26 +31,26 @@ enum Kind {
 }
 
 /// All kinds, in the order of the summary.
-const KINDS: [Kind; 16] = [
-    Kind::Step,
-    Kind::Print,
-    Kind::Sys,
-    Kind::Exit,
-    Kind::Fault,
-    Kind::ServerFault,
-    Kind::ServerExit,
-    Kind::Entered,
-    Kind::WrongKey,
-    Kind::PoolEmpty,
-    Kind::Unbound,
-    Kind::BadLeaf,
-    Kind::Return,
-    Kind::Turn,
-    Kind::Landing,
-    Kind::Idle,
+const KINDS: [LineKind; 16] = [
+    LineKind::Step,
+    LineKind::Print,
+    LineKind::Sys,
+    LineKind::Exit,
+    LineKind::Fault,
+    LineKind::ServerFault,
+    LineKind::ServerExit,
+    LineKind::Entered,
+    LineKind::WrongKey,
+    LineKind::PoolEmpty,
+    LineKind::Unbound,
+    LineKind::BadLeaf,
+    LineKind::Return,
+    LineKind::Turn,
+    LineKind::Landing,
+    LineKind::Idle,
 ];
 
-impl fmt::Display for Kind {
+impl fmt::Display for LineKind {
     ghost use Rattle.std.specs.Prelude.{Some};
     ghost use Rattle.skybridge.specs.Summary.{kind_text};
 
@@ -58,55 +58,55 @@ impl fmt::Display for Kind {
 
     fn fmt<W: fmt::Write>(&self, f: &mut fmt::Formatter<W>) -> fmt::Result {
         f.write_str(match self {
-            Kind::Step => "step",
-            Kind::Print => "print",
-            Kind::Sys => "sys",
-            Kind::Exit => "exit",
-            Kind::Fault => "fault",
-            Kind::ServerFault => "server fault",
-            Kind::ServerExit => "server exit",
-            Kind::Entered => "entered",
-            Kind::WrongKey => "wrong key",
-            Kind::PoolEmpty => "pool empty",
-            Kind::Unbound => "unbound",
-            Kind::BadLeaf => "bad leaf",
-            Kind::Return => "return",
-            Kind::Turn => "turn",
-            Kind::Landing => "landing",
-            Kind::Idle => "idle",
+            LineKind::Step => "step",
+            LineKind::Print => "print",
+            LineKind::Sys => "sys",
+            LineKind::Exit => "exit",
+            LineKind::Fault => "fault",
+            LineKind::ServerFault => "server fault",
+            LineKind::ServerExit => "server exit",
+            LineKind::Entered => "entered",
+            LineKind::WrongKey => "wrong key",
+            LineKind::PoolEmpty => "pool empty",
+            LineKind::Unbound => "unbound",
+            LineKind::BadLeaf => "bad leaf",
+            LineKind::Return => "return",
+            LineKind::Turn => "turn",
+            LineKind::Landing => "landing",
+            LineKind::Idle => "idle",
         })
     }
 }
 
 /// Whether a line with this event counts as one of the kind.
-fn counts_as(kind: Kind, event: Event) -> bool
+fn counts_as(kind: LineKind, event: Event) -> bool
     ensures { result ≡ counts_as kind event }
 {
     match event {
         Event::Step { .. } | Event::Extra { .. } | Event::Stray { .. } => matches!(
             kind,
-            Kind::Step
+            LineKind::Step
         ),
-        Event::Printed { .. } => matches!(kind, Kind::Print),
-        Event::Sys { .. } => matches!(kind, Kind::Sys),
-        Event::Exit { .. } => matches!(kind, Kind::Exit),
-        Event::Fault { .. } => matches!(kind, Kind::Fault),
-        Event::ServerFault { .. } => matches!(kind, Kind::ServerFault),
-        Event::ServerExit { .. } => matches!(kind, Kind::ServerExit),
-        Event::Entered { .. } => matches!(kind, Kind::Entered),
-        Event::WrongKey { .. } => matches!(kind, Kind::WrongKey),
-        Event::PoolEmpty { .. } => matches!(kind, Kind::PoolEmpty),
-        Event::Unbound { .. } => matches!(kind, Kind::Unbound),
-        Event::BadLeaf { .. } => matches!(kind, Kind::BadLeaf),
-        Event::Return => matches!(kind, Kind::Return),
-        Event::Turn => matches!(kind, Kind::Turn),
-        Event::Landing { .. } => matches!(kind, Kind::Landing),
-        Event::Idle => matches!(kind, Kind::Idle),
+        Event::Printed { .. } => matches!(kind, LineKind::Print),
+        Event::Sys { .. } => matches!(kind, LineKind::Sys),
+        Event::Exit { .. } => matches!(kind, LineKind::Exit),
+        Event::Fault { .. } => matches!(kind, LineKind::Fault),
+        Event::ServerFault { .. } => matches!(kind, LineKind::ServerFault),
+        Event::ServerExit { .. } => matches!(kind, LineKind::ServerExit),
+        Event::Entered { .. } => matches!(kind, LineKind::Entered),
+        Event::WrongKey { .. } => matches!(kind, LineKind::WrongKey),
+        Event::PoolEmpty { .. } => matches!(kind, LineKind::PoolEmpty),
+        Event::Unbound { .. } => matches!(kind, LineKind::Unbound),
+        Event::BadLeaf { .. } => matches!(kind, LineKind::BadLeaf),
+        Event::Return => matches!(kind, LineKind::Return),
+        Event::Turn => matches!(kind, LineKind::Turn),
+        Event::Landing { .. } => matches!(kind, LineKind::Landing),
+        Event::Idle => matches!(kind, LineKind::Idle),
     }
 }
 
 /// How many lines are of the kind.
-fn count_of(lines: &[Line], kind: Kind) -> usize
+fn count_of(lines: &[Line], kind: LineKind) -> usize
     ensures { result ≡ count_of lines.now kind }
 {
     let mut count = 0;
@@ -119,7 +119,7 @@ fn count_of(lines: &[Line], kind: Kind) -> usize
 }
 
 /// Puts a line for each of these kinds.
-fn push_counts(out: &mut String, lines: &[Line], kinds: &[Kind]) -> Result<(), AllocError>
+fn push_counts(out: &mut String, lines: &[Line], kinds: &[LineKind]) -> Result<(), AllocError>
     ensures { OnOk result (string_bytes out.new ≡ string_bytes out.old ++ flat_map (count_line lines.now) kinds.now) }
 {
     for kind in kinds {

@@ -2,9 +2,8 @@
 
 use crate::samples::{HANDLER, LOADED, call, machine};
 use sb_bus::Bus;
-use sb_insn::Flags;
-use sb_insn::Regs;
 use sb_insn::registers::R10;
+use sb_insn::{Flags, Regs};
 use sb_memory::Linear;
 use sb_state::{Bindings, EndKind, PageName, PlainBus, PlainState, Thread};
 use std::test::Fail;
@@ -157,7 +156,10 @@ fn a_ninth_thread_has_its_buffer(rt: HostRuntime) -> Result<(), Fail> {
     assert_eq!(rt; client.regs.general[R10], 0x220_4000);
     // It stores in its home, the last byte of the four pages included, and the server's view has what it stored.
     for (at, value) in [(0x220_4000, 7), (0x220_7FF8, 9)] {
-        assert_eq!(rt; PlainBus::new(state, 8, 0).store(Linear(at), 8, value), Ok(()));
+        assert_eq!(rt;
+            PlainBus::new(state, 8, 0).store(Linear(at), 8, value),
+            Ok(())
+        );
         assert_eq!(rt; PlainBus::new(state, 8, 1).load(Linear(at), 8), Ok(value));
     }
     Ok(())
