@@ -13,7 +13,7 @@ use Rattle.sb_insn.specs.declared.opcode_map.Group.{Group}
 use Rattle.sb_insn.specs.declared.opcode_map.Group.TheVariants.{Group1, Group2, Group3, Group5, Group11, Group16}
 use Rattle.sb_insn.specs.declared.opcode_map.Cell.{Cell}
 use Rattle.sb_insn.specs.declared.opcode_map.Cell.TheVariants.{Absent, NoModRm, ModRm, Extended}
-use Rattle.sb_insn.specs.OpcodeMap.{Row, look_up, is_of, one_byte, one_byte_rows, two_byte, two_byte_rows, cell_of}
+use Rattle.sb_insn.specs.OpcodeMap.{OpcodeRow, look_up, is_of, one_byte, one_byte_rows, two_byte, two_byte_rows, cell_of}
 use Rattle.sb_insn.specs.Groups.{Extension, extended_by, extensions, group_operand}
 use Rattle.sb_insn.specs.Fields.{reg_field}
 use Rattle.sb_insn.specs.Lookup.{named_instruction, extended_instruction, instruction_in}
@@ -48,7 +48,7 @@ cell_goes_on (NoModRm plain) = goes_on plain.instruction
 cell_goes_on (ModRm operand) = goes_on operand.instruction
 cell_goes_on (Extended group form imm) = true
 
-abbrev rows_go_on : List Row → Bool
+abbrev rows_go_on : List OpcodeRow → Bool
 rows_go_on [] = true
 rows_go_on (row ∷ rows) = cell_goes_on row.cell && rows_go_on rows
 
@@ -110,14 +110,14 @@ either_goes_on : (test : Bool) (first second : Cell) → cell_goes_on first ≡ 
 either_goes_on true first second one two = one
 either_goes_on false first second one two = two
 
-look_up_goes_on : (opcode : ℕ) (rows : List Row) → rows_go_on rows ≡ true → cell_goes_on (look_up opcode rows) ≡ true
+look_up_goes_on : (opcode : ℕ) (rows : List OpcodeRow) → rows_go_on rows ≡ true → cell_goes_on (look_up opcode rows) ≡ true
 look_up_goes_on opcode [] all = refl
 look_up_goes_on opcode (row ∷ rows) all =
     let parts = both (cell_goes_on row.cell) (rows_go_on rows) all in
     either_goes_on (is_of opcode row.opcodes) row.cell (look_up opcode rows) parts.0 (look_up_goes_on opcode rows parts.1)
 
 -- the two-byte map behind SYSCALL and UD2
-abbrev after_two : List Row → List Row
+abbrev after_two : List OpcodeRow → List OpcodeRow
 after_two [] = []
 after_two (first ∷ []) = []
 after_two (first ∷ second ∷ others) = others
