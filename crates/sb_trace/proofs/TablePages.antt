@@ -11,7 +11,7 @@ use Rattle.sb_state.specs.Windows.{process_shown}
 use Rattle.sb_trace.specs.SyscallProtect.{heap_count}
 use Rattle.sb_trace.specs.Table.{ImagePages, IsThere, stacks_in, has_view, is_in_table, ArePagesOfTable}
 use Rattle.sb_trace.specs.Changes.{page_name}
-use Rattle.sb_trace.proofs.NamedPages.{Hold, none_there}
+use Rattle.sb_trace.proofs.NamedPages.{Hold, none_there, below_none}
 use Rattle.sb_trace.proofs.TableKept.{Grows, Grown, grown_held}
 
 some_there : (found : Option Page) → is_some found ≡ true → (page : Page) × (found ≡ Some page)
@@ -62,7 +62,8 @@ module _ (state : State) (table : ArePagesOfTable state) where
   pub stack_absent : (process page : ℕ) → registration_at state process ≡ None
       → find_page state.pages (ServerStack process page) ≡ None
   unfolding is_in_table
-  stack_absent process page none = page_absent (ServerStack process page) (ap (λ told. nat_lt page (4 * stacks_in told)) none)
+  stack_absent process page none =
+      page_absent (ServerStack process page) (ap (λ told. nat_lt page (4 * stacks_in told)) none ∙ below_none page)
 
   -- a view has its record and its scratch page
   pub view_there : (thread view process : ℕ) → process_shown state.threads thread view ≡ Some process
