@@ -44,7 +44,8 @@ unfolding process_at
 heap_there state process page sound below =
     let few = heap_few state process sound in (
       within_by state process page (slice_get state.processes process) refl below,
-      (omega (arith, few, below), table.heap_there state sound.table process page below),
+      omega (arith, few, below),
+      table.heap_there state sound.table process page below,
     )
 
 -- protect of a heap page of a sound state
@@ -58,7 +59,7 @@ pub sound_protected_keeps : (placement : Placement) (state : State) (memory mid 
     → Keeps placement (with_heap_mode state process page executable) new
 sound_protected_keeps placement state memory mid new process page executable sound keeps below set exposed =
     let there = heap_there state process page sound below in
-    protected_keeps placement state memory mid new process page executable keeps there.0 there.1.0 there.1.1 set exposed
+    protected_keeps placement state memory mid new process page executable keeps there.0 there.1 there.2 set exposed
 
 -- ---- register
 
