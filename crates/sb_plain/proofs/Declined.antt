@@ -91,7 +91,8 @@ module _ (address : ℕ) (state : State) (number : ℕ) (inside : number < lengt
   register_leaves process (Some refusal) = refused_leaves refusal 0
   register_leaves process None = λ refused. absurd (refused refl)
 
-  bind_leaves : (thread : Thread) (refusal : Option CallRefusal) → Leaves state number (bind_outcome state number thread next refusal)
+  bind_leaves : (thread : Thread) (refusal : Option CallRefusal)
+      → Leaves state number (bind_outcome state number thread next refusal)
   bind_leaves thread (Some refusal) = refused_leaves refusal 0
   bind_leaves thread None = λ refused. absurd (refused refl)
 

@@ -16,12 +16,12 @@
 
 mod draft;
 mod edit;
-mod text_insn;
 mod listing;
 mod refusal;
 mod rewriting;
 mod rewritten;
 mod target;
+mod text_insn;
 
 pub use draft::AREA_SIZE;
 pub use edit::{Edit, Edits};

@@ -9,11 +9,11 @@ ghost use Rattle.sb_rewrite.specs.Turns.{IsTextInsn, JumpsLeadWell, ChecksTarget
 ghost use Rattle.sb_rewrite.specs.Rewriting.{Rewrites, KeepsLength, StartsStandInText, OneRewriting, OneOriginal};
 
 use crate::draft::Draft;
-use crate::text_insn::{TextInsn, decode_first};
 use crate::listing::{Listing, list};
 use crate::refusal::RewriteRefusal;
 use crate::rewritten::Rewritten;
 use crate::target::{check_jumps, is_bad_target, remember_jump};
+use crate::text_insn::{TextInsn, decode_first};
 use sb_abi::{AREA_ADDRESS, TEXT_ADDRESS};
 use sb_forms::{Form, form};
 use std::alloc::Global;

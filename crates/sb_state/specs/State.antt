@@ -73,7 +73,11 @@ with_contents state name bytes = record state { pages = with_page_bytes state.pa
 unfoldable pub no_thread : Thread
 no_thread = record {
   home = 0;
-  regs = record { general = replicate 16 0; rip = 0; flags = record { cf = false; pf = false; zf = false; sf = false; of = false } };
+  regs = record {
+    general = replicate 16 0;
+    rip = 0;
+    flags = record { cf = false; pf = false; zf = false; sf = false; of = false };
+  };
   view = 0;
   bindings = [];
   state = Ended 0;

@@ -150,7 +150,8 @@ word_bytes state process word all =
 
 -- ---- pages are added
 
-added_by : (found new : Option Page) → AreBytes (bytes_of found) → AreBytes (bytes_of new) → AreBytes (bytes_of (either found new))
+added_by : (found new : Option Page) → AreBytes (bytes_of found) → AreBytes (bytes_of new)
+    → AreBytes (bytes_of (either found new))
 added_by None new one other = other
 added_by (Some page) new one other = one
 

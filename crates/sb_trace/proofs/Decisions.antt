@@ -126,7 +126,8 @@ ended_line thread end ended running other = other (sym ended ∙ running)
 
 by_line : (state : State) (core : ℕ) (flight : Flight) (end : EndKind) (outcome : Outcome)
     → (thread_at state core).state ≡ end → flight_at state core ≡ Some flight
-    → flight.index ≢ 0 → IsFlightSound (thread_at state core) (Some flight) → StepsBy state core (thread_at state core) end outcome
+    → flight.index ≢ 0 → IsFlightSound (thread_at state core) (Some flight)
+    → StepsBy state core (thread_at state core) end outcome
     → IsFlightLine flight.phase (decision_at state core flight) flight.index outcome.0
 by_line state core flight Running outcome ended at away sound runs =
     on_line state core flight (flight_at state core) outcome at away sound runs

@@ -238,7 +238,8 @@ view_stays decision.WrongKey thread index phase next mask mask' binding shows = 
 view_stays decision.PoolEmpty thread index phase next mask mask' binding shows = shows
 view_stays decision.Entered thread index phase next mask mask' binding shows = shows
 
-view_first : (decided : Decision) (thread : Thread) (index phase mask : ℕ) (binding : Binding) → IsDecidedView decided index thread.view
+view_first : (decided : Decision) (thread : Thread) (index phase mask : ℕ) (binding : Binding)
+    → IsDecidedView decided index thread.view
     → IsThreadOfFlight (Some decided) thread (flight_of index phase mask (Some decided)) binding
 view_first decision.WrongKey thread index phase mask binding shows = shows
 view_first decision.PoolEmpty thread index phase mask binding shows = shows
@@ -274,8 +275,8 @@ next_sound : (thread : Thread) (index phase pool mask : ℕ) (decided : Option D
 next_sound thread index phase pool mask decided fits None away word flies means none is = tt
 next_sound thread index phase pool mask None fits (Some next) away word flies means none is =
     undecided_flies thread index next (mask_after phase pool mask) flies.running
-    (undecided_next thread index phase pool mask next fits (decided_of thread (flight_of index phase mask None) away flies) means none
-    is)
+    (undecided_next thread index phase pool mask next fits (decided_of thread (flight_of index phase mask None) away flies) means
+    none is)
     (loaded_word (phase == 2) pool mask word flies.word)
 next_sound thread index phase pool mask (Some decided) fits (Some next) away word flies means none is =
     decided_next thread index phase pool mask next decided flies is

@@ -122,7 +122,8 @@ entered_follows = (
 )
 
 -- a phase of a decision follows it
-pub follows_of : (decided : Decision) (phase mask : ℕ) → Contains (phases_of (Some decided)) phase → IsMask (Some decided) phase mask
+pub follows_of : (decided : Decision) (phase mask : ℕ) → Contains (phases_of (Some decided)) phase
+    → IsMask (Some decided) phase mask
     → FollowsDecision decided phase mask
 follows_of decision.WrongKey phase mask among chosen =
     at_phase_of (λ n. (n ≡ 1) ⊎ (17 ≤ n)) (Some decision.WrongKey) phase wrong_key_follows among

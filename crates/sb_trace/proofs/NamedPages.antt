@@ -46,7 +46,7 @@ there_by true page found more same = refl
 there_by false page found more same = same
 
 -- a page is there where its name stands among the names of the pages
-pub there_named : (pages : List Page) (name : PageName) → is_there pages name ≡ has_name (map page_name pages) name
+there_named : (pages : List Page) (name : PageName) → is_there pages name ≡ has_name (map page_name pages) name
 there_named [] name = refl
 there_named (page ∷ pages) name =
     there_by (same_name page.name name) page (find_page pages name) (has_name (map page_name pages) name)
@@ -99,7 +99,7 @@ some_either : (first second : Option Page) → is_some (either first second) ≡
 some_either None second = refl
 some_either (Some page) second = refl
 
-pub there_added : (first second : List Page) (name : PageName)
+there_added : (first second : List Page) (name : PageName)
     → is_there (first ++ second) name ≡ (is_there first name || is_there second name)
 there_added first second name =
     ap is_some (found_added first second name) ∙ some_either (find_page first name) (find_page second name)
@@ -108,7 +108,7 @@ none_either : (first second : Option Page) → first ≡ None → second ≡ Non
 none_either None second one other = other
 none_either (Some page) second one other = absurd cc
 
-pub own_added : (first second : List Page) → HaveOwnNames first → HaveOwnNames second
+own_added : (first second : List Page) → HaveOwnNames first → HaveOwnNames second
     → EachPage (λ page. find_page second page.name ≡ None) first
     → HaveOwnNames (first ++ second)
 own_added [] second one other apart = other
@@ -179,7 +179,7 @@ none_behind page first (one ∷ second) new =
     let more = none_behind page first second new.1 in
     (behind_by (same_name one.name page.name) one (find_page second page.name) apart more.0, (parts.1, more.1))
 
-pub own_new : (first second : List Page) → HaveOwnNames first → HaveOwnNames second
+own_new : (first second : List Page) → HaveOwnNames first → HaveOwnNames second
     → EachPage (λ one. find_page first one.name ≡ None) second
     → HaveOwnNames (first ++ second)
 own_new [] second one other new = other

@@ -45,7 +45,7 @@ unfolding mode_of
 record_read number view executable = refl
 
 -- no thread may write a record page
-pub record_closed : (state : State) (thread view number index : ℕ) → IsClosed state thread view (Record number index)
+record_closed : (state : State) (thread view number index : ℕ) → IsClosed state thread view (Record number index)
 record_closed state thread view number index page seen is permitted same =
     let found = seen_found state thread view page seen is in
     let mode = found.2 ∙ ap (λ name. mode_of name found.0.executable) same in

@@ -90,7 +90,7 @@ own_added [] binding own free = (refl, tt)
 own_added (first ∷ bindings) binding own free =
     let parts = not_first (first.index == binding.index) first (binding_with bindings binding.index) free in (
       none_or_last bindings binding first.index own.0
-      (turned_by (binding.index == first.index) first.index binding.index refl parts.0),
+          (turned_by (binding.index == first.index) first.index binding.index refl parts.0),
       own_added bindings binding own.1 parts.1,
     )
 

@@ -157,8 +157,8 @@ CallChanges old core number answer new =
 
 -- ---- a step
 
--- By its line: an instruction, an entry, a system call. A landing line changes a flight alone, and an idle step nothing; all else,
--- as faults, prints, exits, refused calls and returns, changes no page.
+-- By its line: an instruction, an entry, a system call. A landing line changes a flight alone, and an idle step nothing; all
+-- else, as faults, prints, exits, refused calls and returns, changes no page.
 abbrev pub LineChanges : State → ℕ → Event → State → Type 0
 LineChanges old core (StepLine rip) new = WritesOpen old core (thread_at old core).view new
 LineChanges old core (Extra rip) new = WritesOpen old core (thread_at old core).view new

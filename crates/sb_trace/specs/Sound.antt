@@ -61,7 +61,7 @@ abbrev pub HaveRecords : State → Type 0
 HaveRecords state =
     (number view process : ℕ) → process_shown state.threads number view ≡ Some process
     → HasPage state.pages (Record number view)
-      (record_bytes (words_of_view state number (thread_at state number) (binding_with (thread_at state number).bindings view)))
+    (record_bytes (words_of_view state number (thread_at state number) (binding_with (thread_at state number).bindings view)))
 
 -- ---- processes
 

@@ -149,18 +149,23 @@ fn a_ninth_thread_has_its_buffer(rt: HostRuntime) -> Result<(), Fail> {
         machine.state.threads.push(thread(1))?;
         machine.state.flights.push(None)?;
     }
-    let state = &mut machine.state;
-    assert_eq!(rt; call(state, 0, 0, [REGISTER, HANDLER, 1]), Some([0, 0]));
-    assert_eq!(rt; call(state, 8, 0, [BIND, 0, 0]), Some([0, 1]));
-    let client = state.threads.get(8).ok_or("the thread is there")?;
+    assert_eq!(rt;
+        call(&mut machine.state, 0, 0, [REGISTER, HANDLER, 1]),
+        Some([0, 0])
+    );
+    assert_eq!(rt; call(&mut machine.state, 8, 0, [BIND, 0, 0]), Some([0, 1]));
+    let client = machine.state.threads.get(8).ok_or("the thread is there")?;
     assert_eq!(rt; client.regs.general[R10], 0x220_4000);
     // It stores in its home, the last byte of the four pages included, and the server's view has what it stored.
     for (at, value) in [(0x220_4000, 7), (0x220_7FF8, 9)] {
         assert_eq!(rt;
-            PlainBus::new(state, 8, 0).store(Linear(at), 8, value),
+            PlainBus::new(&mut machine.state, 8, 0).store(Linear(at), 8, value),
             Ok(())
         );
-        assert_eq!(rt; PlainBus::new(state, 8, 1).load(Linear(at), 8), Ok(value));
+        assert_eq!(rt;
+            PlainBus::new(&mut machine.state, 8, 1).load(Linear(at), 8),
+            Ok(value)
+        );
     }
     Ok(())
 }
