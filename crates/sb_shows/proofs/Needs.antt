@@ -1,77 +1,118 @@
--- What the calls ask of the pages of a state, where they are those that belong to it.
-use Rattle.std.proofs.Common.{◌≡◌, ap, ℕ, zero, suc, ◌*◌, ◌<◌, List, [], ◌∷◌, length, refl, arith}
-use Rattle.std.specs.Prelude.{Option, Some, None, slice_get}
-use Rattle.sb_state.specs.declared.page.PageName.{PageName}
-use Rattle.sb_state.specs.declared.page.PageName.TheVariants.{Heap, Pool, ServerStack, Buffer, Record, Scratch}
-use Rattle.sb_state.specs.declared.page.Page.{Page}
-use Rattle.sb_trace.specs.State.{State, Process, find_page, process_at, registration_at}
-use Rattle.sb_trace.specs.Windows.{process_shown}
-use Rattle.sb_trace.specs.SyscallProtect.{heap_count}
-use Rattle.sb_trace.specs.Whole.{IsThere, ImagePages, IsViewThere, stack_count, Belongs, IsWhole}
+-- What the calls ask of the pages of a state, where the state is sound.
+use Rattle.std.proofs.Common.{◌≡◌, ◌≢◌, ◌∙◌, ap, ℕ, ◌==◌, ◌+◌, ◌-◌, ◌*◌, ◌^◌, ◌<◌, ◌≤◌, Bool, [], ◌∷◌, length, refl, lit≤, arith}
+use Rattle.std.specs.Prelude.{Option, Some, None, slice_get, if◌then◌else◌}
+use Rattle.std.specs.Option.{option_and_then}
+use Rattle.std.proofs.lemmas.Bool.{ne_eqb}
+use Rattle.std.proofs.lemmas.Option.{slice_get_within}
+use Rattle.sb_abi.specs.declared.space.TheConstants.{MAX_THREADS}
+use Rattle.sb_memory.specs.Physical.{Physical}
+use Rattle.sb_memory.specs.Reading.{with_bytes}
+use Rattle.sb_memory.specs.Words.{put_word}
+use Rattle.sb_state.specs.declared.page.PageName.TheVariants.{Heap, Pool}
+use Rattle.sb_state.specs.declared.state.Binding.{Binding}
+use Rattle.sb_state.specs.declared.state.Thread.{Thread}
+use Rattle.sb_trace.specs.PageName.{mode_of}
+use Rattle.sb_trace.specs.State.{State, Process, process_at, registration_at}
+use Rattle.sb_trace.specs.Start.{pages_from}
+use Rattle.sb_trace.specs.KernelCall.{handler_in}
+use Rattle.sb_trace.specs.Windows.{process_shown, process_of_view, server_of}
+use Rattle.sb_trace.specs.SyscallBind.{buffer_page, with_binding, server_words}
+use Rattle.sb_trace.specs.SyscallRegister.{server_stack_page, with_server}
+use Rattle.sb_trace.specs.SyscallProtect.{heap_count, with_heap_mode}
+use Rattle.sb_trace.specs.Sound.{IsProcessSound, IsThreadSound, IsSound}
+use Rattle.sb_trace.proofs.ProcessFacts.{all_at}
+use Rattle.sb_trace.proofs.TablePages as table
+use Rattle.sb_shows.specs.Placement.{Placement, IsThere, leaf_for, rights_for}
+use Rattle.sb_shows.specs.Keeping.{Keeps}
+use Rattle.sb_shows.specs.Calls.{SetsPage, ExposesFrame, AddsPages, placed_all}
+use Rattle.sb_shows.proofs.Binding.{viewed, bound_keeps}
+use Rattle.sb_shows.proofs.Protecting.{protected_keeps}
+use Rattle.sb_shows.proofs.Registering.{registered_keeps}
 
-absent_by : (found : Option Page) → ((page : Page) × (found ≡ Some page) → ⊥) → found ≡ None
-absent_by None none = refl
-absent_by (Some page) none = absurd (none (page, refl))
+-- ---- protect
 
-absent : (pages : List Page) (name : PageName) → (IsThere pages name → ⊥) → find_page pages name ≡ None
-absent pages name none = absent_by (find_page pages name) none
+few_by : (state : State) (process : ℕ) (found : Option Process) → IsSound state → slice_get state.processes process ≡ found
+    → heap_count found ≤ 512
+few_by state process None sound is = lit≤ tt
+few_by state process (Some one) sound is = (all_at IsProcessSound state.processes process one sound.processes is).heap
 
--- register: the pool page is there, and no stack of a process that is no server
-pub pool_there : (images : ℕ → ImagePages) (state : State) (process : ℕ) → IsWhole images state
-    → process < length state.processes → IsThere state.pages (Pool process)
-unfolding Belongs
-pool_there images state process whole below = (whole.pages (Pool process)).1 below
+-- a heap is within its window
+pub heap_few : (state : State) (process : ℕ) → IsSound state → heap_count (process_at state process) ≤ 512
+unfolding process_at
+heap_few state process sound = few_by state process (slice_get state.processes process) sound refl
 
-no_page : (count page : ℕ) → count ≡ 0 → page < 4 * count → ⊥
-no_page count page none below = omega (arith, none, below)
+within_by : (state : State) (process page : ℕ) (found : Option Process) → slice_get state.processes process ≡ found
+    → page < heap_count found → process < length state.processes
+within_by state process page None is below = absurd (omega (arith, below))
+within_by state process page (Some one) is below = slice_get_within state.processes process one is
 
-pub no_stacks : (images : ℕ → ImagePages) (state : State) (process page : ℕ) → IsWhole images state
-    → registration_at state process ≡ None → find_page state.pages (ServerStack process page) ≡ None
-unfolding Belongs registration_at process_at
-no_stacks images state process page whole none =
-    absent state.pages (ServerStack process page)
-    (λ there. no_page (stack_count (registration_at state process)) page (ap stack_count none)
-    ((whole.pages (ServerStack process page)).0 there))
-
--- protect: a page of the heap is there, in its window
-process_below : (processes : List Process) (number page : ℕ) → page < heap_count (slice_get processes number)
-    → number < length processes
-process_below [] number page below = absurd (omega (arith, below))
-process_below (process ∷ processes) zero page below = omega arith
-process_below (process ∷ processes) (suc number) page below = let behind = process_below processes number page below in
-    omega (arith, behind)
-
-pub heap_there : (images : ℕ → ImagePages) (state : State) (process page : ℕ) → IsWhole images state
-    → page < heap_count (process_at state process)
+-- a page of a heap is there, in its window
+pub heap_there : (state : State) (process page : ℕ) → IsSound state → page < heap_count (process_at state process)
     → (process < length state.processes) × (page < 512) × IsThere state.pages (Heap process page)
-unfolding Belongs process_at
-heap_there images state process page whole below = (
-  process_below state.processes process page below,
-  let heap = whole.heaps process in omega (arith, below, heap),
-  (whole.pages (Heap process page)).1 below,
-)
+unfolding process_at
+heap_there state process page sound below =
+    let few = heap_few state process sound in (
+      within_by state process page (slice_get state.processes process) refl below,
+      omega (arith, few, below),
+      table.heap_there state sound.table process page below,
+    )
 
--- bind: an index without a view has no pages; a view has its own
-clash : (found : Option ℕ) → found ≡ None → ((process : ℕ) × (found ≡ Some process)) → ⊥
-clash found none some = let is = some.1 in cc
+-- protect of a heap page of a sound state
+pub sound_protected_keeps : (placement : Placement) (state : State) (memory mid new : Physical) (process page : ℕ)
+    (executable : Bool)
+    → IsSound state → Keeps placement state memory → page < heap_count (process_at state process)
+    → SetsPage (placement.sets process) memory mid (0xC00000 + 4096 * page)
+    (leaf_for (placement.frame (Heap process page)) (mode_of (Heap process page) executable))
+    → ExposesFrame placement.root mid new (placement.frame (Heap process page))
+    (rights_for (mode_of (Heap process page) executable))
+    → Keeps placement (with_heap_mode state process page executable) new
+sound_protected_keeps placement state memory mid new process page executable sound keeps below set exposed =
+    let there = heap_there state process page sound below in
+    protected_keeps placement state memory mid new process page executable keeps there.0 there.1 there.2 set exposed
 
-pub none_of_view : (images : ℕ → ImagePages) (state : State) (thread view : ℕ) → IsWhole images state
-    → process_shown state.threads thread view ≡ None
-    → (find_page state.pages (Record thread view) ≡ None) × (find_page state.pages (Scratch thread view) ≡ None)
-    × ((page : ℕ) → find_page state.pages (Buffer thread view page) ≡ None)
-unfolding Belongs
-none_of_view images state thread view whole none = (
-  absent state.pages (Record thread view)
-      (λ there. clash (process_shown state.threads thread view) none ((whole.pages (Record thread view)).0 there)),
-  absent state.pages (Scratch thread view)
-      (λ there. clash (process_shown state.threads thread view) none ((whole.pages (Scratch thread view)).0 there)),
-  λ page. absent state.pages (Buffer thread view page)
-      (λ there. clash (process_shown state.threads thread view) none ((whole.pages (Buffer thread view page)).0 there).1.1),
-)
+-- ---- register
 
-pub own_of_view : (images : ℕ → ImagePages) (state : State) (thread view : ℕ) → IsWhole images state
-    → IsViewThere state.threads thread view
-    → IsThere state.pages (Record thread view) × IsThere state.pages (Scratch thread view)
-unfolding Belongs
-own_of_view images state thread view whole there =
-    ((whole.pages (Record thread view)).1 there, (whole.pages (Scratch thread view)).1 there)
+-- register of a process of a sound state that is no server
+pub sound_registered_keeps : (placement : Placement) (state : State) (memory mid new : Physical) (process handler stacks : ℕ)
+    → IsSound state → Keeps placement state memory → process < length state.processes
+    → registration_at state process ≡ None → stacks ≤ 16
+    → mid ≡ with_bytes memory (put_word memory.bytes (4096 * placement.frame (Pool process) + 0) (2 ^ stacks - 1))
+    → (adds : AddsPages placement (process ∷ []) (pages_from (server_stack_page process) 0 (4 * stacks)) mid new)
+    → Keeps (placed_all placement (process ∷ []) (pages_from (server_stack_page process) 0 (4 * stacks)) mid new adds)
+    (with_server state process handler stacks) new
+sound_registered_keeps placement state memory mid new process handler stacks sound keeps there none few written adds =
+    let pool = table.pool_there state sound.table process there in
+    registered_keeps placement state memory mid new process handler stacks pool.0 keeps there few pool.1
+    (λ page. table.stack_absent state sound.table process page none) written adds
+
+-- ---- bind
+
+-- an index of no binding shows nothing
+unshown : (state : State) (number index : ℕ) (thread : Thread) → slice_get state.threads number ≡ Some thread → index ≢ 0
+    → server_of thread.bindings index ≡ None → process_shown state.threads number index ≡ None
+unfolding process_shown
+unshown state number index thread there away fresh =
+    ap (option_and_then (process_of_view index)) there
+    ∙ (ap (λ (test : Bool). if test then Some thread.home else server_of thread.bindings index) (ne_eqb index 0 away) ∙ fresh)
+
+-- bind of a thread of a sound state of few threads, where the view is there
+pub sound_bound_keeps : (placement : Placement) (state : State) (memory new : Physical) (number : ℕ) (thread : Thread)
+    (binding : Binding)
+    → IsSound state → length state.threads ≤ MAX_THREADS
+    → (there : slice_get state.threads number ≡ Some thread) (away : binding.index ≢ 0)
+    (fresh : server_of thread.bindings binding.index ≡ None)
+    → Keeps placement
+    (viewed state number thread binding
+    (server_words number thread binding (handler_in (registration_at state binding.server))) there away fresh) memory
+    → binding.index < 16 → binding.server < length state.processes
+    → (adds : AddsPages placement (thread.home ∷ binding.server ∷ [])
+    (pages_from (buffer_page number binding.index) 0 4) memory new)
+    → Keeps (placed_all placement (thread.home ∷ binding.server ∷ [])
+    (pages_from (buffer_page number binding.index) 0 4) memory new adds) (with_binding state number thread binding) new
+sound_bound_keeps placement state memory new number thread binding sound few there away fresh keeps small server_there adds =
+    let within = slice_get_within state.threads number thread there in
+    let sound_thread = all_at (IsThreadSound state) state.threads number thread sound.threads there in
+    let none = table.view_absent state sound.table number binding.index
+    (unshown state number binding.index thread there away fresh) in
+    bound_keeps placement state memory new number thread binding there away fresh keeps (omega (arith, within, few)) small
+    sound_thread.home server_there none.2 adds

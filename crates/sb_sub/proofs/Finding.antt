@@ -14,13 +14,13 @@ use Rattle.sb_pagewalk.specs.TableSet.{walked_in}
 use Rattle.sb_root.specs.declared.root_kernel.RootKernel.{RootKernel}
 use Rattle.sb_state.specs.declared.page.PageName.TheVariants.{Heap}
 use Rattle.sb_state.specs.declared.page.Page.{Page}
-use Rattle.sb_trace.specs.State.{State, Process, find_page}
+use Rattle.sb_trace.specs.State.{State, Process, find_page, process_at}
 use Rattle.sb_trace.specs.SyscallProtect.{heap_count}
 use Rattle.sb_trace.specs.Pattern.{heap_pattern, heap_address, first_pattern, pattern_around, bytes_before, bytes_behind, executable_bytes}
+use Rattle.sb_trace.proofs.TablePages.{heap_there, heap_below}
 use Rattle.sb_shows.specs.Placement.{IsThere}
 use Rattle.sb_sub.specs.Kernel.{Entry, Kernel, process_of}
 use Rattle.sb_sub.specs.Heap.{FindsHeap, heap_at, heap_frame, frame_bytes, frame_before, frame_behind, pattern_where, pattern_at}
-use Rattle.sb_sub.specs.Whole.{Belongs}
 use Rattle.sb_sub.specs.StandsFor.{StandsFor}
 use Rattle.sb_sub.proofs.Led.{inside, above, read_frame, walk_fact, bytes_are, executed_are}
 
@@ -47,20 +47,21 @@ module _ (kernel : Kernel) (root : RootKernel) (book : Book) (memory : Physical)
   set_is = stands.sets process entry kept
 
   pub heap_few : count ≤ 512
-  heap_few = subst (λ (found : Option Process). heap_count found ≤ 512) process_found (stands.whole.heaps process)
+  unfolding process_at
+  heap_few = subst (λ (found : Option Process). heap_count found ≤ 512) process_found (stands.servable.heaps process)
 
   pub page_there : (page : ℕ) → page < count → IsThere state.pages (Heap process page)
-  unfolding Belongs
+  unfolding process_at
   page_there page below =
-      (stands.whole.pages (Heap process page)).1
+      heap_there state stands.servable.table process page
       (subst (λ (found : Option Process). page < heap_count found) (sym process_found) below)
 
   page_absent : (page : ℕ) → count ≤ page → (one : Page) → find_page state.pages (Heap process page) ≡ Some one → ⊥
-  unfolding Belongs
+  unfolding process_at
   page_absent page beyond one found =
       let below =
       subst (λ (found : Option Process). page < heap_count found) process_found
-      ((stands.whole.pages (Heap process page)).0 (one, found)) in
+      (heap_below state stands.servable.table process page (one, found)) in
       omega (arith, below)
 
   -- ---- walks

@@ -12,5 +12,5 @@ pub mod Stacks
 pub mod Pooled
 pub mod Translated
 pub mod SeenAfter
-pub mod WholeServer
+pub mod Servable
 pub mod Registered

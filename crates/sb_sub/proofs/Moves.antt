@@ -1,5 +1,5 @@
 -- A state whose threads differ only in registers, views and ends, and in flights, is stood for as well.
-use Rattle.std.proofs.Common.{◌≡◌, ◌∙◌, sym, ap, subst, ℕ, zero, suc, ◌<◌, ◌≤◌, List, [], ◌∷◌, length, refl}
+use Rattle.std.proofs.Common.{◌≡◌, ◌∙◌, sym, ap, subst, ℕ, zero, suc, ◌≤◌, List, [], ◌∷◌, length, refl}
 use Rattle.std.specs.Prelude.{Option, Some, None, map, slice_get, slice_set, unwrap_or}
 use Rattle.std.specs.Option.{option_map, option_and_then}
 use Rattle.std.proofs.lemmas.Option.{slice_get-map}
@@ -7,18 +7,16 @@ use Rattle.std.proofs.lemmas.List.{length-map}
 use Rattle.sb_memory.specs.Physical.{Physical}
 use Rattle.sb_frames.specs.Book.{Book}
 use Rattle.sb_root.specs.declared.root_kernel.RootKernel.{RootKernel}
-use Rattle.sb_state.specs.declared.page.PageName.{PageName}
-use Rattle.sb_state.specs.declared.page.PageName.TheVariants.{Text, Area, Data, Heap, Pool, ServerStack, Save, Stack, Buffer, Record, Scratch, HomeTrampoline, ServerTrampoline}
 use Rattle.sb_state.specs.declared.state.Thread.{Thread}
-use Rattle.sb_trace.specs.State.{State, Process, find_page, thread_at, no_thread}
+use Rattle.sb_trace.specs.State.{State, Process, find_page, process_at, thread_at, no_thread}
 use Rattle.sb_trace.specs.Windows.{process_shown, process_of_view}
 use Rattle.sb_trace.specs.SyscallProtect.{heap_count}
-use Rattle.sb_shows.specs.Placement.{IsThere}
+use Rattle.sb_trace.specs.Changes.{page_name}
+use Rattle.sb_trace.proofs.TablePages.{one_table}
 use Rattle.sb_shows.specs.Threads.{SameSight}
 use Rattle.sb_shows.proofs.Threads.{keeps_moved}
 use Rattle.sb_sub.specs.Kernel.{Kernel, Seat, seat_of, shown_from}
-use Rattle.sb_sub.specs.Whole.{ImagePages, Belongs}
-use Rattle.sb_sub.specs.StandsFor.{StandsFor}
+use Rattle.sb_sub.specs.StandsFor.{IsServable, StandsFor}
 
 -- ---- what seats say of threads
 
@@ -87,59 +85,29 @@ module _ (old new : State) (moved : IsMoved old new) where
     home = home_moved;
   }
 
--- pages belong alike to threads with the same views
-pub belongs_alike : (images : ℕ → ImagePages) (processes : List Process) (old new : List Thread) → length new ≡ length old
-    → ((thread view : ℕ) → process_shown new thread view ≡ process_shown old thread view)
-    → (name : PageName) → Belongs images processes old name → Belongs images processes new name
-unfolding Belongs
-belongs_alike images processes old new count same (Text process page) has = has
-belongs_alike images processes old new count same (Area process page) has = has
-belongs_alike images processes old new count same (Data process page) has = has
-belongs_alike images processes old new count same (Heap process page) has = has
-belongs_alike images processes old new count same (Pool process) has = has
-belongs_alike images processes old new count same (ServerStack process page) has = has
-belongs_alike images processes old new count same (Save thread) has = subst (λ (n : ℕ). thread < n) (sym count) has
-belongs_alike images processes old new count same (Stack thread page) has =
-    (subst (λ (n : ℕ). thread < n) (sym count) has.0, has.1)
-belongs_alike images processes old new count same (Buffer thread index page) has =
-    (has.0, (has.1.0, (has.1.1.0, same thread index ∙ has.1.1.1)))
-belongs_alike images processes old new count same (Record thread view) has = (has.0, same thread view ∙ has.1)
-belongs_alike images processes old new count same (Scratch thread view) has = (has.0, same thread view ∙ has.1)
-belongs_alike images processes old new count same HomeTrampoline has = has
-belongs_alike images processes old new count same ServerTrampoline has = has
+-- and it is servable alike
+servable_moved : (old new : State) → IsMoved old new → IsServable old → IsServable new
+unfolding process_at
+servable_moved old new moved servable = record {
+  table = one_table old new moved.processes (count_moved old new moved) (shown_moved old new moved)
+      (ap (map page_name) moved.pages) servable.table;
+  heaps = λ process. subst (λ (processes : List Process). heap_count (slice_get processes process) ≤ 512) (sym moved.processes)
+      (servable.heaps process);
+  few = subst (λ (n : ℕ). n ≤ 8) (sym (count_moved old new moved)) servable.few;
+  places = moved.flights ∙ (servable.places ∙ sym (count_moved old new moved));
+}
 
 pub stands_moved : (kernel : Kernel) (root : RootKernel) (book : Book) (memory : Physical) (old new : State) → IsMoved old new
     → StandsFor kernel root book memory old → StandsFor kernel root book memory new
 stands_moved kernel root book memory old new moved stands = record {
   placement = stands.placement;
-  images = stands.images;
   keeps = keeps_moved stands.placement old new memory (same_sight old new moved) stands.keeps;
   rooted = stands.rooted;
   sets = stands.sets;
   processes = stands.processes ∙ sym moved.processes;
   seats = moved.seats ∙ stands.seats;
   keys = stands.keys ∙ sym moved.keys;
-  whole = record {
-    pages = λ name. (
-      λ there.
-          let old_there = subst (λ pages. IsThere pages name) moved.pages there in
-          belongs_alike stands.images new.processes old.threads new.threads (count_moved old new moved)
-          (shown_moved old new moved) name
-          (subst (λ (processes : List Process). Belongs stands.images processes old.threads name) (sym moved.processes)
-          ((stands.whole.pages name).0 old_there)),
-      λ has.
-          let back =
-          belongs_alike stands.images new.processes new.threads old.threads (sym (count_moved old new moved))
-          (λ thread view. sym (shown_moved old new moved thread view)) name has in
-          subst (λ pages. IsThere pages name) (sym moved.pages)
-          ((stands.whole.pages name).1
-          (subst (λ (processes : List Process). Belongs stands.images processes old.threads name) moved.processes back)),
-    );
-    heaps = λ process. subst (λ (processes : List Process). heap_count (slice_get processes process) ≤ 512) (sym moved.processes)
-        (stands.whole.heaps process);
-    few = subst (λ (n : ℕ). n ≤ 8) (sym (count_moved old new moved)) stands.whole.few;
-    flights = moved.flights ∙ (stands.whole.flights ∙ sym (count_moved old new moved));
-  };
+  servable = servable_moved old new moved stands.servable;
   booked = stands.booked;
   unused = stands.unused;
   count = stands.count ∙ sym moved.free;

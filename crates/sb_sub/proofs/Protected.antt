@@ -14,21 +14,19 @@ use Rattle.sb_root.specs.declared.root_kernel.RootKernel.{RootKernel}
 use Rattle.sb_root.specs.Standing.{IsApart, IsBooked, Stands}
 use Rattle.sb_state.specs.declared.page.PageName.{PageName}
 use Rattle.sb_state.specs.declared.page.PageName.TheVariants.{Heap}
-use Rattle.sb_state.specs.declared.page.Page.{Page}
-use Rattle.sb_trace.specs.PageName.{same_name, mode_of}
-use Rattle.sb_trace.specs.State.{State, Process, find_page, process_at, with_mode}
+use Rattle.sb_trace.specs.PageName.{mode_of}
+use Rattle.sb_trace.specs.State.{State, Process, process_at}
 use Rattle.sb_trace.specs.Pattern.{heap_pattern}
 use Rattle.sb_trace.specs.SyscallProtect.{heap_count, with_heap_mode}
-use Rattle.sb_state.proofs.Names.{name_same}
-use Rattle.sb_state.proofs.PageLists.{with_executable}
-use Rattle.sb_state.proofs.Modes.{mode_same, mode_other}
+use Rattle.sb_trace.proofs.TableKept.{mode_names}
+use Rattle.sb_trace.proofs.TablePages.{one_table}
 use Rattle.sb_abi.specs.declared.call.CallRefusal.{CallRefusal}
 use Rattle.sb_abi.specs.declared.call.CallRefusal.TheVariants.{BadPage, BadMode}
 use Rattle.sb_calls.specs.Refusals.{protect_refusal}
-use Rattle.sb_shows.specs.Placement.{IsThere, leaf_for, rights_for}
+use Rattle.sb_shows.specs.Placement.{leaf_for, rights_for}
 use Rattle.sb_shows.specs.Keeping.{Keeps}
 use Rattle.sb_shows.specs.Calls.{SetsPage, ExposesFrame}
-use Rattle.sb_shows.proofs.Protecting.{guest_root_apart, there_mode, protected_keeps}
+use Rattle.sb_shows.proofs.Protecting.{guest_root_apart, protected_keeps}
 use Rattle.sb_state.proofs.Cases.{same_some}
 use Rattle.sb_sub.specs.Kernel.{Entry, Kernel, process_of}
 use Rattle.sb_sub.specs.Heap.{SetsMode, heap_at, heap_mode, pattern_at}
@@ -40,20 +38,6 @@ use Rattle.sb_sub.proofs.Finding.{process_found, process_there, set_is, page_the
 mode_is : (process page : ℕ) (executable : Bool) → mode_of (Heap process page) executable ≡ heap_mode executable
 unfolding mode_of
 mode_is process page executable = refl
-
-there_from : (was : Option Page) (pages : List Page) (other : PageName) (page : Page) (executable : Bool)
-    → option_map (with_executable executable) was ≡ Some page → was ≡ find_page pages other → IsThere pages other
-there_from None pages other page executable e here = absurd (let f = e in cc)
-there_from (Some one) pages other page executable e here = (one, sym here)
-
-there_before : (test : Bool) (pages : List Page) (name other : PageName) (executable : Bool) → same_name name other ≡ test
-    → IsThere (with_mode pages name executable) other → IsThere pages other
-there_before true pages name other executable is (page, found) =
-    let same = name_same name other is in
-    there_from (find_page pages name) pages other page executable
-    (sym (mode_same pages name executable) ∙ (ap (find_page (with_mode pages name executable)) same ∙ found))
-    (ap (find_page pages) same)
-there_before false pages name other executable is (page, found) = (page, sym (mode_other pages name other executable is) ∙ found)
 
 module _ (kernel : Kernel) (root : RootKernel) (book : Book) (memory : Physical) (state : State)
     (stands : StandsFor kernel root book memory state)
@@ -126,24 +110,21 @@ module _ (kernel : Kernel) (root : RootKernel) (book : Book) (memory : Physical)
         subst (IsBooked root book) (sym sets.exposed.written) (record { size = mid.size; held = mid.held })
 
     pub protected_stands : StandsFor kernel root book new (with_heap_mode state process page executable)
-    unfolding with_heap_mode
+    unfolding with_heap_mode process_at
     protected_stands = record {
       placement = stands.placement;
-      images = stands.images;
       keeps = kept_now;
       rooted = stands.rooted;
       sets = stands.sets;
       processes = stands.processes;
       seats = stands.seats;
       keys = stands.keys;
-      whole = record {
-        pages = λ one. (
-          λ there. (stands.whole.pages one).0 (there_before (same_name name one) state.pages name one executable refl there),
-          λ has. there_mode (same_name name one) state.pages name one executable refl ((stands.whole.pages one).1 has),
-        );
-        heaps = stands.whole.heaps;
-        few = stands.whole.few;
-        flights = stands.whole.flights;
+      servable = record {
+        table = one_table state (with_heap_mode state process page executable) refl refl (λ thread view. refl)
+            (mode_names state.pages name executable) stands.servable.table;
+        heaps = stands.servable.heaps;
+        few = stands.servable.few;
+        places = stands.servable.places;
       };
       booked = booked_now;
       unused = stands.unused;

@@ -9,18 +9,17 @@ use Rattle.sb_pagewalk.specs.declared.table_set.TableSet.{TableSet}
 use Rattle.sb_root.specs.declared.root_kernel.RootKernel.{RootKernel}
 use Rattle.sb_state.specs.declared.page.PageName.TheVariants.{Pool, ServerStack}
 use Rattle.sb_trace.specs.PageWords.{with_word}
-use Rattle.sb_trace.specs.State.{State, Process, find_page, with_contents, process_at, registration_of}
+use Rattle.sb_trace.specs.State.{State, Process, find_page, with_contents, process_at, registration_of, registration_at}
 use Rattle.sb_trace.specs.SyscallRegister.{with_registration, with_server}
 use Rattle.sb_shows.specs.Placement.{IsThere}
-use Rattle.sb_state.proofs.Cases.{none_found}
+use Rattle.sb_trace.proofs.TablePages.{pool_there, stack_absent}
 use Rattle.sb_sub.specs.Kernel.{Entry, Kernel, process_of, seat_of}
-use Rattle.sb_sub.specs.Whole.{Belongs, stack_count}
 use Rattle.sb_sub.specs.StandsFor.{StandsFor}
 use Rattle.sb_sub.specs.Carries.{Carries}
 use Rattle.sb_sub.specs.Registering.{RegistersPages, Registered, with_entry}
 use Rattle.sb_sub.proofs.Finding.{process_found, process_there, set_is}
 use Rattle.sb_sub.proofs.Pooled.{registered_carried}
-use Rattle.sb_sub.proofs.WholeServer.{set_here, server_whole}
+use Rattle.sb_sub.proofs.Servable.{set_here, server_servable}
 use Rattle.sb_state.proofs.Threads.{set_other}
 
 map_set : (list : List Entry) (index : ℕ) (entry : Entry)
@@ -46,15 +45,11 @@ module _ (kernel : Kernel) (root : RootKernel) (book : Book) (memory : Physical)
   set_same = set_is kernel root book memory state stands process entry kept
 
   pool : IsThere state.pages (Pool process)
-  unfolding Belongs
-  pool = (stands.whole.pages (Pool process)).1 there
+  pool = pool_there state stands.servable.table process there
 
   no_stack : (page : ℕ) → find_page state.pages (ServerStack process page) ≡ None
-  unfolding Belongs
-  no_stack page = none_found (find_page state.pages (ServerStack process page)) (λ one found.
-      let has = (stands.whole.pages (ServerStack process page)).0 (one, found) in
-      let none = ap (λ (p : Option Process). stack_count (registration_of p)) is_found ∙ ap stack_count unregistered in
-      omega (arith, has, none))
+  unfolding registration_at process_at
+  no_stack page = stack_absent state stands.servable.table process page (ap registration_of is_found ∙ unregistered)
 
   carries : Carries stands.placement root book memory state
   carries = record { keeps = stands.keeps; rooted = stands.rooted; booked = stands.booked; unused = stands.unused }
@@ -110,14 +105,13 @@ module _ (kernel : Kernel) (root : RootKernel) (book : Book) (memory : Physical)
       (with_server state process handler stacks)
   registered_stands = record {
     placement = done.after;
-    images = stands.images;
     keeps = done.carries.keeps;
     rooted = done.carries.rooted;
     sets = λ other one found. sets_by (other == process) other one refl found;
     processes = processes_now;
     seats = ap (map seat_of) threads_now ∙ stands.seats;
     keys = stands.keys ∙ sym keys_now;
-    whole = server_whole stands.images state process handler stacks entry.process found_at unregistered stands.whole;
+    servable = (server_servable state process handler stacks entry.process found_at unregistered stands.servable).0;
     booked = done.carries.booked;
     unused = done.carries.unused;
     count = (let was = stands.count in let now = free_now in omega (arith, was, now, fewer));

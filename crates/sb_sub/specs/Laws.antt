@@ -1,5 +1,6 @@
 -- What is stood for is shown.
 use Rattle.std.specs.Prelude.{ℕ, ◌≡◌, ◌+◌, slice_get, slice_set, ◌*◌, ◌<◌, ◌≤◌, false, [], ◌∷◌, ◌++◌, length, None, Some}
+use Rattle.sb_abi.specs.declared.space.TheConstants.{MAX_THREADS}
 use Rattle.sb_memory.specs.Physical.{Physical}
 use Rattle.sb_frames.specs.Book.{Book, free_count}
 use Rattle.sb_root.specs.declared.root_kernel.RootKernel.{RootKernel}
@@ -14,13 +15,13 @@ use Rattle.sb_shows.specs.Placement.{Placement}
 use Rattle.sb_shows.specs.Windows.{page_number}
 use Rattle.sb_sub.specs.Carries.{Carries}
 use Rattle.sb_sub.specs.Registering.{FindsPool, RegistersPages, Registered, with_entry}
+use Rattle.sb_trace.specs.Sound.{IsSound}
 use Rattle.sb_trace.specs.SyscallRegister.{with_server}
-use Rattle.sb_sub.specs.Whole.{ImagePages, IsWhole}
 use Rattle.sb_sub.specs.Taking.{CanTake, TakesPage, top_bytes}
 use Rattle.sb_shows.specs.Related.{HasCores}
 use Rattle.sb_shows.specs.Shows.{CoreWords, Shows}
 use Rattle.sb_sub.specs.Kernel.{Entry, Kernel}
-use Rattle.sb_sub.specs.StandsFor.{StandsFor}
+use Rattle.sb_sub.specs.StandsFor.{IsServable, StandsFor}
 
 -- with the words of the cores, what stands for a state shows it
 abbrev pub StandsShows : Type 0
@@ -62,11 +63,16 @@ RegistersCarried = (placement : Placement) (root : RootKernel) (book : Book) (me
     → RegistersPages (placement.sets process) root book book' memory new process stacks
     → Registered placement root book' new state process handler stacks
 
--- Register of a process that is no server keeps the pages exactly those of the state.
-abbrev pub ServersWhole : Type 0
-ServersWhole = (images : ℕ → ImagePages) (state : State) (process handler stacks : ℕ) (one : Process)
+-- A sound state of few threads is servable.
+abbrev pub SoundStatesServable : Type 0
+SoundStatesServable = (state : State) → IsSound state → length state.threads ≤ MAX_THREADS → IsServable state
+
+-- Register of a process that is no server keeps a state servable, with the same images.
+abbrev pub ServersServable : Type 0
+ServersServable = (state : State) (process handler stacks : ℕ) (one : Process)
     → process_at state process ≡ Some one
-    → one.registration ≡ None → IsWhole images state → IsWhole images (with_server state process handler stacks)
+    → one.registration ≡ None → (servable : IsServable state)
+    → (after : IsServable (with_server state process handler stacks)) × (after.table.images ≡ servable.table.images)
 
 -- What register does to bytes, and the registration of the process: the state with the server is stood for.
 abbrev pub ServersStand : Type 0

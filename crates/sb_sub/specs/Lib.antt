@@ -1,7 +1,6 @@
 pub mod Kernel
 pub mod Heap
 pub mod Refusals
-pub use Rattle.sb_trace.specs.Whole
 pub mod StandsFor
 pub mod Outcomes
 pub mod Serving

@@ -1,7 +1,7 @@
 //! What a memory that stands for a state shows.
 
 ghost use Rattle.sb_sub.specs.Translations.{RegisterStays, TranslationsKept};
-ghost use Rattle.sb_sub.specs.Laws.{CarriedCanTake, CarriedFindsPool, PagesCarried, RegistersCarried, ServersStand, ServersWhole, StandsShows};
+ghost use Rattle.sb_sub.specs.Laws.{CarriedCanTake, CarriedFindsPool, PagesCarried, RegistersCarried, ServersServable, ServersStand, SoundStatesServable, StandsShows};
 
 /// What stands for a state shows it, with the words of the cores.
 pub fn what_is_stood_for_is_shown()
@@ -14,7 +14,8 @@ pub fn pages_are_carried()
     ensures page { PagesCarried }
     ensures finds_pool { CarriedFindsPool }
     ensures registers { RegistersCarried }
-    ensures whole { ServersWhole }
+    ensures servable { SoundStatesServable }
+    ensures server { ServersServable }
     ensures stands { ServersStand }
 {}
 

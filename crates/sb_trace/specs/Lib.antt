@@ -30,7 +30,6 @@ pub mod Runs
 pub mod Code
 pub mod Table
 pub mod Sound
-pub mod Whole
 pub mod Changes
 pub mod Laws
 pub mod End

@@ -66,6 +66,10 @@ is_in_table images state ServerTrampoline = true
 abbrev pub is_there : List Page → PageName → Bool
 is_there pages name = is_some (find_page pages name)
 
+-- a page of this name is there
+abbrev pub IsThere : List Page → PageName → Type 0
+IsThere pages name = (page : Page) × (find_page pages name ≡ Some page)
+
 -- no two pages have one name
 abbrev pub HaveOwnNames : List Page → Type 0
 HaveOwnNames [] = Unit {0}
