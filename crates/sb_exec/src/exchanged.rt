@@ -38,7 +38,14 @@ fn xchg_result(
 }
 
 /// XADD: the new value is the sum.
-fn xadd_result(size: Size, number: usize, place: Location, old: u64, source: u64, regs: Regs) -> After
+fn xadd_result(
+    size: Size,
+    number: usize,
+    place: Location,
+    old: u64,
+    source: u64,
+    regs: Regs,
+) -> After
     requires number { number < 16 }
     requires place { IsPlace place }
     requires old { old < modulus size }

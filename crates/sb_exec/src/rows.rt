@@ -16,7 +16,7 @@ ghost use Rattle.sb_exec.specs.Rows.{
   effect_of,
 };
 
-use crate::action::{Action, After, Effect, Load, MemoryUse, Location, Store};
+use crate::action::{Action, After, Effect, Load, Location, MemoryUse, Store};
 use crate::address::{operand_address, rm_location};
 use crate::branch::{
     jumped_if, popped_into, regs_after_pop, regs_after_push, stack_top, target, top_pushed,

@@ -16,7 +16,9 @@ ghost use Rattle.sb_exec.specs.WriteBack.{
 
 use crate::action::{After, Location};
 use crate::address::rm_location;
-use crate::operand::{next_rip, opcode_number, operand_value, reg_number, register_value, set_register};
+use crate::operand::{
+    next_rip, opcode_number, operand_value, reg_number, register_value, set_register,
+};
 use sb_alu::{Operation, Size, operate};
 use sb_insn::registers::{RAX, RCX};
 use sb_insn::{Insn, OperandForm, Regs};

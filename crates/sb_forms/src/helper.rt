@@ -13,9 +13,7 @@ ghost use Rattle.sb_forms.specs.Registers.{
   second_helper,
 };
 
-use sb_insn::{
-    Insn, OperandForm, base_number, index_number, opcode_number, reg_number, rm_number,
-};
+use sb_insn::{Insn, OperandForm, base_number, index_number, opcode_number, reg_number, rm_number};
 
 /// A register that may help, in the order in which they are tried.
 #[derive(Clone, Copy, Debug, PartialEq, Eq)]

@@ -22,8 +22,8 @@ use crate::code::Code;
 use crate::helper::Helper;
 use crate::pieces::{SCRATCH_WORD, opcode_alone, wide, wide_at_address};
 use sb_insn::{
-    Disp, Imm, Insn, Mnemonic, Op, OperandForm, modrm_of, one_byte_opcode, reg_field, rex_b,
-    rex_r, rm_field, with_r_b,
+    Disp, Imm, Insn, Mnemonic, Op, OperandForm, modrm_of, one_byte_opcode, reg_field, rex_b, rex_r,
+    rm_field, with_r_b,
 };
 
 /// A displacement of one byte 00.

@@ -109,7 +109,9 @@ fn finds_instructions_in_the_maps(rt: HostRuntime) {
         let found = instruction_of(&insn).map(|found| (found.mnemonic, found.form));
         assert_eq!(rt; found, expected, "{name}");
     }
-    assert!(rt; modrm_opcode_of(&MOV_BYTE).is_some_and(|operand| operand.byte_reg && operand.byte_rm));
+    assert!(rt;
+        modrm_opcode_of(&MOV_BYTE).is_some_and(|operand| operand.byte_reg && operand.byte_rm)
+    );
     assert!(rt; modrm_opcode_of(&RET).is_none());
 }
 

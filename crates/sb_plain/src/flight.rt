@@ -13,7 +13,6 @@ use sb_insn::registers::RSI;
 use sb_state::{Binding, Decision, Flight, PlainState, Thread, eax, ecx};
 use sb_trace::{Event, VMFUNC_PHASE};
 
-
 // ---- what a phase looks at
 
 fn is_key(binding: Option<Binding>, word: u64) -> bool

@@ -13,7 +13,6 @@ use sb_insn::{Insn, Regs};
 use sb_memory::{Access, Linear};
 use sb_state::{PlainBus, PlainState, reach};
 
-
 /// The instruction at an address, in a view of a thread, where it ends in the page in which it begins.
 fn fetch_in_page(state: &PlainState, thread: u32, view: u32, rip: u64) -> Option<Insn>
     ensures fetched { IfSome result (λ insn. FetchesOn (plain thread view) state.now rip tt tt (Ok insn)) }

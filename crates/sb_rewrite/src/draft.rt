@@ -9,10 +9,10 @@ ghost use Rattle.sb_rewrite.specs.Output.{IsOrdered};
 ghost use Rattle.sb_rewrite.specs.Turns.{IsTextInsn, started, keep, moved, in_place, next_place, with_start, Puts, IsFirstLeft};
 
 use crate::edit::{Edit, Move};
-use crate::text_insn::TextInsn;
 use crate::listing::Starts;
 use crate::refusal::RewriteRefusal;
 use crate::rewritten::Rewritten;
+use crate::text_insn::TextInsn;
 use sb_abi::{AREA_ADDRESS, AREA_PAGES, TEXT_ADDRESS};
 use sb_forms::{Code, Form, jump_code};
 use sb_memory::PAGE_SIZE;

@@ -5,9 +5,9 @@ ghost use Rattle.std.specs.List.Sorted.{IsStrictlyIncreasing};
 ghost use Rattle.sb_rewrite.specs.Target.{InTrampoline, IsBadTarget};
 ghost use Rattle.sb_rewrite.specs.Turns.{is_in_text, Remembers, ChecksJumps};
 
-use crate::text_insn::TextInsn;
 use crate::listing::Listing;
 use crate::refusal::RewriteRefusal;
+use crate::text_insn::TextInsn;
 use sb_abi::{TEXT_ADDRESS, TRAMPOLINE_ADDRESS, WINDOW_PAGES};
 use sb_memory::PAGE_SIZE;
 
@@ -49,7 +49,10 @@ fn is_in_text(address: u64) -> bool
 /// # Errors
 ///
 /// `BadTarget` where one leads neither there nor into the trampoline page.
-pub(crate) fn remember_jump(jumps: &mut Vec<Jump>, text_insn: &TextInsn) -> Result<(), RewriteRefusal>
+pub(crate) fn remember_jump(
+    jumps: &mut Vec<Jump>,
+    text_insn: &TextInsn,
+) -> Result<(), RewriteRefusal>
     ensures { Remembers jumps.old.items jumps.new.items text_insn.now result }
 {
     let Some(target) = text_insn.insn.direct_target(text_insn.at) else {
