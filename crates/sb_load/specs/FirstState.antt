@@ -1,7 +1,6 @@
 -- The state that a loaded bundle starts.
-use Rattle.std.specs.Prelude.{◌-◌, ◌≤◌, length, List, [], ◌∷◌, map}
-use Rattle.sb_abi.specs.declared.space.TheConstants.{MAX_THREADS}
-use Rattle.sb_state.specs.State.{State}
+use Rattle.std.specs.Prelude.{◌-◌, List, [], ◌∷◌, map}
+use Rattle.sb_state.specs.State.{State, HasFewThreads}
 use Rattle.sb_state.specs.Start.{ProcessImage, ThreadEntry, start_state}
 use Rattle.sb_bundle.specs.declared.bundle.Image.{Image}
 use Rattle.sb_bundle.specs.declared.bundle.CoreStart.{CoreStart}
@@ -35,10 +34,6 @@ first_state load =
 
 -- ---- its threads
 
--- the state has no more threads than the page tables serve
-abbrev pub HasFewThreads : State → Type 0
-HasFewThreads state = length state.threads ≤ MAX_THREADS
-
--- each bundle that may be loaded starts with so few
+-- each bundle that may be loaded starts with no more threads than the page tables serve
 abbrev pub StartsHaveFewThreads : Type 0
 StartsHaveFewThreads = (load : Load) → IsLoadable load → HasFewThreads (first_state load)

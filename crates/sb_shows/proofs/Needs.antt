@@ -4,7 +4,6 @@ use Rattle.std.specs.Prelude.{Option, Some, None, slice_get, if◌then◌else◌
 use Rattle.std.specs.Option.{option_and_then}
 use Rattle.std.proofs.lemmas.Bool.{ne_eqb}
 use Rattle.std.proofs.lemmas.Option.{slice_get_within}
-use Rattle.sb_abi.specs.declared.space.TheConstants.{MAX_THREADS}
 use Rattle.sb_memory.specs.Physical.{Physical}
 use Rattle.sb_memory.specs.Reading.{with_bytes}
 use Rattle.sb_memory.specs.Words.{put_word}
@@ -12,7 +11,7 @@ use Rattle.sb_state.specs.declared.page.PageName.TheVariants.{Heap, Pool}
 use Rattle.sb_state.specs.declared.state.Binding.{Binding}
 use Rattle.sb_state.specs.declared.state.Thread.{Thread}
 use Rattle.sb_trace.specs.PageName.{mode_of}
-use Rattle.sb_trace.specs.State.{State, Process, process_at, registration_at}
+use Rattle.sb_trace.specs.State.{State, HasFewThreads, Process, process_at, registration_at}
 use Rattle.sb_trace.specs.Start.{pages_from}
 use Rattle.sb_trace.specs.KernelCall.{handler_in}
 use Rattle.sb_trace.specs.Windows.{process_shown, process_of_view, server_of}
@@ -98,7 +97,7 @@ unshown state number index thread there away fresh =
 -- bind of a thread of a sound state of few threads, where the view is there
 pub sound_bound_keeps : (placement : Placement) (state : State) (memory new : Physical) (number : ℕ) (thread : Thread)
     (binding : Binding)
-    → IsSound state → length state.threads ≤ MAX_THREADS
+    → IsSound state → HasFewThreads state
     → (there : slice_get state.threads number ≡ Some thread) (away : binding.index ≢ 0)
     (fresh : server_of thread.bindings binding.index ≡ None)
     → Keeps placement

@@ -1,5 +1,6 @@
 -- The state of the plain machine: pages by name, processes, threads, and what is left to be given out.
-use Rattle.std.specs.Prelude.{ℕ, ◌==◌, ◌||◌, Bool, false, List, [], ◌∷◌, Option, Some, None, replicate, slice_get, slice_set, unwrap_or, if◌then◌else◌}
+use Rattle.std.specs.Prelude.{ℕ, ◌≤◌, ◌==◌, ◌||◌, Bool, false, List, [], ◌∷◌, length, Option, Some, None, replicate, slice_get, slice_set, unwrap_or, if◌then◌else◌}
+use Rattle.sb_abi.specs.declared.space.TheConstants.{MAX_THREADS}
 use Rattle.sb_insn.specs.declared.registers.Regs.{Regs}
 use Rattle.sb_state.specs.declared.end_kind.EndKind.{EndKind}
 use Rattle.sb_state.specs.declared.end_kind.EndKind.TheVariants.{Ended}
@@ -68,6 +69,10 @@ unfoldable pub with_contents : State → PageName → List ℕ → State
 with_contents state name bytes = record state { pages = with_page_bytes state.pages name bytes }
 
 -- ---- threads by number
+
+-- the state has no more threads than the page tables serve
+abbrev pub HasFewThreads : State → Type 0
+HasFewThreads state = length state.threads ≤ MAX_THREADS
 
 -- in place of a thread that is not there: one that has ended
 unfoldable pub no_thread : Thread

@@ -4,12 +4,11 @@ use Rattle.std.specs.Prelude.{Option, Some, None, if◌then◌else◌, slice_get
 use Rattle.std.proofs.lemmas.Bool.{eqb-true, eqb-false}
 use Rattle.std.proofs.lemmas.List.{length-set}
 use Rattle.std.proofs.lemmas.Option.{slice_get_within}
-use Rattle.sb_abi.specs.declared.space.TheConstants.{MAX_THREADS}
 use Rattle.sb_state.specs.declared.page.PageName.{PageName}
 use Rattle.sb_state.specs.declared.page.PageName.TheVariants.{Pool, ServerStack}
 use Rattle.sb_state.specs.declared.state.Registration.{Registration}
 use Rattle.sb_trace.specs.PageWords.{with_word}
-use Rattle.sb_trace.specs.State.{State, Process, with_contents, process_at, registration_of, registration_at}
+use Rattle.sb_trace.specs.State.{State, HasFewThreads, Process, with_contents, process_at, registration_of, registration_at}
 use Rattle.sb_trace.specs.Start.{pages_from}
 use Rattle.sb_trace.specs.SyscallRegister.{server_stack_page, with_registration, with_server}
 use Rattle.sb_trace.specs.SyscallProtect.{heap_count}
@@ -25,7 +24,7 @@ use Rattle.sb_trace.proofs.TablePages.{or_false, grown_table}
 use Rattle.sb_shows.proofs.Needs as needs
 use Rattle.sb_sub.specs.StandsFor.{IsServable}
 
-pub sound_servable : (state : State) → IsSound state → length state.threads ≤ MAX_THREADS → IsServable state
+pub sound_servable : (state : State) → IsSound state → HasFewThreads state → IsServable state
 sound_servable state sound few = record {
   table = sound.table;
   heaps = λ process. needs.heap_few state process sound;

@@ -1,6 +1,5 @@
 -- What is stood for is shown.
 use Rattle.std.specs.Prelude.{ℕ, ◌≡◌, ◌+◌, slice_get, slice_set, ◌*◌, ◌<◌, ◌≤◌, false, [], ◌∷◌, ◌++◌, length, None, Some}
-use Rattle.sb_abi.specs.declared.space.TheConstants.{MAX_THREADS}
 use Rattle.sb_memory.specs.Physical.{Physical}
 use Rattle.sb_frames.specs.Book.{Book, free_count}
 use Rattle.sb_root.specs.declared.root_kernel.RootKernel.{RootKernel}
@@ -9,7 +8,7 @@ use Rattle.sb_state.specs.declared.page.Page.{Page}
 use Rattle.sb_state.specs.declared.page.PageName.{PageName}
 use Rattle.sb_state.specs.declared.page.PageName.TheVariants.{Pool, ServerStack}
 use Rattle.sb_trace.specs.PageName.{mode_of}
-use Rattle.sb_trace.specs.State.{State, Process, find_page, process_at, page_with}
+use Rattle.sb_trace.specs.State.{State, HasFewThreads, Process, find_page, process_at, page_with}
 use Rattle.sb_shows.specs.Calls.{IsNewPage, placed_with}
 use Rattle.sb_shows.specs.Placement.{Placement}
 use Rattle.sb_shows.specs.Windows.{page_number}
@@ -65,7 +64,7 @@ RegistersCarried = (placement : Placement) (root : RootKernel) (book : Book) (me
 
 -- A sound state of few threads is servable.
 abbrev pub SoundStatesServable : Type 0
-SoundStatesServable = (state : State) → IsSound state → length state.threads ≤ MAX_THREADS → IsServable state
+SoundStatesServable = (state : State) → IsSound state → HasFewThreads state → IsServable state
 
 -- Register of a process that is no server keeps a state servable, with the same images.
 abbrev pub ServersServable : Type 0

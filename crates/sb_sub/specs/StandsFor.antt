@@ -1,12 +1,11 @@
 -- When what a Subkernel, its root kernel, the frame book and physical memory hold stands for a state of plain memory.
 use Rattle.std.specs.Prelude.{ℕ, ◌≡◌, ◌≤◌, length, map, slice_get, Some}
-use Rattle.sb_abi.specs.declared.space.TheConstants.{MAX_THREADS}
 use Rattle.sb_memory.specs.Physical.{Physical}
 use Rattle.sb_frames.specs.Book.{Book, free_count}
 use Rattle.sb_root.specs.declared.root_kernel.RootKernel.{RootKernel}
 use Rattle.sb_root.specs.Standing.{IsBooked}
 use Rattle.sb_root.specs.Calls.{IsFree}
-use Rattle.sb_trace.specs.State.{State, process_at}
+use Rattle.sb_trace.specs.State.{State, HasFewThreads, process_at}
 use Rattle.sb_trace.specs.SyscallProtect.{heap_count}
 use Rattle.sb_trace.specs.Table.{ArePagesOfTable}
 use Rattle.sb_shows.specs.Placement.{Placement, Unused}
@@ -18,7 +17,7 @@ use Rattle.sb_sub.specs.Kernel.{Entry, Kernel, process_of, seat_of}
 pub record IsServable (state : State) : Type 0 where
   pub table : ArePagesOfTable state
   pub heaps : (process : ℕ) → heap_count (process_at state process) ≤ 512
-  pub few : length state.threads ≤ MAX_THREADS
+  pub few : HasFewThreads state
   pub places : length state.flights ≡ length state.threads
 
 -- The bytes keep the state by a placement whose tables are those of the kernels; each field that a call looks at is the same;
