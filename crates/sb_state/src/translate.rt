@@ -3,7 +3,6 @@
 ghost use Rattle.std.specs.Prelude.{◌≡◌, Some, IfOk, length};
 ghost use Rattle.sb_state.specs.State.{find_page};
 ghost use Rattle.sb_state.specs.Windows.{page_by_name};
-ghost use Rattle.sb_state.specs.PlainMemory.{is_canonical};
 ghost use Rattle.sb_state.specs.Reach.{reached, reached_as, name_only};
 
 use crate::address_space::{mode_of, name_at, permits};
@@ -12,13 +11,6 @@ use crate::pages::Pages;
 use crate::plain_state::PlainState;
 use sb_bus::{BusStop, FaultKind};
 use sb_memory::{Access, Linear};
-
-/// Whether bits 63 to 47 of an address are equal (SDM volume 1, section 3.3.7.1).
-fn is_canonical(at: Linear) -> bool
-    ensures { result ≡ is_canonical at.0 }
-{
-    at.0 < 1 << 47 || at.0 >= !0 << 47
-}
 
 /// The page of a name, if an access to it is permitted.
 fn reach_named(
@@ -50,7 +42,7 @@ pub fn reach(
     ensures page { IfOk result (λ found. find_page state.now.pages found.0 ≡ Some found.1.now) }
     ensures size { IfOk result (λ found. length found.1.now.bytes ≡ 4096) }
 {
-    if !is_canonical(at) {
+    if !at.is_canonical() {
         return Err(BusStop::Fault(FaultKind::Canon, at));
     }
     match name_at(&state.threads, thread, view, at.0 / 4096) {
