@@ -8,7 +8,7 @@ use Rattle.sb_bus.specs.declared.stop.BusStop.{BusStop}
 use Rattle.sb_exec.specs.declared.action.Effect.{Effect}
 use Rattle.sb_exec.specs.declared.action.Store.{Store}
 use Rattle.sb_exec.specs.declared.action.Store.TheVariants as store
-use Rattle.sb_exec.specs.declared.action.After.{After}
+use Rattle.sb_exec.specs.declared.action.RowResult.{RowResult}
 use Rattle.sb_exec.specs.declared.action.Load.{Load}
 use Rattle.sb_exec.specs.declared.action.Load.TheVariants as load
 use Rattle.sb_memory.specs.declared.address.Access.TheVariants.{Read, Write}
@@ -27,7 +27,7 @@ use Rattle.sb_exec.proofs.Simulation.{effect_told}
 
 -- ---- the same accesses
 
-store_same : (place : Store) (after other : ℕ → After) → ((loaded : ℕ) → (other loaded).stored ≡ (after loaded).stored)
+store_same : (place : Store) (after other : ℕ → RowResult) → ((loaded : ℕ) → (other loaded).stored ≡ (after loaded).stored)
     → store_accesses place other ≡ store_accesses place after
 store_same store.Nothing after other same = refl
 store_same (store.At address size) after other same =
@@ -176,7 +176,7 @@ last_stopped naming (Err stop) two first first' second second' account other loa
 store_stopped : {M A N B : Type 0} (left : Interface M A) (right : Interface N B) (Holds : Words → M → N → Type 0) (IsOutside : ℕ
     → ℕ → Type 0) (naming : BusStop → BusStop)
     → AreBeside left right Holds IsOutside naming
-    → (place : Store) (after : ℕ → After) (words : Words) (first : M) (second : N) (account : A) (other : B) (loaded loaded' : ℕ)
+    → (place : Store) (after : ℕ → RowResult) (words : Words) (first : M) (second : N) (account : A) (other : B) (loaded loaded' : ℕ)
     → Holds words first second
     → StopsAlike naming first second (run left (store_accesses place after) first account loaded)
     (run right (store_accesses place after) second other loaded')
@@ -209,7 +209,7 @@ first_stopped naming next next' (Err stop) (Err stop') first second account othe
 row_stopped : {M A N B : Type 0} (left : Interface M A) (right : Interface N B) (Holds : Words → M → N → Type 0) (IsOutside : ℕ
     → ℕ → Type 0) (naming : BusStop → BusStop)
     → AreBeside left right Holds IsOutside naming
-    → (loads : Load) (place : Store) (after : ℕ → After) (words : Words) (first : M) (second : N) (account : A) (other : B)
+    → (loads : Load) (place : Store) (after : ℕ → RowResult) (words : Words) (first : M) (second : N) (account : A) (other : B)
     → Holds words first second
     → StopsAlike naming first second (run left (load_accesses loads ++ store_accesses place after) first account 0)
     (run right (load_accesses loads ++ store_accesses place after) second other 0)
