@@ -8,19 +8,19 @@ ghost use Rattle.sb_abi.specs.Numbers.{status_number};
 ghost use Rattle.sb_state.specs.State.{thread_at};
 ghost use Rattle.sb_trace.specs.KernelCall.{binding_with, pool_word, refusal_regs, refusal_outcome, refusal_or_fault, return_outcome, entry_regs, lowest_bit, state_at_handler, entry_outcome, call_outcome, kernel_call};
 
-use crate::home::fault;
-use crate::pool::{handler_of, pool_word, set_pool_word};
+use crate::fault::fault;
+use crate::server::{handler_of, pool_word, set_pool_word};
 use sb_abi::{CallStatus, FIRST_STACK_TOP, RETURN_ADDRESS, STACK_DISTANCE};
 use sb_exec::FaultKind;
 use sb_insn::Regs;
 use sb_insn::registers::{R9, R10, RAX, RCX, RSI, RSP};
-use sb_state::{Binding, PlainState, eax, ecx, zero_result};
+use sb_state::{Binding, PlainState, eax, ecx, zero_flags};
 use sb_trace::Event;
 
 // ---- refusals and ways home
 
 #[tactic(auto, unfolding(sb_trace::specs::KernelCall::refusal_regs))]
-fn refused_regs(regs: &Regs, status: CallStatus) -> Regs
+fn refusal_regs(regs: &Regs, status: CallStatus) -> Regs
     ensures { result ≡ refusal_regs regs.now (status_number status) }
 {
     let mut general = regs.general;
@@ -31,7 +31,7 @@ fn refused_regs(regs: &Regs, status: CallStatus) -> Regs
     Regs {
         general,
         rip: RETURN_ADDRESS,
-        flags: zero_result(),
+        flags: zero_flags(),
     }
 }
 
@@ -39,13 +39,13 @@ fn refused_regs(regs: &Regs, status: CallStatus) -> Regs
 fn refuse(state: &mut PlainState, core: u8, line: Event, status: CallStatus) -> Event
     ensures { (result, state.new) ≡ refusal_outcome state.old core (thread_at state.old core) line (status_number status) }
 {
-    let regs = refused_regs(&state.thread(core).regs, status);
+    let regs = refusal_regs(&state.thread(core).regs, status);
     state.set_view(core, 0, regs);
     line
 }
 
 // No view is switched: in a server's view that is a fault at the VMFUNC.
-fn stay(state: &mut PlainState, core: u8, line: Event, status: CallStatus) -> Event
+fn refuse_or_fault(state: &mut PlainState, core: u8, line: Event, status: CallStatus) -> Event
     ensures { (result, state.new) ≡ refusal_or_fault state.old core (thread_at state.old core) line (status_number status) }
 {
     let thread = state.thread(core);
@@ -78,7 +78,7 @@ fn return_home(state: &mut PlainState, core: u8) -> Event
 // ---- entry
 
 #[tactic(auto, unfolding(sb_trace::specs::KernelCall::entry_regs))]
-fn entered_regs(regs: &Regs, stack: u32, handler: u64) -> Regs
+fn entry_regs(regs: &Regs, stack: u32, handler: u64) -> Regs
     requires { stack < 64 }
     ensures { result ≡ entry_regs regs.now stack handler }
 {
@@ -90,7 +90,7 @@ fn entered_regs(regs: &Regs, stack: u32, handler: u64) -> Regs
     Regs {
         general,
         rip: handler,
-        flags: zero_result(),
+        flags: zero_flags(),
     }
 }
 
@@ -113,7 +113,7 @@ fn enter(state: &mut PlainState, core: u8, binding: Binding, word: u64) -> Event
 {
     let stack = lowest_bit(word);
     let handler = handler_of(state, binding.server);
-    let regs = entered_regs(&state.thread(core).regs, stack, handler);
+    let regs = entry_regs(&state.thread(core).regs, stack, handler);
     set_pool_word(state, binding.server, word - (1 << stack));
     state.set_view(core, binding.index, regs);
     Event::Entered {
@@ -147,7 +147,7 @@ fn call_through(state: &mut PlainState, core: u8, index: u32) -> Event
     let thread = state.thread(core);
     let key = thread.regs.general[RSI];
     match thread.bindings.find(index) {
-        None => stay(state, core, Event::Unbound { index }, CallStatus::Unbound),
+        None => refuse_or_fault(state, core, Event::Unbound { index }, CallStatus::Unbound),
         Some(binding) if key == binding.key => take_stack(state, core, binding),
         Some(binding) => {
             let index = u32::from(binding.index);
@@ -164,7 +164,7 @@ pub fn kernel_call(state: &mut PlainState, core: u8) -> Event
     let regs = state.thread(core).regs;
     let (leaf, index) = (eax(&regs), ecx(&regs));
     if leaf != 0 {
-        stay(state, core, Event::BadLeaf { index }, CallStatus::BadLeaf)
+        refuse_or_fault(state, core, Event::BadLeaf { index }, CallStatus::BadLeaf)
     } else if index == 0 {
         return_home(state, core)
     } else {

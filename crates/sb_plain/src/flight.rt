@@ -8,7 +8,7 @@ ghost use Rattle.sb_state.specs.State.{thread_at};
 ghost use Rattle.sb_trace.specs.Flight.{is_key, bound_pool, with_mask, decided_at, phase_after, next_flight, phase_outcome, landing_step, called_binding, vmfunc_outcome};
 
 use crate::call::kernel_call;
-use crate::pool::pool_word;
+use crate::server::pool_word;
 use sb_insn::registers::RSI;
 use sb_state::{Binding, Decision, Flight, PlainState, Thread, eax, ecx};
 use sb_trace::{Event, VMFUNC_PHASE};
@@ -82,7 +82,12 @@ fn next_flight(flight: Flight) -> Option<Flight>
 }
 
 // A phase that decides the call does the kernel's call; each other one lands.
-fn phase_step(state: &mut PlainState, core: u8, flight: Flight, decided: Option<Decision>) -> Event
+fn phase_outcome(
+    state: &mut PlainState,
+    core: u8,
+    flight: Flight,
+    decided: Option<Decision>,
+) -> Event
     ensures { (result, state.new) ≡ phase_outcome state.old core flight decided }
 {
     if decided.is_none() {
@@ -106,7 +111,7 @@ pub fn landing_step(state: &mut PlainState, core: u8, flight: Flight) -> Event
     let binding = thread.bindings.find(u32::from(flight.index));
     let pool = bound_pool(state, binding);
     let decided = decided_at(flight.phase, is_key(binding, key), pool, flight.mask);
-    phase_step(state, core, with_mask(pool, flight), decided)
+    phase_outcome(state, core, with_mask(pool, flight), decided)
 }
 
 // ---- the VMFUNC

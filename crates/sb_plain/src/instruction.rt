@@ -11,14 +11,14 @@ ghost use Rattle.sb_plain.specs.Faults.{IsFault};
 use sb_exec::{BusStop, Effect, execute, fetch_insn, first_insn};
 use sb_insn::{Insn, Regs};
 use sb_memory::{Access, Linear};
-use sb_state::{PlainBus, PlainState, reach};
+use sb_state::{PlainBus, PlainState, page_for_access};
 
 /// The instruction at an address, in a view of a thread, where it ends in the page in which it begins.
 fn fetch_in_page(state: &PlainState, thread: u32, view: u32, rip: u64) -> Option<Insn>
     ensures fetched { IfSome result (λ insn. FetchesOn (plain thread view) state.now rip tt tt (Ok insn)) }
     ensures valid { IfSome result IsValid }
 {
-    match reach(state, thread, view, Linear(rip), Access::Fetch) {
+    match page_for_access(state, thread, view, Linear(rip), Access::Fetch) {
         Ok((_, page)) => {
             let (_, rest) = page.bytes.items().split_at((rip % 4096) as usize);
             first_insn(rest)

@@ -9,11 +9,11 @@ ghost use Rattle.sb_trace.specs.OneStep.{StepsAlike};
 ghost use Rattle.sb_trace.specs.Changes.{StepChanges};
 ghost use Rattle.sb_trace.specs.Laws.{HasOneSwitch};
 ghost use Rattle.sb_trace.specs.Sound.{IsSound};
-ghost use Rattle.sb_plain.specs.Declined.{IsDeclined, LeavesAll};
+ghost use Rattle.sb_plain.specs.RefusedCall.{IsRefusedCall, LeavesAll};
 ghost use Rattle.sb_plain.specs.Faults.{IsFault};
 
+use crate::fault::fault;
 use crate::flight::{landing_step, vmfunc};
-use crate::home::fault;
 use crate::instruction::{fetch_next, perform};
 use crate::plain::Plain;
 use crate::system_call::system_call;
@@ -98,7 +98,7 @@ impl Plain {
         ensures step { Steps self.old core result.event self.new }
         ensures count { length self.new.threads ≡ length self.old.threads }
         ensures at_once { IsSound self.old → StepsAlike self.old core result.event self.new }
-        ensures declined { IsDeclined result.event → LeavesAll self.old self.new core }
+        ensures refused { IsRefusedCall result.event → LeavesAll self.old self.new core }
         ensures changes { StepChanges self.old core result.event self.new }
         ensures one_switch { IsSound self.old → HasOneSwitch self.new }
         ensures sound { IsSound self.old → IsSound self.new }

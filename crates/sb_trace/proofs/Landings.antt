@@ -30,7 +30,7 @@ use Rattle.sb_state.specs.declared.state.Thread.{Thread}
 use Rattle.sb_state.specs.State.{State, contents, with_contents, thread_at, no_thread, with_regs, with_end, with_view, flight_at, with_flight, process_at, registration_at}
 use Rattle.sb_state.specs.PageWords.{with_word}
 use Rattle.sb_state.specs.Windows.{process_shown, process_of_view, page_for, process_now}
-use Rattle.sb_state.specs.PlainMemory.{Placed, bytes_to_put, placed_at, put_byte, put_all, plain, plain_byte, plain_stored}
+use Rattle.sb_state.specs.PlainMemory.{ByteToPut, bytes_to_put, with_byte_to_put, put_byte, put_all, plain, plain_byte, plain_stored}
 use Rattle.sb_state.specs.Registers.{rax, rsi, rdi, eax, ecx}
 use Rattle.sb_trace.specs.Home.{Outcome, fault_outcome}
 use Rattle.sb_abi.specs.declared.call.CallRefusal.{CallRefusal}
@@ -184,10 +184,11 @@ placed_mapped : (state : State) (thread view address size value : ℕ)
 unfolding bytes_to_put page_for
 placed_mapped state thread view address zero value = refl
 placed_mapped state thread view address (suc count) value =
-    ap (placed_at (page_for state thread view (address / 4096)) address (value % 256))
+    ap (with_byte_to_put (page_for state thread view (address / 4096)) address (value % 256))
     (placed_mapped state thread view ((address + 1) % 2 ^ 64) count (value / 256))
 
-put_mapped : (state : State) (bytes : List Placed) → put_all (without_flights state) bytes ≡ without_flights (put_all state bytes)
+put_mapped : (state : State) (bytes : List ByteToPut)
+    → put_all (without_flights state) bytes ≡ without_flights (put_all state bytes)
 unfolding put_byte with_contents contents
 put_mapped state [] = refl
 put_mapped state (byte ∷ bytes) = put_mapped (put_byte state byte.name byte.offset byte.value) bytes

@@ -8,8 +8,8 @@ ghost use Rattle.sb_state.specs.Store.{added};
 ghost use Rattle.sb_state.specs.Registers.{rdi};
 ghost use Rattle.sb_trace.specs.SyscallBind.{refusal_of_bind, buffer_page, binding_pages, first_key, new_binding, with_binding, bind_outcome};
 
-use super::decline;
-use crate::pool::{handler_of, registration_of};
+use super::refuse;
+use crate::server::{handler_of, registration_at};
 use sb_abi::{BIND_FRAMES, CallRefusal};
 use sb_calls::{bind_refusal, regs_after_bind, server_record};
 use sb_insn::Regs;
@@ -22,13 +22,13 @@ use sb_tramp::RecordWords;
 
 // Why the thread does not get a view of a process.
 #[tactic(auto, unfolding(sb_calls::specs::Refusals::bind_refusal))]
-fn refusal_of(state: &PlainState, thread: &Thread, server: u64) -> Option<CallRefusal>
+fn refusal_of_bind(state: &PlainState, thread: &Thread, server: u64) -> Option<CallRefusal>
     ensures refusal { result ≡ refusal_of_bind state.now thread.now server }
     ensures number { result ≡ None → server < 2 ^ 32 }
     ensures bindings { result ≡ None → length thread.now.bindings < 15 }
     ensures frames { result ≡ None → 10 ≤ state.now.free }
 {
-    let registered = registration_of(state, server as usize).is_some();
+    let registered = registration_at(state, server as usize).is_some();
     bind_refusal(
         thread.view,
         thread.home,
@@ -108,8 +108,8 @@ pub fn bind(state: &mut PlainState, core: u8, next: &Regs) -> Event
     ensures { (result, state.new) ≡ bind_outcome state.old core (thread_at state.old core) next.now (refusal_of_bind state.old (thread_at state.old core) (rdi next.now)) }
 {
     let server = next.general[RDI];
-    if let Some(refusal) = refusal_of(state, state.thread(core), server) {
-        return decline(state, core, next, refusal, 0);
+    if let Some(refusal) = refusal_of_bind(state, state.thread(core), server) {
+        return refuse(state, core, next, refusal, 0);
     }
     let binding = make_binding(state, core, server as u32);
     let regs = regs_after_bind(next, core, binding.index, binding.key);

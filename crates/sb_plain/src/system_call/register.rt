@@ -8,8 +8,8 @@ ghost use Rattle.sb_state.specs.Start.{pages_from};
 ghost use Rattle.sb_trace.specs.SyscallRegister.{is_start, refusal_of_register, server_stack_page, with_registration, with_server, register_outcome};
 ghost use Rattle.sb_state.specs.Store.{added};
 
-use super::{accept, decline};
-use crate::pool::{registration_of, set_pool_word};
+use super::{accept, refuse};
+use crate::server::{registration_at, set_pool_word};
 use sb_abi::{CallRefusal, EXIT_STUB, STACK_PAGES, TOP_WORD};
 use sb_calls::register_refusal;
 use sb_insn::Regs;
@@ -33,7 +33,7 @@ fn is_start(state: &PlainState, process: u32, address: u64) -> bool
 }
 
 // Why the process that a view shows does not become a server.
-fn refusal_of(
+fn refusal_of_register(
     state: &PlainState,
     view: u16,
     process: u32,
@@ -44,7 +44,7 @@ fn refusal_of(
     ensures stacks { result ≡ None → stacks ≤ 16 }
     ensures frames { result ≡ None → 4 * stacks ≤ state.now.free }
 {
-    let registered = registration_of(state, process as usize).is_some();
+    let registered = registration_at(state, process as usize).is_some();
     let start = is_start(state, process, handler);
     register_refusal(view, registered, start, stacks, state.free)
 }
@@ -119,8 +119,8 @@ pub fn register(state: &mut PlainState, core: u8, next: &Regs) -> Event
     let thread = state.thread(core);
     let (view, process) = (thread.view, process_now(thread));
     let (handler, stacks) = (next.general[RDI], next.general[RSI]);
-    if let Some(refusal) = refusal_of(state, view, process, handler, stacks) {
-        return decline(state, core, next, refusal, 0);
+    if let Some(refusal) = refusal_of_register(state, view, process, handler, stacks) {
+        return refuse(state, core, next, refusal, 0);
     }
     make_server(state, process, handler, stacks as u32);
     accept(state, core, next)

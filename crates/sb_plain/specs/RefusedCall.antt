@@ -6,9 +6,9 @@ use Rattle.sb_trace.specs.declared.event.Event.TheVariants.{Sys}
 use Rattle.sb_state.specs.State.{State, thread_at, with_regs}
 
 -- the line of a refused call: its answer is not 0
-abbrev pub IsDeclined : Event → Type 0
-IsDeclined (Sys number answer) = answer ≢ 0
-IsDeclined _ = ⊥
+abbrev pub IsRefusedCall : Event → Type 0
+IsRefusedCall (Sys number answer) = answer ≢ 0
+IsRefusedCall _ = ⊥
 
 -- the registers are as before, but for RIP, RAX, RCX, RDX and R11
 pub record KeepsOthers (before after : Regs) : Type 0 where
