@@ -155,7 +155,7 @@ permits_lock : (operand : ModRmOpcode) (lock : Bool) (rex : Option ℕ) (modrm :
 unfolding modrm_opcode_permits
 permits_lock operand lock rex modrm e = grind arith
 
--- an operand without LOCK modrm_opcode_permits none
+-- an operand without LOCK permits none
 never_locks : (operand : Option ModRmOpcode) (rex : Option ℕ) (modrm : ℕ) → some_holds (λ row. not row.lock) operand ≡ true
     → some_permits operand true rex modrm ≡ true → ⊥
 never_locks None rex modrm never e = cc

@@ -12,7 +12,7 @@ use Rattle.sb_walks.specs.declared.stop.WalkStop.TheVariants as stop
 use Rattle.sb_walks.specs.Entry.{is_present, is_writable, is_user, maps_large_page, is_execute_disabled, frame_in, entry_place, four_levels}
 use Rattle.sb_walks.specs.Reads.{where_ok}
 
--- whether an entry guest_permits an access in user mode
+-- whether an entry permits an access in user mode
 abbrev pub guest_permits : Access → ℕ → Bool
 guest_permits Read entry = is_user entry
 guest_permits Write entry = is_user entry && is_writable entry
