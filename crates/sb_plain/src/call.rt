@@ -35,7 +35,7 @@ fn refusal_regs(regs: &Regs, status: CallStatus) -> Regs
     }
 }
 
-// A refused call, with its line: the thread is in its home view.
+/// A refused call, with its line: the thread is in its home view.
 fn refuse(state: &mut PlainState, core: u8, line: Event, status: CallStatus) -> Event
     ensures { (result, state.new) ≡ refusal_outcome state.old core (thread_at state.old core) line (status_number status) }
 {
@@ -44,7 +44,7 @@ fn refuse(state: &mut PlainState, core: u8, line: Event, status: CallStatus) -> 
     line
 }
 
-// No view is switched: in a server's view that is a fault at the VMFUNC.
+/// No view is switched: in a server's view that is a fault at the VMFUNC.
 fn refuse_or_fault(state: &mut PlainState, core: u8, line: Event, status: CallStatus) -> Event
     ensures { (result, state.new) ≡ refusal_or_fault state.old core (thread_at state.old core) line (status_number status) }
 {
@@ -57,7 +57,7 @@ fn refuse_or_fault(state: &mut PlainState, core: u8, line: Event, status: CallSt
     }
 }
 
-// Index 0 leads home.
+/// Index 0 leads home.
 fn return_home(state: &mut PlainState, core: u8) -> Event
     ensures { (result, state.new) ≡ return_outcome state.old core (thread_at state.old core) }
 {
@@ -94,7 +94,7 @@ fn entry_regs(regs: &Regs, stack: u32, handler: u64) -> Regs
     }
 }
 
-// The number of the lowest bit that is set.
+/// The number of the lowest bit that is set.
 #[tactic(auto, using(crate::proofs::Bits::lowest_value))]
 fn lowest_bit(word: u64) -> u32
     requires { 0 < word }
@@ -105,7 +105,7 @@ fn lowest_bit(word: u64) -> u32
     word.trailing_zeros()
 }
 
-// The server's lowest free stack, by its pool word, is taken, and the thread stands at the handler.
+/// The server's lowest free stack, by its pool word, is taken, and the thread stands at the handler.
 fn enter(state: &mut PlainState, core: u8, binding: Binding, word: u64) -> Event
     requires { 0 < word }
     ensures line { result ≡ Entered binding.index (lowest_bit word) }
@@ -122,7 +122,7 @@ fn enter(state: &mut PlainState, core: u8, binding: Binding, word: u64) -> Event
     }
 }
 
-// A call with the key: it enters where a server stack is free.
+/// A call with the key: it enters where a server stack is free.
 fn take_stack(state: &mut PlainState, core: u8, binding: Binding) -> Event
     ensures { (result, state.new) ≡ entry_outcome state.old core (thread_at state.old core) binding (pool_word state.old binding.server) }
 {
@@ -140,7 +140,7 @@ fn take_stack(state: &mut PlainState, core: u8, binding: Binding) -> Event
 
 // ---- the call
 
-// A call through the binding of an index, if there is one.
+/// A call through the binding of an index, if there is one.
 fn call_through(state: &mut PlainState, core: u8, index: u32) -> Event
     ensures { (result, state.new) ≡ call_outcome state.old core (thread_at state.old core) index (binding_with (thread_at state.old core).bindings index) }
 {

@@ -24,7 +24,7 @@ fn is_key(binding: Option<Binding>, word: u64) -> bool
     }
 }
 
-// The pool word of the binding's server.
+/// The pool word of the binding's server.
 fn bound_pool(state: &PlainState, binding: Option<Binding>) -> u64
     ensures { result ≡ bound_pool state.now binding }
 {
@@ -36,7 +36,7 @@ fn bound_pool(state: &PlainState, binding: Option<Binding>) -> u64
 
 // ---- a phase
 
-// Phase 2 loads the mask.
+/// Phase 2 loads the mask.
 fn with_mask(pool: u64, flight: Flight) -> Flight
     ensures { result ≡ with_mask pool flight }
 {
@@ -44,8 +44,8 @@ fn with_mask(pool: u64, flight: Flight) -> Flight
     Flight { mask, ..flight }
 }
 
-// Whether this phase decides the call, and how: phase 0 compares the key, phase 2 tests the mask that it loads, and
-// phase 8 takes a stack where the pool word is still the mask.
+/// Whether this phase decides the call, and how: phase 0 compares the key, phase 2 tests the mask that it loads, and
+/// phase 8 takes a stack where the pool word is still the mask.
 #[tactic(auto, unfolding(sb_trace::specs::Flight::decided_at))]
 fn decided_at(phase: u8, key_fits: bool, pool: u64, mask: u64) -> Option<Decision>
     ensures { result ≡ decided_at phase key_fits pool mask }
@@ -58,7 +58,7 @@ fn decided_at(phase: u8, key_fits: bool, pool: u64, mask: u64) -> Option<Decisio
     }
 }
 
-// The phase behind this one; `None` where the landing ends.
+/// The phase behind this one; `None` where the landing ends.
 #[tactic(auto, unfolding(sb_trace::specs::Flight::phase_after))]
 fn phase_after(phase: u8, decided: Option<Decision>, mask: u64) -> Option<u8>
     ensures { result ≡ phase_after phase decided mask }
@@ -73,7 +73,7 @@ fn phase_after(phase: u8, decided: Option<Decision>, mask: u64) -> Option<u8>
     }
 }
 
-// The flight behind its phase.
+/// The flight behind its phase.
 fn next_flight(flight: Flight) -> Option<Flight>
     ensures { result ≡ next_flight flight }
 {
@@ -81,7 +81,7 @@ fn next_flight(flight: Flight) -> Option<Flight>
     Some(Flight { phase, ..flight })
 }
 
-// A phase that decides the call does the kernel's call; each other one lands.
+/// A phase that decides the call does the kernel's call; each other one lands.
 fn phase_outcome(
     state: &mut PlainState,
     core: u8,
@@ -116,7 +116,7 @@ pub fn landing_step(state: &mut PlainState, core: u8, flight: Flight) -> Event
 
 // ---- the VMFUNC
 
-// The binding into which VMFUNC leads: leaf 0, and its index.
+/// The binding into which VMFUNC leads: leaf 0, and its index.
 fn called_binding(thread: &Thread) -> Option<Binding>
     ensures { result ≡ called_binding thread.now }
 {

@@ -22,7 +22,7 @@ use sb_insn::{Insn, Regs};
 use sb_state::{EndKind, PlainState};
 use sb_trace::{Event, Line};
 
-// A refused access is a fault.
+/// A refused access is a fault.
 fn stop_thread(state: &mut PlainState, core: u8, stop: BusStop) -> Event
     requires { IsFault stop }
     ensures { StopsWith state.old core stop (result, state.new) }
@@ -33,7 +33,7 @@ fn stop_thread(state: &mut PlainState, core: u8, stop: BusStop) -> Event
     }
 }
 
-// The instruction that was fetched, from these registers, in this view.
+/// The instruction that was fetched, from these registers, in this view.
 fn execute_next(state: &mut PlainState, core: u8, view: u16, insn: &Insn, regs: &Regs) -> Event
     requires { IsValid insn.now }
     ensures { Performs vmfunc_outcome state.old core view insn.now regs.now (result, state.new) }
@@ -52,7 +52,7 @@ fn execute_next(state: &mut PlainState, core: u8, view: u16, insn: &Insn, regs: 
     }
 }
 
-// The instruction at RIP of a thread with these registers in this view.
+/// The instruction at RIP of a thread with these registers in this view.
 fn run_from(state: &mut PlainState, core: u8, view: u16, regs: &Regs) -> Event
     ensures { RunsOn vmfunc_outcome state.old core view regs.now (result, state.new) }
 {
@@ -62,7 +62,7 @@ fn run_from(state: &mut PlainState, core: u8, view: u16, regs: &Regs) -> Event
     }
 }
 
-// The step of a thread that runs: its flight goes on, or it executes an instruction.
+/// The step of a thread that runs: its flight goes on, or it executes an instruction.
 fn go_on(state: &mut PlainState, core: u8) -> Event
     ensures { GoesOn state.old core (thread_at state.old core) (flight_at state.old core) (result, state.new) }
 {
@@ -74,7 +74,7 @@ fn go_on(state: &mut PlainState, core: u8) -> Event
     run_from(state, core, view, &regs)
 }
 
-// A step of a core: a thread that has ended is idle.
+/// A step of a core: a thread that has ended is idle.
 fn next_line(state: &mut PlainState, core: u8) -> Line
     ensures core { result.core ≡ core }
     ensures step { Steps state.old core result.event state.new }

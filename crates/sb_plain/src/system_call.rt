@@ -30,14 +30,14 @@ use sb_trace::Event;
 
 // ---- the ways in which a call ends
 
-// The thread goes on after SYSCALL, with an answer and a second value.
+/// The thread goes on after SYSCALL, with an answer and a second value.
 fn answer_call(state: &mut PlainState, core: u8, next: &Regs, answer: u64, second: u64)
     ensures { state.new ≡ state_after_call state.old core next.now answer second }
 {
     state.set_regs(core, regs_with_answer(next, answer, second));
 }
 
-// The call is refused, with a second value.
+/// The call is refused, with a second value.
 fn refuse(state: &mut PlainState, core: u8, next: &Regs, refusal: CallRefusal, second: u64) -> Event
     ensures { (result, state.new) ≡ syscall_refusal state.old core next.now refusal second }
 {
@@ -49,7 +49,7 @@ fn refuse(state: &mut PlainState, core: u8, next: &Regs, refusal: CallRefusal, s
     }
 }
 
-// The call did what it does, and has no second value.
+/// The call did what it does, and has no second value.
 fn accept(state: &mut PlainState, core: u8, next: &Regs) -> Event
     ensures { (result, state.new) ≡ syscall_acceptance state.old core next.now }
 {
@@ -62,7 +62,7 @@ fn accept(state: &mut PlainState, core: u8, next: &Regs) -> Event
 
 // ---- exit and print
 
-// At home the thread ends with a status; in a server's view it is sent home.
+/// At home the thread ends with a status; in a server's view it is sent home.
 fn exit(state: &mut PlainState, core: u8, next: &Regs) -> Event
     ensures { (result, state.new) ≡ exit_outcome state.old core next.now }
 {

@@ -20,7 +20,7 @@ use sb_tramp::RecordWords;
 
 // ---- refusals
 
-// Why the thread does not get a view of a process.
+/// Why the thread does not get a view of a process.
 #[tactic(auto, unfolding(sb_calls::specs::Refusals::bind_refusal))]
 fn refusal_of_bind(state: &PlainState, thread: &Thread, server: u64) -> Option<CallRefusal>
     ensures refusal { result ≡ refusal_of_bind state.now thread.now server }
@@ -42,7 +42,7 @@ fn refusal_of_bind(state: &PlainState, thread: &Thread, server: u64) -> Option<C
 
 // ---- the binding
 
-// The record page of a view.
+/// The record page of a view.
 #[tactic(auto, using(sb_state::proofs::Start::record_page))]
 fn add_record(pages: &mut Pages, thread: u32, index: u32, words: &RecordWords)
     requires { 0 < pages.old.room }
@@ -51,7 +51,7 @@ fn add_record(pages: &mut Pages, thread: u32, index: u32, words: &RecordWords)
     pages.add(PageName::Record(thread, index), 0, &words.in_order());
 }
 
-// The record page, the scratch page and the buffer of a view.
+/// The record page, the scratch page and the buffer of a view.
 #[tactic(auto, unfolding(sb_trace::specs::SyscallBind::binding_pages))]
 fn add_view(pages: &mut Pages, thread: u32, index: u32, words: &RecordWords)
     requires { 6 ≤ pages.old.room }
@@ -66,7 +66,7 @@ fn add_view(pages: &mut Pages, thread: u32, index: u32, words: &RecordWords)
     pages.add(PageName::Buffer(thread, index, 3), 0, &[]);
 }
 
-// The pages of a view are there, and its frames are taken.
+/// The pages of a view are there, and its frames are taken.
 fn take_view(state: &mut PlainState, thread: u8, index: u16, words: &RecordWords)
     requires { 10 ≤ state.old.free }
     ensures { state.new ≡ record state.old { pages = state.old.pages ++ binding_pages thread index words.now; free = state.old.free - 10 } }
@@ -75,7 +75,7 @@ fn take_view(state: &mut PlainState, thread: u8, index: u16, words: &RecordWords
     add_view(&mut state.pages, u32::from(thread), u32::from(index), words);
 }
 
-// The next key word, which is there.
+/// The next key word, which is there.
 fn draw_key(state: &mut PlainState) -> u64
     ensures key { result ≡ first_key state.old.keys }
     ensures left { state.new ≡ record state.old { keys = drop 1 state.old.keys } }
@@ -83,7 +83,7 @@ fn draw_key(state: &mut PlainState) -> u64
     state.keys.draw().unwrap_or(0)
 }
 
-// The thread has a view of a server more, with its pages and a key of its own.
+/// The thread has a view of a server more, with its pages and a key of its own.
 #[tactic(auto, unfolding(sb_trace::specs::SyscallBind::with_binding, sb_state::specs::State::thread_at, sb_state::specs::State::registration_at, sb_state::specs::State::process_at))]
 fn make_binding(state: &mut PlainState, core: u8, server: u32) -> Binding
     requires bindings { length (thread_at state.old core).bindings < 15 }

@@ -33,7 +33,7 @@ fn set_executable(state: &mut PlainState, process: u32, page: u32, executable: b
     state.pages.set_executable(name, executable);
 }
 
-// Executable only where the bytes of VMFUNC stand neither in the page nor across its borders with executable ones.
+/// Executable only where the bytes of VMFUNC stand neither in the page nor across its borders with executable ones.
 fn make_executable(state: &mut PlainState, core: u8, next: &Regs, process: u32, page: u32) -> Event
     requires { page + 1 < 2 ^ 32 }
     ensures { (result, state.new) ≡ execute_mode_outcome state.old core next.now process page (heap_pattern state.old process page) }

@@ -32,7 +32,7 @@ fn is_start(state: &PlainState, process: u32, address: u64) -> bool
     }
 }
 
-// Why the process that a view shows does not become a server.
+/// Why the process that a view shows does not become a server.
 fn refusal_of_register(
     state: &PlainState,
     view: u16,
@@ -51,7 +51,7 @@ fn refusal_of_register(
 
 // ---- the server
 
-// A page of a server stack. The last page of a stack has the address of the exit stub in its top word.
+/// A page of a server stack. The last page of a stack has the address of the exit stub in its top word.
 #[tactic(auto, unfolding(sb_trace::specs::SyscallRegister::stack_bytes))]
 fn add_stack_page(pages: &mut Pages, process: u32, page: u32)
     requires { 0 < pages.old.room }
@@ -74,7 +74,7 @@ fn add_stacks(pages: &mut Pages, process: u32, count: u32)
     }
 }
 
-// The stacks are there, and their frames are taken.
+/// The stacks are there, and their frames are taken.
 fn take_stacks(state: &mut PlainState, process: u32, pages: u32)
     requires { pages ≤ state.old.free }
     ensures { state.new ≡ record state.old { pages = state.old.pages ++ pages_from (server_stack_page process) 0 pages; free = state.old.free - pages } }
@@ -100,7 +100,7 @@ fn set_registration(state: &mut PlainState, process: u32, registration: Registra
     note_registration(&mut state.processes, process, registration);
 }
 
-// The process has so many stacks, all of them free.
+/// The process has so many stacks, all of them free.
 #[tactic(auto, unfolding(sb_trace::specs::SyscallRegister::with_server, sb_state::specs::State::process_at, sb_state::specs::PageWords::with_word, sb_state::specs::State::with_contents))]
 fn make_server(state: &mut PlainState, process: u32, handler: u64, stacks: u32)
     requires count { stacks ≤ 16 }
