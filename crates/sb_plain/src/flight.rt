@@ -5,7 +5,7 @@
 
 ghost use Rattle.std.specs.Prelude.{◌≡◌};
 ghost use Rattle.sb_state.specs.State.{thread_at};
-ghost use Rattle.sb_trace.specs.Flight.{is_key, bound_pool, with_mask, decided_at, phase_after, next_flight, phase_outcome, landing_step, called_binding, vmfunc_outcome};
+ghost use Rattle.sb_trace.specs.Flight.{is_key, bound_pool, with_mask, decision_at_phase, phase_after, next_flight, phase_outcome, landing_step, called_binding, vmfunc_outcome};
 
 use crate::call::kernel_call;
 use crate::server::pool_word;
@@ -46,9 +46,9 @@ fn with_mask(pool: u64, flight: Flight) -> Flight
 
 /// Whether this phase decides the call, and how: phase 0 compares the key, phase 2 tests the mask that it loads, and
 /// phase 8 takes a stack where the pool word is still the mask.
-#[tactic(auto, unfolding(sb_trace::specs::Flight::decided_at))]
-fn decided_at(phase: u8, key_fits: bool, pool: u64, mask: u64) -> Option<Decision>
-    ensures { result ≡ decided_at phase key_fits pool mask }
+#[tactic(auto, unfolding(sb_trace::specs::Flight::decision_at_phase))]
+fn decision_at_phase(phase: u8, key_fits: bool, pool: u64, mask: u64) -> Option<Decision>
+    ensures { result ≡ decision_at_phase phase key_fits pool mask }
 {
     match phase {
         0 if !key_fits => Some(Decision::WrongKey),
@@ -110,7 +110,7 @@ pub fn landing_step(state: &mut PlainState, core: u8, flight: Flight) -> Event
     let key = thread.regs.general[RSI];
     let binding = thread.bindings.find(u32::from(flight.index));
     let pool = bound_pool(state, binding);
-    let decided = decided_at(flight.phase, is_key(binding, key), pool, flight.mask);
+    let decided = decision_at_phase(flight.phase, is_key(binding, key), pool, flight.mask);
     phase_outcome(state, core, with_mask(pool, flight), decided)
 }
 

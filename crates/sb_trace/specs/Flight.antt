@@ -36,8 +36,8 @@ with_mask pool flight = record flight { mask = if flight.phase == 2 then pool el
 
 -- whether this phase decides the call, and how: phase 0 where the key is wrong, phase 2 where no stack is free, and phase 8
 -- where the pool word is still the mask, so that its exchange succeeds
-unfoldable pub decided_at : ℕ → Bool → ℕ → ℕ → Option Decision
-decided_at phase key_fits pool mask =
+unfoldable pub decision_at_phase : ℕ → Bool → ℕ → ℕ → Option Decision
+decision_at_phase phase key_fits pool mask =
     if phase == 0 then if key_fits then None else Some decision.WrongKey
     else if phase == 2 then if pool == 0 then Some decision.PoolEmpty else None
     else if phase == 8 then if pool == mask then Some decision.Entered else None
@@ -80,7 +80,7 @@ phase_outcome state number flight (Some decided) = (
 abbrev pub landing_step_by : State → ℕ → Thread → Flight → Option Binding → Outcome
 landing_step_by state number thread flight binding =
     phase_outcome state number (with_mask (bound_pool state binding) flight)
-    (decided_at flight.phase (is_key binding (rsi thread.regs)) (bound_pool state binding) flight.mask)
+    (decision_at_phase flight.phase (is_key binding (rsi thread.regs)) (bound_pool state binding) flight.mask)
 
 -- a step of a thread in flight
 unfoldable pub landing_step : State → ℕ → Flight → Outcome

@@ -7,7 +7,7 @@ use Rattle.sb_state.specs.declared.end_kind.EndKind.TheVariants.{Ended}
 use Rattle.sb_state.specs.declared.state.Thread.{Thread}
 use Rattle.sb_state.specs.State.{State, thread_at, with_regs, with_end}
 use Rattle.sb_state.specs.Registers.{rax, rsi, rdi}
-use Rattle.sb_trace.specs.Home.{Outcome, sent_home}
+use Rattle.sb_trace.specs.Home.{Outcome, state_at_home}
 use Rattle.sb_state.specs.Windows.{process_now}
 use Rattle.sb_trace.specs.SyscallAnswer.{state_after_call, syscall_refusal}
 use Rattle.sb_trace.specs.SyscallRegister.{refusal_of_register, register_outcome}
@@ -18,7 +18,7 @@ use Rattle.sb_trace.specs.SyscallProtect.{protect_outcome}
 abbrev pub exit_outcome : State → ℕ → Regs → Outcome
 exit_outcome state number next =
     if (thread_at state number).view == 0 then (Exit (rdi next), with_end (with_regs state number next) number (Ended (rdi next)))
-    else (ServerExit (rdi next), sent_home state number)
+    else (ServerExit (rdi next), state_at_home state number)
 
 -- by the number of the call, which acts on the process that the thread's view shows
 abbrev pub outcome_by_number : State → ℕ → Thread → Regs → ℕ → Outcome

@@ -4,7 +4,7 @@ ghost use Rattle.std.specs.Prelude.{◌≡◌, ◌<◌, ◌≤◌, ◌+◌, ◌-
 ghost use Rattle.sb_tramp.specs.Record.{record_bytes};
 ghost use Rattle.sb_state.specs.declared.page.PageName.TheVariants.{Record};
 ghost use Rattle.sb_state.specs.State.{page_with, thread_at};
-ghost use Rattle.sb_state.specs.Store.{added};
+ghost use Rattle.sb_state.specs.Store.{with_added_page};
 ghost use Rattle.sb_state.specs.Registers.{rdi};
 ghost use Rattle.sb_trace.specs.SyscallBind.{refusal_of_bind, buffer_page, binding_pages, first_key, new_binding, with_binding, bind_outcome};
 
@@ -46,7 +46,7 @@ fn refusal_of_bind(state: &PlainState, thread: &Thread, server: u64) -> Option<C
 #[tactic(auto, using(sb_state::proofs::Start::record_page))]
 fn add_record(pages: &mut Pages, thread: u32, index: u32, words: &RecordWords)
     requires { 0 < pages.old.room }
-    ensures { pages.new ≡ added pages.old (page_with (Record thread index) (record_bytes words.now)) }
+    ensures { pages.new ≡ with_added_page pages.old (page_with (Record thread index) (record_bytes words.now)) }
 {
     pages.add(PageName::Record(thread, index), 0, &words.in_order());
 }

@@ -6,7 +6,7 @@ ghost use Rattle.sb_state.specs.Registers.{rdi, rsi};
 ghost use Rattle.sb_state.specs.Windows.{process_now};
 ghost use Rattle.sb_state.specs.Start.{pages_from};
 ghost use Rattle.sb_trace.specs.SyscallRegister.{is_start, refusal_of_register, server_stack_page, with_registration, with_server, register_outcome};
-ghost use Rattle.sb_state.specs.Store.{added};
+ghost use Rattle.sb_state.specs.Store.{with_added_page};
 
 use super::{accept, refuse};
 use crate::server::{registration_at, set_pool_word};
@@ -55,7 +55,7 @@ fn refusal_of_register(
 #[tactic(auto, unfolding(sb_trace::specs::SyscallRegister::stack_bytes))]
 fn add_stack_page(pages: &mut Pages, process: u32, page: u32)
     requires { 0 < pages.old.room }
-    ensures { pages.new ≡ added pages.old (server_stack_page process page) }
+    ensures { pages.new ≡ with_added_page pages.old (server_stack_page process page) }
 {
     let name = PageName::ServerStack(process, page);
     if page % PAGES == PAGES - 1 {
