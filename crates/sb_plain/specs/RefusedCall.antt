@@ -16,7 +16,7 @@ pub record KeepsOthers (before after : Regs) : Type 0 where
       → slice_index after.general register ≡ slice_index before.general register
   pub flags : after.flags ≡ before.flags
 
--- nothing has changed but these five registers of the thread of this number
-pub record LeavesAll (before after : State) (number : ℕ) : Type 0 where
-  pub state : after ≡ with_regs before number (thread_at after number).regs
-  pub registers : KeepsOthers (thread_at before number).regs (thread_at after number).regs
+-- nothing has changed but these five registers of the thread of this core
+pub record LeavesAll (before after : State) (core : ℕ) : Type 0 where
+  pub state : after ≡ with_regs before core (thread_at after core).regs
+  pub registers : KeepsOthers (thread_at before core).regs (thread_at after core).regs

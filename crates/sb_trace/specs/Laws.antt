@@ -88,9 +88,9 @@ LandingsDrop =
 
 -- the decision of a flight's phase, if it decides
 abbrev pub decision_at : State → ℕ → Flight → Option Decision
-decision_at state number flight =
-    decision_at_phase flight.phase (is_key (flight_binding (thread_at state number) flight) (rsi (thread_at state number).regs))
-    (bound_pool state (flight_binding (thread_at state number) flight)) flight.mask
+decision_at state core flight =
+    decision_at_phase flight.phase (is_key (flight_binding (thread_at state core) flight) (rsi (thread_at state core).regs))
+    (bound_pool state (flight_binding (thread_at state core) flight)) flight.mask
 
 -- the line of a decision
 abbrev pub IsLineOf : Decision → ℕ → Event → Type 0
