@@ -24,7 +24,7 @@ use sb_insn::{Insn, Op, Regs, reg_field, rex_b, rex_r, rex_w, rm_field};
 // ---- fields
 
 /// The ModRM byte, 0 where there is none.
-pub fn modrm(insn: &Insn) -> u8
+pub fn modrm_of(insn: &Insn) -> u8
     ensures { result ≡ modrm_of insn.now }
 {
     insn.modrm.unwrap_or(0)
@@ -35,7 +35,7 @@ pub fn reg_number(insn: &Insn) -> usize
     ensures value { result ≡ reg_number insn.now }
     ensures range { result < 16 }
 {
-    usize::from(reg_field(modrm(insn)) + 8 * rex_r(insn.rex))
+    usize::from(reg_field(modrm_of(insn)) + 8 * rex_r(insn.rex))
 }
 
 /// The register that rm names.
@@ -43,11 +43,11 @@ pub fn rm_number(insn: &Insn) -> usize
     ensures value { result ≡ rm_number insn.now }
     ensures range { result < 16 }
 {
-    usize::from(rm_field(modrm(insn)) + 8 * rex_b(insn.rex))
+    usize::from(rm_field(modrm_of(insn)) + 8 * rex_b(insn.rex))
 }
 
 /// The last byte of the opcode.
-pub fn opcode(op: Op) -> u8
+pub fn last_opcode_byte(op: Op) -> u8
     ensures { result ≡ last_opcode_byte op }
 {
     match op {
@@ -62,7 +62,7 @@ pub fn opcode_number(insn: &Insn) -> usize
     ensures value { result ≡ opcode_number insn.now }
     ensures range { result < 16 }
 {
-    usize::from(opcode(insn.op) % 8 + 8 * rex_b(insn.rex))
+    usize::from(last_opcode_byte(insn.op) % 8 + 8 * rex_b(insn.rex))
 }
 
 /// 64 bits with REX.W, else 32.

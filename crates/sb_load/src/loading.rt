@@ -16,7 +16,7 @@ use sb_rewrite::{RewriteRefusal, Rewritten, rewrite};
 use std::alloc::Global;
 
 /// The refusal of a process's text.
-fn refused(process: u32, why: RewriteRefusal) -> LoadRefusal
+fn refusal_of(process: u32, why: RewriteRefusal) -> LoadRefusal
     ensures { result ≡ refusal_of process why }
 {
     match why {
@@ -35,7 +35,7 @@ fn rewrite_texts(alloc: Global, images: &[Image]) -> Result<RewrittenTexts, Load
     for (process, image) in images.iter().enumerate() {
         match rewrite(alloc, image.text.items()) {
             Ok(made) => rewritten.push(made)?,
-            Err(why) => return Err(refused(process as u32, why)),
+            Err(why) => return Err(refusal_of(process as u32, why)),
         }
     }
     Ok(RewrittenTexts::new(rewritten))

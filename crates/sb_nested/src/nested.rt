@@ -17,6 +17,8 @@ use sb_walks::NestedStop;
 /// The physical address of a linear one for a user-mode access: the guest's walk from the table to which CR3 leads, in which
 /// each address goes through the EPT, those of entries for reading and the last one for the access.
 ///
+/// # Errors
+///
 /// `Walk` is a refusal of the guest's walk, where an entry that cannot be read through the EPT is `WalkStop::Table`. `Page` is
 /// a refusal of the EPT at the address to which that walk leads.
 #[tactic(auto, using(crate::proofs::Entries::after_entries_words, sb_memory::proofs::Accounts::after_words_append), unfolding(sb_walks::specs::Nested::translation, sb_walks::specs::Nested::translation_reads))]

@@ -20,7 +20,7 @@ use Rattle.sb_exec.specs.Interface.{Interface}
 use Rattle.sb_exec.specs.Size.{low}
 use Rattle.sb_exec.specs.Operand.{general, register_after_write, next_rip, operand_value}
 use Rattle.sb_exec.specs.Address.{linear, operand_address, rm_location}
-use Rattle.sb_exec.specs.Operated.{operation_outcome}
+use Rattle.sb_exec.specs.Outcome.{operation_outcome}
 use Rattle.sb_exec.specs.WriteBack.{regs_at_next, without_store, write_result, destination, first_operand, last_operand, result_or_nothing, compute_result}
 use Rattle.sb_exec.specs.Branch.{at_rip}
 use Rattle.sb_exec.specs.Row.{Row}

@@ -23,14 +23,14 @@ use Rattle.sb_exec.specs.declared.action.Effect.TheVariants.{Next}
 use Rattle.sb_exec.specs.declared.action.MemoryUse.TheVariants as memory_use
 use Rattle.sb_exec.specs.declared.action.Location.{Location}
 use Rattle.sb_exec.specs.declared.action.Location.TheVariants.{Register}
-use Rattle.sb_alu.specs.declared.operation.Outcome.{Outcome}
+use Rattle.sb_alu.specs.declared.operation.OperationOutcome.{OperationOutcome}
 use Rattle.sb_exec.specs.Size.{modulus, low}
 use Rattle.sb_exec.specs.Arithmetic.{product_overflows, product_outcome, signed_value, fits, is_negative}
 use Rattle.sb_exec.specs.Interface.{Interface}
 use Rattle.sb_insn.specs.Branch.{imm_value}
 use Rattle.sb_exec.specs.Operand.{modrm_of, reg_number, rm_number, operand_size, general, register_value, register_after_write, with_register, operand_value}
 use Rattle.sb_exec.specs.Address.{rm_location}
-use Rattle.sb_exec.specs.Operated.{operation_outcome}
+use Rattle.sb_exec.specs.Outcome.{operation_outcome}
 use Rattle.sb_exec.specs.WriteBack.{regs_at_next, with_flags, without_store, write_result, destination, first_operand, last_operand, result_or_nothing, compute_result, rm_value}
 use Rattle.sb_exec.specs.Row.{Row}
 use Rattle.sb_exec.specs.Actions.{action_by, action_of}
@@ -54,7 +54,7 @@ use Rattle.sb_forms.proofs.QuietPieces.{number_7}
 
 -- ---- a product
 
-abbrev pub product_by : Size → Flags → Bool → ℕ → Outcome
+abbrev pub product_by : Size → Flags → Bool → ℕ → OperationOutcome
 product_by size flags lost product = record {
   value = Some (product % modulus size);
   flags = record flags { cf = lost; of = lost; sf = is_negative size (product % modulus size) };
@@ -197,7 +197,7 @@ product_follows helper numbers insn main size product flags old other rip hidden
 
 -- ---- the rows of the original and of main
 
-abbrev pub product_row : Insn → Regs → Location → Size → ℕ → (ℕ → Outcome) → Row
+abbrev pub product_row : Insn → Regs → Location → Size → ℕ → (ℕ → OperationOutcome) → Row
 product_row insn regs place size number out = record {
   load = load_by memory_use.Read size place;
   store = store_by memory_use.Read size place;

@@ -58,8 +58,8 @@ use Rattle.sb_original.proofs.Alike.{reg_below}
 use Rattle.sb_original.proofs.FormAddress.{one_behind, insns_staged, one_save, one_kept}
 use Rattle.sb_original.proofs.FormConstant.{two_behind, two_saves, two_kept, hides_second}
 use Rattle.sb_insn.specs.OpcodeMap.{two_byte}
-use Rattle.sb_exec.specs.declared.action.After.{After}
-use Rattle.sb_alu.specs.declared.operation.Outcome.{Outcome}
+use Rattle.sb_exec.specs.declared.action.RowResult.{RowResult}
+use Rattle.sb_alu.specs.declared.operation.OperationOutcome.{OperationOutcome}
 use Rattle.sb_insn.specs.declared.registers.Flags.{Flags}
 use Rattle.sb_exec.specs.Row.{Row}
 use Rattle.sb_exec.specs.Size.{modulus, low}
@@ -102,20 +102,20 @@ product_flags insn old loaded =
     (low (operand_size insn) (imm_value insn.imm))) (product insn old loaded)).flags
 
 -- written to a register
-abbrev product_to : Insn → Regs → ℕ → Insn → Regs → ℕ → After
+abbrev product_to : Insn → Regs → ℕ → Insn → Regs → ℕ → RowResult
 product_to insn old number one regs loaded =
     without_store
     (with_register (operand_size insn) number (product insn old loaded % modulus (operand_size insn))
     (with_flags (product_flags insn old loaded) (regs_at_next one regs)))
 
-written_to : (insn : Insn) (old : Regs) (number : ℕ) (one : Insn) (regs : Regs) (loaded : ℕ) (out : Outcome)
+written_to : (insn : Insn) (old : Regs) (number : ℕ) (one : Insn) (regs : Regs) (loaded : ℕ) (out : OperationOutcome)
     → out ≡ product_outcome (operand_size insn) (rm_value (operand_size insn) insn old loaded)
     (low (operand_size insn) (imm_value insn.imm)) old.flags
     → result_or_nothing (operand_size insn) (Register number) out.value (with_flags out.flags (regs_at_next one regs))
     ≡ product_to insn old number one regs loaded
 unfolding result_or_nothing write_result product_outcome
 written_to insn old number one regs loaded out is =
-    ap (λ (o : Outcome). result_or_nothing (operand_size insn) (Register number) o.value
+    ap (λ (o : OperationOutcome). result_or_nothing (operand_size insn) (Register number) o.value
     (with_flags o.flags (regs_at_next one regs))) is
 
 own_after : (insn : Insn) (old : Regs) (loaded : ℕ)
@@ -151,15 +151,15 @@ product_accesses numbers insn main helper value old other known =
       store = ap (λ (r : Row). r.store) there ∙ ap (λ (p : Location). store_by memory_use.Read size p) known.place
           ∙ sym (ap (λ (r : Row). r.store) own);
       effect = ap (λ (r : Row). r.effect) there ∙ sym (ap (λ (r : Row). r.effect) own);
-      stored = λ loaded. ap (λ (a : After). a.stored) (main_after numbers insn main helper value old other loaded known)
-          ∙ sym (ap (λ (a : After). a.stored) (own_after insn old loaded known.own));
+      stored = λ loaded. ap (λ (a : RowResult). a.stored) (main_after numbers insn main helper value old other loaded known)
+          ∙ sym (ap (λ (a : RowResult). a.stored) (own_after insn old loaded known.own));
     }
 
 product_goes : (numbers : List ℕ) (insn main : Insn) (helper : Helper) (value : ℤ) (old other : Regs) (loaded : ℕ)
     → IsProductMain numbers insn main helper value old other
     → ((row_of main other).after loaded).regs.rip ≡ next_rip main other
 product_goes numbers insn main helper value old other loaded known =
-    ap (λ (a : After). a.regs.rip) (main_after numbers insn main helper value old other loaded known)
+    ap (λ (a : RowResult). a.regs.rip) (main_after numbers insn main helper value old other loaded known)
 
 -- ---- behind main
 
@@ -192,9 +192,9 @@ product_one bus Holds insn main helper value start from next state other words l
       refl,
       one_behind bus Holds helper start from next state moved target has fit follow word goes at a b,
     ) in
-    subst (λ (r : After). Behind bus Holds r.regs (move ∷ restore helper first_saved ∷ jump_insn from next ∷ [])
+    subst (λ (r : RowResult). Behind bus Holds r.regs (move ∷ restore helper first_saved ∷ jump_insn from next ∷ [])
     (record { regs = ((row_of main other).after loaded).regs; words = words })) (sym (own_after insn old loaded known.own))
-    (subst (λ (r : After). Behind bus Holds target (move ∷ restore helper first_saved ∷ jump_insn from next ∷ [])
+    (subst (λ (r : RowResult). Behind bus Holds target (move ∷ restore helper first_saved ∷ jump_insn from next ∷ [])
     (record { regs = r.regs; words = words })) (sym (main_after numbers insn main helper value old other loaded known)) chain)
 
 product_two : {M A N : Type 0} (bus : Interface M A) (Holds : Words → M → N
@@ -230,9 +230,9 @@ product_two bus Holds insn main helper second value start from next state other 
       refl,
       two_behind bus Holds helper second start from next state moved target has fit follow word word_too goes at a b,
     ) in
-    subst (λ (r : After). Behind bus Holds r.regs (move ∷ rest)
+    subst (λ (r : RowResult). Behind bus Holds r.regs (move ∷ rest)
     (record { regs = ((row_of main other).after loaded).regs; words = words })) (sym (own_after insn old loaded known.own))
-    (subst (λ (r : After). Behind bus Holds target (move ∷ rest) (record { regs = r.regs; words = words }))
+    (subst (λ (r : RowResult). Behind bus Holds target (move ∷ rest) (record { regs = r.regs; words = words }))
     (sym (main_after numbers insn main second value old other loaded known)) chain)
 
 -- ---- the forms

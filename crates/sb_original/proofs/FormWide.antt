@@ -20,12 +20,12 @@ use Rattle.sb_alu.specs.declared.operation.Operation.TheVariants as operation
 use Rattle.sb_exec.specs.declared.action.Effect.TheVariants.{Next}
 use Rattle.sb_exec.specs.declared.action.Load.TheVariants as load
 use Rattle.sb_exec.specs.declared.action.Store.TheVariants as store
-use Rattle.sb_exec.specs.declared.action.After.{After}
+use Rattle.sb_exec.specs.declared.action.RowResult.{RowResult}
 use Rattle.sb_exec.specs.Interface.{Interface}
 use Rattle.sb_exec.specs.Size.{low}
 use Rattle.sb_exec.specs.Operand.{general, register_after_write, next_rip, opcode_number}
 use Rattle.sb_exec.specs.Address.{operand_address, rm_location}
-use Rattle.sb_exec.specs.Operated.{operation_outcome}
+use Rattle.sb_exec.specs.Outcome.{operation_outcome}
 use Rattle.sb_exec.specs.WriteBack.{regs_at_next, without_store, write_result, destination, first_operand, last_operand, result_or_nothing, compute_result}
 use Rattle.sb_exec.specs.Row.{Row}
 use Rattle.sb_exec.specs.Actions.{action_by, action_of}
@@ -329,7 +329,7 @@ wide_law bus Holds insn instruction value site start state has work entered smal
             (λ meaning other holds. has.loaded Third ready.words meaning other holds) refl refl refl refl (omega arith)
             (omega arith);
         goes = ap (λ (n : ℕ). (ready.regs.rip + n) % 2 ^ 64) (sym eight);
-        behind = subst (λ (a : After). Behind bus Holds a.regs (back ∷ jump_back ∷ []) after) (sym own.3)
+        behind = subst (λ (a : RowResult). Behind bus Holds a.regs (back ∷ jump_back ∷ []) after) (sym own.3)
             (one_behind bus Holds helper start from site.next state after target has entered.regs follow first2 goes
             (omega (
               arith,

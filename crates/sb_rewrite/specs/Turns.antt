@@ -15,7 +15,7 @@ use Rattle.sb_forms.specs.Places.{IsPermitted}
 use Rattle.sb_forms.specs.declared.answer.Form.{Form}
 use Rattle.sb_forms.specs.declared.answer.Form.TheVariants as form
 use Rattle.sb_rewrite.specs.Placing.{Placement, area_address}
-use Rattle.sb_rewrite.specs.Output.{Output, output, starts_of, text_bytes, area_bytes, edits_of, moves_of}
+use Rattle.sb_rewrite.specs.RewrittenText.{RewrittenText, rewritten_text, starts_of, text_bytes, area_bytes, edits_of, moves_of}
 use Rattle.sb_rewrite.specs.Rewriting.{HasBadTarget, IsUnmovable, EndsBehindArea, NoneOf, IsFirstAt, ArePlaces, LeadsWell, FitsArea, IsFree, IsLeftAt}
 
 -- ---- an instruction
@@ -50,20 +50,20 @@ abbrev pub moved : List ℕ → List ℕ → List ℕ → Form
 moved pre main post = form.Moved pre main post
 
 -- nothing is put yet
-abbrev pub started : Output
+abbrev pub started : RewrittenText
 started = record { text = []; area = []; starts = []; edits = []; moves = [] }
 
 -- an instruction with this in its place, and the slot that comes next
-abbrev pub next_place : Output → Insn → ℕ → Form → Placement
+abbrev pub next_place : RewrittenText → Insn → ℕ → Form → Placement
 next_place old insn at form = record { insn = insn; at = at; slot = area_address + length old.area; form = form }
 
 -- one more instruction starts
-abbrev pub with_start : Output → ℕ → Output
+abbrev pub with_start : RewrittenText → ℕ → RewrittenText
 with_start old at =
     record { text = old.text; area = old.area; starts = old.starts ++ at ∷ []; edits = old.edits; moves = old.moves }
 
 -- what stands in its place is put
-abbrev pub with_place : Output → Placement → Output
+abbrev pub with_place : RewrittenText → Placement → RewrittenText
 with_place old place = record {
   text = old.text ++ text_bytes place;
   area = old.area ++ area_bytes place;
@@ -72,7 +72,7 @@ with_place old place = record {
   moves = old.moves ++ moves_of place;
 }
 
-abbrev pub Puts : Output → Output → Placement → Result (Unit {0}) RewriteRefusal → Type 0
+abbrev pub Puts : RewrittenText → RewrittenText → Placement → Result (Unit {0}) RewriteRefusal → Type 0
 Puts old new place (Ok done) = ¬ IsUnmovable place × ¬ EndsBehindArea place × (new ≡ with_place old place)
 Puts old new place (Err (Undecoded at)) = ⊥
 Puts old new place (Err (BadTarget at)) = ⊥
@@ -136,8 +136,8 @@ ChecksMovable text (Err (Unmovable at)) = IsFirstOf (λ of_text. IsUnmovable) te
 ChecksMovable text (Err _) = ⊥
 
 -- What stands in place of the instructions, where it all can be put.
-abbrev pub IsAllPut : List ℕ → Output → Type 0
-IsAllPut text draft = (of_text : List Placement) × ArePlaces text of_text × FitsArea of_text × (draft ≡ output of_text)
+abbrev pub IsAllPut : List ℕ → RewrittenText → Type 0
+IsAllPut text draft = (of_text : List Placement) × ArePlaces text of_text × FitsArea of_text × (draft ≡ rewritten_text of_text)
 
 -- Why it cannot. Another cause may come first: what stands behind the address was not looked at.
 abbrev pub IsPutRefusal : List ℕ → RewriteRefusal → Type 0
@@ -148,13 +148,13 @@ IsPutRefusal text (AreaFull at) = (of_text : List Placement) → ArePlaces text 
 IsPutRefusal text (Left at) = ⊥
 IsPutRefusal text Memory = Unit {0}
 
-abbrev pub PutsAll : List ℕ → Result Output RewriteRefusal → Type 0
+abbrev pub PutsAll : List ℕ → Result RewrittenText RewriteRefusal → Type 0
 PutsAll text (Ok draft) = IsAllPut text draft
 PutsAll text (Err refusal) = IsPutRefusal text refusal
 
 -- ---- what was made
 
 -- the first address at which the bytes of VMFUNC stand, None where they stand nowhere
-abbrev pub IsFirstLeft : Output → Option ℕ → Type 0
+abbrev pub IsFirstLeft : RewrittenText → Option ℕ → Type 0
 IsFirstLeft made (Some at) = IsLeftAt made at
 IsFirstLeft made None = IsFree made

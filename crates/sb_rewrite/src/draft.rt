@@ -5,7 +5,7 @@ ghost use Rattle.sb_insn.specs.Spelling.{spelling};
 ghost use Rattle.sb_forms.specs.Pieces.{jump_insn};
 ghost use Rattle.sb_forms.specs.Answers.{HasRoom, FitsSlot};
 ghost use Rattle.sb_rewrite.specs.Placing.{area_address, area_end};
-ghost use Rattle.sb_rewrite.specs.Output.{IsOrdered};
+ghost use Rattle.sb_rewrite.specs.RewrittenText.{IsOrdered};
 ghost use Rattle.sb_rewrite.specs.Turns.{IsTextInsn, started, keep, moved, in_place, next_place, with_start, Puts, IsFirstLeft};
 
 use crate::edit::{Edit, Move};
@@ -36,9 +36,9 @@ pub struct Draft {
 
 impl Model for Draft {
     ghost use Rattle.std.specs.Prelude.{◌≤◌, length};
-    ghost use Rattle.sb_rewrite.specs.Output.{Output};
+    ghost use Rattle.sb_rewrite.specs.RewrittenText.{RewrittenText};
 
-    ghost Value = { Output };
+    ghost Value = { RewrittenText };
 
     ghost view = { λ draft. record { text = draft.text.items; area = draft.area.items; starts = draft.starts.items; edits = draft.edits.items; moves = draft.moves.items } };
 

@@ -8,7 +8,7 @@ use Rattle.sb_state.specs.declared.page.PageName.{PageName}
 use Rattle.sb_state.specs.declared.page.Page.{Page}
 use Rattle.sb_state.specs.declared.page.Seen.{Seen}
 use Rattle.sb_state.specs.PageName.{same_name}
-use Rattle.sb_state.specs.PlainMemory.{Placed, byte_in, put_byte, put_all, placed_at, bytes_to_put, plain_stored}
+use Rattle.sb_state.specs.PlainMemory.{ByteToPut, byte_in, put_byte, put_all, with_byte_to_put, bytes_to_put, plain_stored}
 use Rattle.sb_state.specs.State.{State, find_page, bytes_of, contents, with_contents}
 use Rattle.sb_state.specs.Windows.{page_for}
 use Rattle.sb_state.proofs.Names.{name_same}
@@ -39,20 +39,20 @@ put_by false state name other offset place value is apart =
 -- ---- the bytes of a store
 
 -- none of these bytes is put at this place
-abbrev AllBeside : PageName → ℕ → List Placed → Type 0
+abbrev AllBeside : PageName → ℕ → List ByteToPut → Type 0
 AllBeside name place [] = Unit {0}
 AllBeside name place (byte ∷ bytes) = (byte.name ≡ name → byte.offset ≢ place) × AllBeside name place bytes
 
-put_beside : (state : State) (bytes : List Placed) (name : PageName) (place : ℕ) → AllBeside name place bytes
+put_beside : (state : State) (bytes : List ByteToPut) (name : PageName) (place : ℕ) → AllBeside name place bytes
     → byte_in (put_all state bytes) name place ≡ byte_in state name place
 put_beside state [] name place beside = refl
 put_beside state (byte ∷ bytes) name place beside =
     put_beside (put_byte state byte.name byte.offset byte.value) bytes name place beside.1
     ∙ put_by (same_name byte.name name) state byte.name name byte.offset place byte.value refl beside.0
 
-placed_beside : (seen : Option Seen) (address value : ℕ) (bytes : List Placed) (name : PageName) (place : ℕ)
+placed_beside : (seen : Option Seen) (address value : ℕ) (bytes : List ByteToPut) (name : PageName) (place : ℕ)
     → ((page : Seen) → seen ≡ Some page → page.name ≡ name → address % 4096 ≢ place)
-    → AllBeside name place bytes → AllBeside name place (placed_at seen address value bytes)
+    → AllBeside name place bytes → AllBeside name place (with_byte_to_put seen address value bytes)
 placed_beside None address value bytes name place apart beside = beside
 placed_beside (Some page) address value bytes name place apart beside = (apart page refl, beside)
 
@@ -121,8 +121,8 @@ abbrev after_first : Option Seen → ℕ → ℕ → State → State
 after_first None address value now = now
 after_first (Some page) address value now = put_byte now page.name (address % 4096) value
 
-first_put : (seen : Option Seen) (address value : ℕ) (bytes : List Placed) (now : State)
-    → put_all now (placed_at seen address value bytes) ≡ put_all (after_first seen address value now) bytes
+first_put : (seen : Option Seen) (address value : ℕ) (bytes : List ByteToPut) (now : State)
+    → put_all now (with_byte_to_put seen address value bytes) ≡ put_all (after_first seen address value now) bytes
 first_put None address value bytes now = refl
 first_put (Some page) address value bytes now = refl
 
@@ -158,9 +158,10 @@ put_reached (suc size) zero now state thread view address value page small few s
     → (address + suc j) % 2 ^ 64 % 4096 ≢ at % 4096) start (last (suc j) other (omega arith) (omega arith)))) in
     let there : address % 4096 < length (contents now page.name) =
     subst (λ (at : ℕ). at % 4096 < length (contents now page.name)) start inside in
-    ap (λ (at : ℕ). byte_in (put_all now (placed_at (page_for state thread view (address / 4096)) address (value % 256) others))
+    ap (λ (at : ℕ).
+    byte_in (put_all now (with_byte_to_put (page_for state thread view (address / 4096)) address (value % 256) others))
     page.name (at % 4096)) start
-    ∙ (ap (λ found. byte_in (put_all now (placed_at found address (value % 256) others)) page.name (address % 4096)) here
+    ∙ (ap (λ found. byte_in (put_all now (with_byte_to_put found address (value % 256) others)) page.name (address % 4096)) here
     ∙ (put_beside (put_byte now page.name (address % 4096) (value % 256)) others page.name (address % 4096) beside
     ∙ (put_there now page.name (address % 4096) (value % 256) there ∙ ap (λ (n : ℕ). n % 256) (sym whole))))
 put_reached (suc size) (suc k) now state thread view address value page small few seen inside last =
@@ -178,7 +179,7 @@ put_reached (suc size) (suc k) now state thread view address value page small fe
     → at % 4096 ≢ ((address + 1) % 2 ^ 64 + k) % 2 ^ 64 % 4096) (same j)
     (subst (λ (at : ℕ). page_for state thread view ((address + suc j) % 2 ^ 64 / 4096) ≡ Some other → other.name ≡ page.name
     → (address + suc j) % 2 ^ 64 % 4096 ≢ at % 4096) (same k) (last (suc j) other (omega arith) (omega arith)))) in
-    ap (λ (at : ℕ). byte_in (put_all now (placed_at (page_for state thread view (address / 4096)) address (value % 256)
+    ap (λ (at : ℕ). byte_in (put_all now (with_byte_to_put (page_for state thread view (address / 4096)) address (value % 256)
     (bytes_to_put state thread view ((address + 1) % 2 ^ 64) size (value / 256)))) page.name (at % 4096)) (same k)
     ∙ (ap (λ (after : State). byte_in after page.name (((address + 1) % 2 ^ 64 + k) % 2 ^ 64 % 4096))
     (first_put (page_for state thread view (address / 4096)) address (value % 256)

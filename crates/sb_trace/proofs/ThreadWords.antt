@@ -51,7 +51,7 @@ use Rattle.sb_state.proofs.Indices.{indices_are_free}
 use Rattle.sb_state.proofs.Threads.{thread_set}
 use Rattle.sb_trace.specs.declared.event.Event.{Event}
 use Rattle.sb_trace.specs.declared.event.Event.TheVariants as line
-use Rattle.sb_trace.specs.Home.{Outcome, fault_outcome, sent_home, home_address}
+use Rattle.sb_trace.specs.Home.{Outcome, fault_outcome, state_at_home, home_address}
 use Rattle.sb_trace.specs.KernelCall.{binding_with, pool_word, handler_in, refusal_regs, refusal_outcome, refusal_or_fault, return_outcome, lowest_bit, entry_regs, state_at_handler, entry_outcome, call_outcome, outcome_by_index, kernel_call}
 use Rattle.sb_trace.specs.Flight.{vmfunc_outcome, vmfunc_outcome_by, called_binding, landing_step, phase_outcome}
 use Rattle.sb_trace.specs.SyscallAnswer.{syscall_refusal, syscall_acceptance}
@@ -207,7 +207,7 @@ fault_regs_words = record {
 }
 
 sent_words : (state : State) (core : ℕ) → AreWords (thread_at state core).regs
-    → AreWords (thread_at (sent_home state core) core).regs
+    → AreWords (thread_at (state_at_home state core) core).regs
 sent_words state core old = view_set state core 0 server_fault_regs fault_regs_words old
 
 fault_words : (state : State) (core : ℕ) (kind : FaultKind) (address : ℕ) → AreWords (thread_at state core).regs

@@ -1,10 +1,10 @@
 -- The home page: it saves the registers that a callee must keep, switches at offset 40, and loads them again.
 use Rattle.std.specs.Prelude.{ℕ, List, [], ◌∷◌, Some, None, pos}
 use Rattle.sb_insn.specs.declared.insn.Op.TheVariants.{One, Vmfunc}
-use Rattle.sb_tramp.specs.Page.{Row, row, page_of}
+use Rattle.sb_tramp.specs.Page.{PageRow, row, page_of_rows}
 use Rattle.sb_tramp.specs.Forms.{opcode_alone, jump, with_modrm, with_disp, at_address}
 
-abbrev pub home_rows : List Row
+abbrev pub home_rows : List PageRow
 home_rows =
     row 0x00 (at_address (Some 0x48) (One 0x8B) 0x04 0x70002020)  -- mov rax, [70002020]
     ∷ row 0x08 (with_modrm (Some 0x48) (One 0x89) 0x18)  -- mov [rax], rbx
@@ -31,4 +31,4 @@ home_rows =
     ∷ []
 
 abbrev pub home_page : List ℕ
-home_page = page_of home_rows
+home_page = page_of_rows home_rows

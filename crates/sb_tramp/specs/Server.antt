@@ -1,11 +1,11 @@
 -- The server page: the way back, the switch at offset 40, and the landing behind it.
 use Rattle.std.specs.Prelude.{ℕ, List, [], ◌∷◌, ◌++◌, Some, None, pos}
 use Rattle.sb_insn.specs.declared.insn.Op.TheVariants.{One, Two, Vmfunc}
-use Rattle.sb_tramp.specs.Page.{Row, row, page_of}
+use Rattle.sb_tramp.specs.Page.{PageRow, row, page_of_rows}
 use Rattle.sb_tramp.specs.Forms.{minus, opcode_alone, jump, number_into, with_modrm, with_byte, with_disp, with_sib, at_address, locked_at_address}
 
 -- the way back: the stack is given back to the pool
-abbrev pub return_rows : List Row
+abbrev pub return_rows : List PageRow
 return_rows =
     row 0x00 (with_sib (Some 0x48) (One 0x8D) 0x4C 0x24 (minus 8))  -- lea rcx, [rsp-8]
     ∷ row 0x05 (at_address (Some 0x48) (One 0x2B) 0x0C 0x70002008)  -- sub rcx, [70002008]
@@ -19,11 +19,11 @@ return_rows =
     ∷ row 0x29 (jump 0xEB (pos 0x15))  -- jmp 40
     ∷ []
 
-abbrev pub switch_row : Row
+abbrev pub switch_row : PageRow
 switch_row = row 0x40 (opcode_alone Vmfunc)  -- vmfunc
 
 -- the landing behind the switch
-abbrev pub landed_rows : List Row
+abbrev pub landed_rows : List PageRow
 landed_rows =
     row 0x43 (at_address (Some 0x48) (One 0x3B) 0x34 0x70002000)  -- cmp rsi, [70002000]
     ∷ row 0x4B (jump 0x75 (pos 0x41))  -- jne 8E
@@ -51,8 +51,8 @@ landed_rows =
     ∷ row 0xA3 (jump 0xEB (minus 0x65))  -- jmp 40
     ∷ []
 
-abbrev pub server_rows : List Row
+abbrev pub server_rows : List PageRow
 server_rows = return_rows ++ (switch_row ∷ landed_rows)
 
 abbrev pub server_page : List ℕ
-server_page = page_of server_rows
+server_page = page_of_rows server_rows

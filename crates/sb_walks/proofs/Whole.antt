@@ -18,7 +18,7 @@ use Rattle.sb_walks.specs.declared.stop.WalkStop.TheVariants as walk
 use Rattle.sb_walks.specs.Entry.{entry_place, frame_in, four_levels, is_present, maps_large_page}
 use Rattle.sb_walks.specs.Ept.{ept_entry_answer, ept_levels, ept_permits, ept_step, ept_walk, is_large, is_misconfigured, phys_in}
 use Rattle.sb_walks.specs.Gaps.{NoGap, ept_gap, table_gap, walk_gap, nested_gap}
-use Rattle.sb_walks.specs.Guest.{address_in, guest_entry_answer, guest_read_answer, guest_walk, is_canonical, permits, walk_levels, walk_step}
+use Rattle.sb_walks.specs.Guest.{address_in, guest_entry_answer, guest_read_answer, guest_walk, is_canonical, guest_permits, walk_levels, walk_step}
 use Rattle.sb_walks.specs.Nested.{entry_answer, entry_behind, guest_entry, mapped_answer, page_answer, page_behind, translation}
 use Rattle.sb_walks.proofs.SamePage.{unwrapped}
 use Rattle.sb_walks.proofs.Page.{passed_not}
@@ -161,7 +161,7 @@ module _ (memory : Physical) (all : HasAllFrames memory) where
     guest_judged access level entry =
         stop_or walk_gap (not (is_present entry)) (walk.NotPresent level) _ refl
         (stop_or walk_gap (((level == 3) || (level == 2)) && maps_large_page entry) (walk.Large level) _ refl
-        (stop_or walk_gap (not (permits access entry)) (walk.Denied level) (Ok (frame_in entry)) refl tt))
+        (stop_or walk_gap (not (guest_permits access entry)) (walk.Denied level) (Ok (frame_in entry)) refl tt))
 
     read_judged : (access : Access) (level : ℕ) (answer : Result ℕ TableStop) → NoGap table_gap answer
         → NoGap walk_gap (guest_read_answer access level answer)

@@ -49,7 +49,7 @@ moves_by _ place = []
 abbrev pub moves_of : Placement → List Move
 moves_of place = moves_by place.form place
 
-pub record Output : Type 0 where
+pub record RewrittenText : Type 0 where
   pub text : List ℕ
   pub area : List ℕ
   pub starts : List ℕ
@@ -60,8 +60,8 @@ abbrev pub starts_of : List Placement → List ℕ
 starts_of places = map (λ place. place.at) places
 
 -- what instructions in their places give
-abbrev pub output : List Placement → Output
-output places = record {
+abbrev pub rewritten_text : List Placement → RewrittenText
+rewritten_text places = record {
   text = flat_map text_bytes places;
   area = flat_map area_bytes places;
   starts = starts_of places;
@@ -70,15 +70,15 @@ output places = record {
 }
 
 -- these bytes and lists
-abbrev pub made_of : List ℕ → List ℕ → List ℕ → List Edit → List Move → Output
-made_of text area starts edits moves = record { text = text; area = area; starts = starts; edits = edits; moves = moves }
+abbrev pub text_from_parts : List ℕ → List ℕ → List ℕ → List Edit → List Move → RewrittenText
+text_from_parts text area starts edits moves = record { text = text; area = area; starts = starts; edits = edits; moves = moves }
 
 -- the address is one of those from the least to before the end
 abbrev pub IsBetween : ℕ → ℕ → ℕ → Type 0
 IsBetween least end at = (least ≤ at) × (at < end)
 
 -- starts come in order, and so do moves, by their starts and by their mains
-pub record IsOrdered (made : Output) : Type 0 where
+pub record IsOrdered (made : RewrittenText) : Type 0 where
   pub starts : IsStrictlyIncreasing made.starts
   pub moved : IsStrictlyIncreasing (map (λ one. one.start) made.moves)
   pub mains : IsStrictlyIncreasing (map (λ one. one.main) made.moves)
@@ -86,27 +86,27 @@ pub record IsOrdered (made : Output) : Type 0 where
 -- ---- which original instruction runs at an address
 
 -- the instruction at the start was moved, and its main stands at the address
-abbrev pub IsMain : Output → ℕ → ℕ → Type 0
+abbrev pub IsMain : RewrittenText → ℕ → ℕ → Type 0
 IsMain made at start = Contains made.moves (record { start = start; main = at })
 
 -- the instruction at the start was moved
-abbrev pub IsMoved : Output → ℕ → Type 0
+abbrev pub IsMoved : RewrittenText → ℕ → Type 0
 IsMoved made start = (main : ℕ) × IsMain made main start
 
 -- at the address an instruction starts that was kept or rewritten in place
-abbrev pub IsInPlace : Output → ℕ → Type 0
+abbrev pub IsInPlace : RewrittenText → ℕ → Type 0
 IsInPlace made at = Contains made.starts at × ¬ IsMoved made at
 
 -- the instruction that starts there is what runs at the address
-abbrev pub RunsAt : Output → ℕ → ℕ → Type 0
+abbrev pub RunsAt : RewrittenText → ℕ → ℕ → Type 0
 RunsAt made at start = ((start ≡ at) × IsInPlace made at) ⊎ IsMain made at start
 
 -- the start of the moved instruction whose main stands at the address, None where none does
-abbrev pub IsMovedTo : Output → ℕ → Option ℕ → Type 0
+abbrev pub IsMovedTo : RewrittenText → ℕ → Option ℕ → Type 0
 IsMovedTo made at (Some start) = IsMain made at start
 IsMovedTo made at None = (start : ℕ) → ¬ IsMain made at start
 
 -- the start whose instruction runs at the address, None where none does
-abbrev pub IsOriginal : Output → ℕ → Option ℕ → Type 0
+abbrev pub IsOriginal : RewrittenText → ℕ → Option ℕ → Type 0
 IsOriginal made at (Some start) = RunsAt made at start
 IsOriginal made at None = (start : ℕ) → ¬ RunsAt made at start

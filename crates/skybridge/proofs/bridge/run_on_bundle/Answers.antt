@@ -4,7 +4,7 @@ use Rattle.skybridge.specs.Input.{input_limit}
 use Rattle.skybridge.proofs.Apart.{reported_spelled, reported_loaded, unread_spelled, unread_accepted, unloaded_spelled, unloaded_accepted, unloaded_told}
 use Rattle.skybridge.proofs.Limit.{accepted_whole}
 use Rattle.skybridge.proofs.Parts.{line_of_refusal}
-use Rattle.skybridge.proofs.top.run_on_bundle.Goals as goal
+use Rattle.skybridge.proofs.bridge.run_on_bundle.Goals as goal
 
 pub returns-in-Ok-output_of-clause-no_bundle : goal.returns-in-Ok-output_of-clause-no_bundle
 returns-in-Ok-output_of-clause-no_bundle g c told quiet =

@@ -1,5 +1,5 @@
 use Rattle.skybridge.proofs.Determined.{one_output, one_summary}
-use Rattle.skybridge.proofs.top.one_output.Goals as goal
+use Rattle.skybridge.proofs.bridge.one_output.Goals as goal
 
 pub returns-clause-of_bundle : goal.returns-clause-of_bundle
 returns-clause-of_bundle c = λ command bundle text other first second. one_output command bundle text other first second

@@ -2,7 +2,7 @@
 
 ghost use Rattle.std.specs.Prelude.{◌≡◌};
 ghost use Rattle.sb_state.specs.State.{thread_at};
-ghost use Rattle.sb_trace.specs.Home.{sent_home, fault_outcome};
+ghost use Rattle.sb_trace.specs.Home.{state_at_home, fault_outcome};
 
 use sb_calls::server_fault_regs;
 use sb_exec::FaultKind;
@@ -11,7 +11,7 @@ use sb_trace::Event;
 
 /// Sends the thread of a core home from a server's view. The stack that it has of the server stays taken.
 pub fn send_home(state: &mut PlainState, core: u8)
-    ensures { state.new ≡ sent_home state.old core }
+    ensures { state.new ≡ state_at_home state.old core }
 {
     state.set_view(core, 0, server_fault_regs());
 }

@@ -3,7 +3,7 @@
 ghost use Rattle.std.specs.Prelude.{◌≡◌, ◌<◌};
 ghost use Rattle.sb_alu.specs.Size.{modulus};
 ghost use Rattle.sb_exec.specs.Operand.{IsPlace};
-ghost use Rattle.sb_exec.specs.Exchanged.{
+ghost use Rattle.sb_exec.specs.Exchange.{
   xchg_result,
   xadd_result,
   cmpxchg_unequal,
@@ -12,11 +12,11 @@ ghost use Rattle.sb_exec.specs.Exchanged.{
   exchange_after,
 };
 
-use crate::action::{After, Exchange, Location};
+use crate::action::{Exchange, Location, RowResult};
 use crate::address::rm_location;
 use crate::operand::{reg_number, register_value, set_register};
-use crate::write_back::{regs_at_next, rm_value, written};
-use sb_alu::{Size, difference_outcome, sum, sum_outcome};
+use crate::write_back::{regs_at_next, rm_value, write_result};
+use sb_alu::{Size, difference_outcome, sum_of, sum_outcome};
 use sb_insn::registers::RAX;
 use sb_insn::{Insn, Regs};
 
@@ -28,13 +28,13 @@ fn xchg_result(
     old: u64,
     value: u64,
     mut regs: Regs,
-) -> After
+) -> RowResult
     requires number { number < 16 }
     requires place { IsPlace place }
     ensures { result ≡ xchg_result size number place old value regs }
 {
     set_register(size, number, old, &mut regs);
-    written(size, place, value, regs)
+    write_result(size, place, value, regs)
 }
 
 /// XADD: the new value is the sum.
@@ -45,7 +45,7 @@ fn xadd_result(
     old: u64,
     source: u64,
     regs: Regs,
-) -> After
+) -> RowResult
     requires number { number < 16 }
     requires place { IsPlace place }
     requires old { old < modulus size }
@@ -56,22 +56,22 @@ fn xadd_result(
         flags: sum_outcome(size, old, source).flags,
         ..regs
     };
-    xchg_result(size, number, place, old, sum(size, old, source), next)
+    xchg_result(size, number, place, old, sum_of(size, old, source), next)
 }
 
 /// The accumulator gets what rm held, which is stored again.
-fn cmpxchg_unequal(size: Size, place: Location, old: u64, mut regs: Regs) -> After
+fn cmpxchg_unequal(size: Size, place: Location, old: u64, mut regs: Regs) -> RowResult
     ensures { result ≡ cmpxchg_unequal size place old regs }
 {
     set_register(size, RAX, old, &mut regs);
     match place {
-        Location::Register(_) => After { regs, stored: 0 },
-        Location::Memory(_) => After { regs, stored: old },
+        Location::Register(_) => RowResult { regs, stored: 0 },
+        Location::Memory(_) => RowResult { regs, stored: old },
     }
 }
 
 /// CMPXCHG: rm gets the new value where it equals the accumulator.
-fn cmpxchg_result(size: Size, place: Location, old: u64, source: u64, regs: Regs) -> After
+fn cmpxchg_result(size: Size, place: Location, old: u64, source: u64, regs: Regs) -> RowResult
     requires place { IsPlace place }
     requires old { old < modulus size }
     ensures { result ≡ cmpxchg_result size place old source regs }
@@ -82,14 +82,14 @@ fn cmpxchg_result(size: Size, place: Location, old: u64, source: u64, regs: Regs
         ..regs
     };
     if accumulator == old {
-        written(size, place, source, next)
+        write_result(size, place, source, next)
     } else {
         cmpxchg_unequal(size, place, old, next)
     }
 }
 
-#[tactic(auto, unfolding(crate::specs::Exchanged::exchange_of))]
-fn exchange(
+#[tactic(auto, unfolding(crate::specs::Exchange::exchange_of))]
+fn exchange_of(
     kind: Exchange,
     size: Size,
     number: usize,
@@ -97,7 +97,7 @@ fn exchange(
     old: u64,
     source: u64,
     regs: Regs,
-) -> After
+) -> RowResult
     requires number { number < 16 }
     requires place { IsPlace place }
     requires old { old < modulus size }
@@ -112,13 +112,19 @@ fn exchange(
 }
 
 /// The exchange of an instruction's operands.
-pub fn exchange_after(kind: Exchange, size: Size, insn: &Insn, regs: &Regs, loaded: u64) -> After
+pub fn exchange_after(
+    kind: Exchange,
+    size: Size,
+    insn: &Insn,
+    regs: &Regs,
+    loaded: u64,
+) -> RowResult
     ensures { result ≡ exchange_after kind size insn.now regs.now loaded }
 {
     let number = reg_number(insn);
     let old = rm_value(size, insn, regs, loaded);
     let source = register_value(size, number, regs);
-    exchange(
+    exchange_of(
         kind,
         size,
         number,

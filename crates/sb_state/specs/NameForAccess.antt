@@ -12,17 +12,17 @@ use Rattle.sb_state.specs.State.{State}
 use Rattle.sb_state.specs.Windows.{page_for}
 use Rattle.sb_state.specs.PlainMemory.{is_canonical, fault_at}
 
-abbrev pub reached_as : Option Seen → ℕ → Access → Result PageName BusStop
-reached_as None address how = Err (fault_at Memory address)
-reached_as (Some page) address how = if permits page.mode how then Ok page.name else Err (fault_at Memory address)
+abbrev pub name_if_permitted : Option Seen → ℕ → Access → Result PageName BusStop
+name_if_permitted None address how = Err (fault_at Memory address)
+name_if_permitted (Some page) address how = if permits page.mode how then Ok page.name else Err (fault_at Memory address)
 
 -- the page that an access in a view of a thread reaches, or why it reaches none
-unfoldable pub reached : ℕ → ℕ → State → ℕ → Access → Result PageName BusStop
-reached thread view state address how =
-    if is_canonical address then reached_as (page_for state thread view (address / 4096)) address how
+unfoldable pub name_for_access : ℕ → ℕ → State → ℕ → Access → Result PageName BusStop
+name_for_access thread view state address how =
+    if is_canonical address then name_if_permitted (page_for state thread view (address / 4096)) address how
     else Err (fault_at Canon address)
 
--- the name of a page that is reached
+-- the name, without the page
 abbrev pub name_only : Result (PageName × Bor Page) BusStop → Result PageName BusStop
 name_only (Ok found) = Ok found.0
 name_only (Err stop) = Err stop

@@ -1,7 +1,7 @@
 use Rattle.std.proofs.Common.{List, ℕ, subst}
 use Rattle.skybridge.specs.Output.{WritesLine}
 use Rattle.skybridge.proofs.Parts.{line_written}
-use Rattle.skybridge.proofs.top.refuse.Goals as goal
+use Rattle.skybridge.proofs.bridge.refuse.Goals as goal
 
 pub returns-clause-written : goal.returns-clause-written
 returns-clause-written g c =

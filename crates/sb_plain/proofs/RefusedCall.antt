@@ -38,11 +38,11 @@ use Rattle.sb_trace.specs.SyscallProtect.{execute_mode_outcome, protect_outcome_
 use Rattle.sb_trace.specs.Syscall.{exit_outcome, outcome_by_number, syscall_outcome}
 use Rattle.sb_state.specs.Pattern.{heap_pattern}
 use Rattle.sb_state.proofs.Threads.{regs_set}
-use Rattle.sb_plain.specs.Declined.{IsDeclined, KeepsOthers, LeavesAll}
+use Rattle.sb_plain.specs.RefusedCall.{IsRefusedCall, KeepsOthers, LeavesAll}
 
 -- what is said of a step's outcome
 abbrev Leaves : State → ℕ → Outcome → Type 0
-Leaves state number outcome = IsDeclined outcome.0 → LeavesAll state outcome.1 number
+Leaves state number outcome = IsRefusedCall outcome.0 → LeavesAll state outcome.1 number
 
 -- ---- a refusal
 
@@ -75,7 +75,7 @@ module _ (address : ℕ) (state : State) (number : ℕ) (inside : number < lengt
   next = after_syscall address (thread_at state number).regs
 
   refused_leaves : (refusal : CallRefusal) (second : ℕ) → Leaves state number (syscall_refusal state number next refusal second)
-  refused_leaves refusal second declined =
+  refused_leaves refusal second refused =
       let there = regs_set state number (regs_with_answer next (refusal_number refusal) second) inside in
       record {
         state = ap (λ (left : Regs). with_regs state number left) (sym there);
@@ -121,7 +121,7 @@ module _ (address : ℕ) (state : State) (number : ℕ) (inside : number < lengt
 
 -- its line is not that of a refused call
 abbrev IsOther : Outcome → Type 0
-IsOther outcome = IsDeclined outcome.0 → ⊥
+IsOther outcome = IsRefusedCall outcome.0 → ⊥
 
 other_by_test : (test : Bool) (first second : Outcome) → IsOther first → IsOther second → IsOther (if test then first else second)
 other_by_test true first second one other = one
@@ -129,7 +129,7 @@ other_by_test false first second one other = other
 
 fault_is_other : (state : State) (number : ℕ) (kind : FaultKind) (address : ℕ) → IsOther (fault_outcome state number kind address)
 fault_is_other state number kind address =
-    other_by_test ((thread_at state number).view == 0) _ _ (λ declined. declined) (λ declined. declined)
+    other_by_test ((thread_at state number).view == 0) _ _ (λ refused. refused) (λ refused. refused)
 
 stop_is_other : (state : State) (number : ℕ) (stop : BusStop) (outcome : Outcome) → StopsWith state number stop outcome
     → IsOther outcome
@@ -137,22 +137,23 @@ stop_is_other state number (FaultStop kind address) outcome stops =
     subst IsOther (sym stops) (fault_is_other state number kind address.0)
 stop_is_other state number (Missing frame) outcome stops = absurd stops
 
-stay_is_other : (state : State) (number : ℕ) (thread : Thread) (line : Event) (status : ℕ) → (IsDeclined line → ⊥)
+refusal_or_fault_is_other : (state : State) (number : ℕ) (thread : Thread) (line : Event) (status : ℕ) → (IsRefusedCall line → ⊥)
     → IsOther (refusal_or_fault state number thread line status)
-stay_is_other state number thread line status other =
+refusal_or_fault_is_other state number thread line status other =
     other_by_test (thread.view == 0) _ _ other (fault_is_other state number kind.Switch thread.regs.rip)
 
-return_is_other : (test : Bool) → IsDeclined (if test then Turn else Return) → ⊥
-return_is_other true declined = declined
-return_is_other false declined = declined
+return_is_other : (test : Bool) → IsRefusedCall (if test then Turn else Return) → ⊥
+return_is_other true refused = refused
+return_is_other false refused = refused
 
 call_is_other : (state : State) (number : ℕ) (thread : Thread) (index : ℕ) (binding : Option Binding)
     → IsOther (call_outcome state number thread index binding)
-call_is_other state number thread index None = stay_is_other state number thread (Unbound index) _ (λ declined. declined)
+call_is_other state number thread index None =
+    refusal_or_fault_is_other state number thread (Unbound index) _ (λ refused. refused)
 call_is_other state number thread index (Some binding) =
     other_by_test (rsi thread.regs == binding.key) _ _
-    (other_by_test (pool_word state binding.server == 0) _ _ (λ declined. declined) (λ declined. declined))
-    (λ declined. declined)
+    (other_by_test (pool_word state binding.server == 0) _ _ (λ refused. refused) (λ refused. refused))
+    (λ refused. refused)
 
 -- a call or a return through VMFUNC
 kernel_is_other : (state : State) (number : ℕ) → IsOther (kernel_call state number)
@@ -162,15 +163,15 @@ kernel_is_other state number =
     other_by_test (eax thread.regs == 0) _ _
     (other_by_test (ecx thread.regs == 0) _ _ (return_is_other (thread.view == 0))
     (call_is_other state number thread (ecx thread.regs) (binding_with thread.bindings (ecx thread.regs))))
-    (stay_is_other state number thread (BadLeaf (ecx thread.regs)) _ (λ declined. declined))
+    (refusal_or_fault_is_other state number thread (BadLeaf (ecx thread.regs)) _ (λ refused. refused))
 
 vmfunc_is_other : (state : State) (number : ℕ) (binding : Option Binding) → IsOther (vmfunc_outcome_by state number binding)
 vmfunc_is_other state number None = kernel_is_other state number
-vmfunc_is_other state number (Some binding) = λ declined. declined
+vmfunc_is_other state number (Some binding) = λ refused. refused
 
 phase_is_other : (state : State) (number : ℕ) (flight : Flight) (decided : Option Decision)
     → IsOther (phase_outcome state number flight decided)
-phase_is_other state number flight None = λ declined. declined
+phase_is_other state number flight None = λ refused. refused
 phase_is_other state number flight (Some decided) = kernel_is_other state number
 
 -- ---- a step
@@ -185,13 +186,13 @@ running_inside (first ∷ threads) (suc number) running = omega (arith, running_
 
 module _ (state : State) (number : ℕ) (outcome : Outcome) where
   other_leaves : IsOther outcome → Leaves state number outcome
-  other_leaves other = λ declined. absurd (other declined)
+  other_leaves other = λ refused. absurd (other refused)
 
   effect_leaves : (insn : Insn) (effect : Effect) (left : Regs) (after : State) → number < length state.threads
       → outcome ≡ outcome_by_effect vmfunc_outcome state number insn (thread_at state number).regs effect left after
       → Leaves state number outcome
   unfolding vmfunc_outcome syscall_outcome
-  effect_leaves insn Next left after inside is = other_leaves (subst IsOther (sym is) (λ declined. declined))
+  effect_leaves insn Next left after inside is = other_leaves (subst IsOther (sym is) (λ refused. refused))
   effect_leaves insn Syscall left after inside is =
       subst (Leaves state number) (sym is)
       (number_leaves (next_rip insn (thread_at state number).regs) state number inside (thread_at state number)
@@ -226,10 +227,10 @@ module _ (state : State) (number : ℕ) (outcome : Outcome) where
       → StepsBy state number (thread_at state number) end outcome → Leaves state number outcome
   unfolding thread_at
   step_leaves Running running goes = going_leaves (flight_at state number) (running_inside state.threads number running) goes
-  step_leaves (Ended status) ended is = other_leaves (subst IsOther (sym is) (λ declined. declined))
-  step_leaves (Faulted kind address) ended is = other_leaves (subst IsOther (sym is) (λ declined. declined))
+  step_leaves (Ended status) ended is = other_leaves (subst IsOther (sym is) (λ refused. refused))
+  step_leaves (Faulted kind address) ended is = other_leaves (subst IsOther (sym is) (λ refused. refused))
 
 -- a step with the line of a refused call leaves all but five registers of its thread
-pub steps_leave : (old : State) (core : ℕ) (event : Event) (new : State) → Steps old core event new → IsDeclined event
+pub steps_leave : (old : State) (core : ℕ) (event : Event) (new : State) → Steps old core event new → IsRefusedCall event
     → LeavesAll old new core
 steps_leave old core event new steps = step_leaves old core (event, new) (thread_at old core).state refl steps

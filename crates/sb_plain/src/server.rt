@@ -28,7 +28,7 @@ pub fn set_pool_word(state: &mut PlainState, process: u32, word: u64)
 
 /// What the process of a number told as a server, if it did.
 #[tactic(auto, unfolding(sb_state::specs::State::registration_at, sb_state::specs::State::process_at))]
-pub fn registration_of(state: &PlainState, process: usize) -> Option<Registration>
+pub fn registration_at(state: &PlainState, process: usize) -> Option<Registration>
     ensures told { result ≡ registration_at state.now process }
     ensures number { IsSome result → process < 2 ^ 32 }
 {
@@ -39,7 +39,7 @@ pub fn registration_of(state: &PlainState, process: usize) -> Option<Registratio
 pub fn handler_of(state: &PlainState, process: u32) -> u64
     ensures { result ≡ handler_in (registration_at state.now process) }
 {
-    match registration_of(state, process as usize) {
+    match registration_at(state, process as usize) {
         Some(registration) => registration.handler,
         None => 0,
     }

@@ -5,28 +5,28 @@ use Rattle.sb_insn.specs.declared.registers.Flags.{Flags}
 use Rattle.sb_alu.specs.declared.size.Size.{Size}
 use Rattle.sb_alu.specs.declared.operation.Operation.{Operation}
 use Rattle.sb_alu.specs.declared.operation.Operation.TheVariants as operation
-use Rattle.sb_alu.specs.declared.operation.Outcome.{Outcome}
+use Rattle.sb_alu.specs.declared.operation.OperationOutcome.{OperationOutcome}
 use Rattle.sb_alu.specs.Size.{modulus}
 use Rattle.sb_alu.specs.Arithmetic.{sum_outcome, difference_outcome, logic_outcome, product_outcome}
 use Rattle.sb_alu.specs.Shift.{shift_count, shl_outcome, shr_outcome, sar_outcome, unless_zero}
 
 -- nothing is written
-abbrev pub without_value : Outcome → Outcome
+abbrev pub without_value : OperationOutcome → OperationOutcome
 without_value outcome = record outcome { value = None }
 
 -- CF stays
-abbrev pub keeping_carry : Flags → Outcome → Outcome
+abbrev pub keeping_carry : Flags → OperationOutcome → OperationOutcome
 keeping_carry flags outcome = record outcome { flags = record (outcome.flags) { cf = flags.cf } }
 
 -- The place of the lowest bit that is set. ZF says that there is none: then nothing is written. The other flags stay.
-unfoldable pub bsf_outcome : ℕ → Flags → Outcome
+unfoldable pub bsf_outcome : ℕ → Flags → OperationOutcome
 bsf_outcome value flags = record {
   value = if value == 0 then None else Some (trailing_zeros w64 value);
   flags = record flags { zf = value == 0 };
 }
 
 -- what an operation gives on two numbers, from these flags; of the shifts the second is the count
-unfoldable pub operation_outcome : Operation → Size → ℕ → ℕ → Flags → Outcome
+unfoldable pub operation_outcome : Operation → Size → ℕ → ℕ → Flags → OperationOutcome
 operation_outcome operation.Add size first second flags = sum_outcome size first second
 operation_outcome operation.Or size first second flags = logic_outcome size (bit_or first second)
 operation_outcome operation.And size first second flags = logic_outcome size (bit_and first second)

@@ -1,5 +1,5 @@
 use Rattle.skybridge.specs.declared.words.Command.TheVariants.{OfBundle}
-use Rattle.skybridge.proofs.top.bridge.Goals as goal
+use Rattle.skybridge.proofs.bridge.bridge.Goals as goal
 
 pub returns-in-None-clause-long : goal.returns-in-None-clause-long
 returns-in-None-clause-long g c (command, are) told quiet = absurd (c.in-None.ensures.none (OfBundle command, are))

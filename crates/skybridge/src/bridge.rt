@@ -50,10 +50,10 @@ impl Status {
     }
 }
 
-// The most bytes of an input.
+/// The most bytes of an input.
 const INPUT_LIMIT: usize = 67_108_864;
 
-// Writes the line of a refusal, as far as the sink takes it. The status is the refusal's.
+/// Writes the line of a refusal, as far as the sink takes it. The status is the refusal's.
 fn refuse<K: Sink>(sink: &mut K, line: &str, status: Status) -> Status
     ensures same { result ≡ status }
     ensures written { WritesLine (K.held sink.old) (K.held sink.new) (K.faults sink.old) (K.faults sink.new) line.now }
@@ -63,7 +63,7 @@ fn refuse<K: Sink>(sink: &mut K, line: &str, status: Status) -> Status
     status
 }
 
-// Writes the line of a refusal with this status, if there is memory for the line.
+/// Writes the line of a refusal with this status, if there is memory for the line.
 fn refuse_by<K: Sink>(sink: &mut K, line: Result<String, AllocError>, status: Status) -> Status
     ensures written { MatchResult line
         (λ text. (result ≡ status) × WritesLine (K.held sink.old) (K.held sink.new) (K.faults sink.old) (K.faults sink.new) (string_bytes text))
@@ -76,7 +76,7 @@ fn refuse_by<K: Sink>(sink: &mut K, line: Result<String, AllocError>, status: St
     }
 }
 
-// Writes bytes, as far as the sink takes them.
+/// Writes bytes, as far as the sink takes them.
 fn write_bytes<K: Sink>(sink: &mut K, bytes: &[u8]) -> Status
     ensures done { result ≡ Status.Done → Appended (K.held sink.old) (K.held sink.new) bytes.now }
     ensures write_fault { result ≡ Status.WriteFault → Rose (K.faults sink.old) (K.faults sink.new) }
@@ -89,7 +89,7 @@ fn write_bytes<K: Sink>(sink: &mut K, bytes: &[u8]) -> Status
     }
 }
 
-// Writes what was made, where there was memory for it.
+/// Writes what was made, where there was memory for it.
 fn write_made<K: Sink>(sink: &mut K, made: Result<Vec<u8>, AllocError>) -> Status
     ensures done { result ≡ Status.Done → IsOkAnd made (λ bytes. Appended (K.held sink.old) (K.held sink.new) bytes.items) }
     ensures write_fault { result ≡ Status.WriteFault → Rose (K.faults sink.old) (K.faults sink.new) }
@@ -104,7 +104,7 @@ fn write_made<K: Sink>(sink: &mut K, made: Result<Vec<u8>, AllocError>) -> Statu
     }
 }
 
-// Runs a command on the bundle that the source gives.
+/// Runs a command on the bundle that the source gives.
 #[tactic(auto, using(crate::proofs::Lawful::lawful))]
 fn run_on_bundle<S: Source, K: Sink>(
     alloc: Global,
@@ -168,7 +168,7 @@ fn run_on_bundle<S: Source, K: Sink>(
     }
 }
 
-// The bytes of a text, where there was memory for it.
+/// The bytes of a text, where there was memory for it.
 fn bytes_of(text: Result<String, AllocError>) -> Result<Vec<u8>, AllocError>
     ensures { MatchResult text (λ text. IsOkAnd result (λ bytes. bytes.items ≡ string_bytes text)) (λ _. IsErr result) }
 {
