@@ -27,7 +27,9 @@ pub record Placement : Type 0 where
 -- the bytes of a slot; only an instruction that is moved has one
 abbrev pub slot_bytes : Form → List ℕ
 slot_bytes (form.Moved pre main post) = pre ++ (main ++ post)
-slot_bytes _ = []
+slot_bytes form.Keep = []
+slot_bytes (form.InPlace bytes) = []
+slot_bytes form.Unmovable = []
 
 -- the byte before the address is 0F in the text; before the first one is none
 abbrev pub is_after_0f : List ℕ → ℕ → Bool

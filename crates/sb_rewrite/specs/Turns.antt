@@ -103,13 +103,20 @@ Remembers old new text_insn (Ok done) =
     ¬ IsFar (direct_target text_insn.insn text_insn.at) × (new ≡ old ++ jumps_to text_insn.at (direct_target text_insn.insn text_insn.at))
 Remembers old new text_insn (Err (BadTarget at)) = IsFar (direct_target text_insn.insn text_insn.at)
 Remembers old new text_insn (Err Memory) = Unit {0}
-Remembers old new text_insn (Err _) = ⊥
+Remembers old new text_insn (Err (Undecoded at)) = ⊥
+Remembers old new text_insn (Err (Unmovable at)) = ⊥
+Remembers old new text_insn (Err (AreaFull at)) = ⊥
+Remembers old new text_insn (Err (Left at)) = ⊥
 
 -- all remembered jumps lead to starts, or one does not
 abbrev pub ChecksJumps : List Jump → List ℕ → Result (Unit {0}) RewriteRefusal → Type 0
 ChecksJumps jumps starts (Ok done) = All (λ jump. Contains starts jump.target) jumps
 ChecksJumps jumps starts (Err (BadTarget at)) = (jump : Jump) × Contains jumps jump × ¬ Contains starts jump.target
-ChecksJumps jumps starts (Err _) = ⊥
+ChecksJumps jumps starts (Err (Undecoded at)) = ⊥
+ChecksJumps jumps starts (Err (Unmovable at)) = ⊥
+ChecksJumps jumps starts (Err (AreaFull at)) = ⊥
+ChecksJumps jumps starts (Err (Left at)) = ⊥
+ChecksJumps jumps starts (Err Memory) = ⊥
 
 -- ---- a whole text
 
@@ -124,7 +131,11 @@ IsFirstOf Holds text at = (of_text : List Placement) × ArePlaces text of_text �
 abbrev pub ChecksTargets : List ℕ → Result (Unit {0}) RewriteRefusal → Type 0
 ChecksTargets text (Ok done) = JumpsLeadWell text
 ChecksTargets text (Err (BadTarget at)) = IsFirstOf (λ of_text. HasBadTarget (starts_of of_text)) text at
-ChecksTargets text (Err _) = ⊥
+ChecksTargets text (Err (Undecoded at)) = ⊥
+ChecksTargets text (Err (Unmovable at)) = ⊥
+ChecksTargets text (Err (AreaFull at)) = ⊥
+ChecksTargets text (Err (Left at)) = ⊥
+ChecksTargets text (Err Memory) = ⊥
 
 -- something can stand in place of each instruction of the text
 abbrev pub AllMovable : List ℕ → Type 0
@@ -133,7 +144,11 @@ AllMovable text = (of_text : List Placement) × ArePlaces text of_text × NoneOf
 abbrev pub ChecksMovable : List ℕ → Result (Unit {0}) RewriteRefusal → Type 0
 ChecksMovable text (Ok done) = AllMovable text
 ChecksMovable text (Err (Unmovable at)) = IsFirstOf (λ of_text. IsUnmovable) text at
-ChecksMovable text (Err _) = ⊥
+ChecksMovable text (Err (Undecoded at)) = ⊥
+ChecksMovable text (Err (BadTarget at)) = ⊥
+ChecksMovable text (Err (AreaFull at)) = ⊥
+ChecksMovable text (Err (Left at)) = ⊥
+ChecksMovable text (Err Memory) = ⊥
 
 -- What stands in place of the instructions, where it all can be put.
 abbrev pub IsAllPut : List ℕ → Output → Type 0
