@@ -14,11 +14,11 @@ ghost use Rattle.sb_exec.specs.Exchanged.{
 
 use crate::action::{After, Exchange, Location};
 use crate::address::rm_location;
-use crate::operand::{reg_number, register_value, set_register};
+use crate::operand::{register_value, set_register};
 use crate::write_back::{regs_at_next, rm_value, written};
 use sb_alu::{Size, difference_outcome, sum, sum_outcome};
 use sb_insn::registers::RAX;
-use sb_insn::{Insn, Regs};
+use sb_insn::{Insn, Regs, reg_number};
 
 /// reg gets what rm held, and then rm the new value.
 fn xchg_result(
@@ -115,7 +115,7 @@ fn exchange(
 pub fn exchange_after(kind: Exchange, size: Size, insn: &Insn, regs: &Regs, loaded: u64) -> After
     ensures { result ≡ exchange_after kind size insn.now regs.now loaded }
 {
-    let number = reg_number(insn);
+    let number = usize::from(reg_number(insn));
     let old = rm_value(size, insn, regs, loaded);
     let source = register_value(size, number, regs);
     exchange(

@@ -22,10 +22,10 @@ use crate::branch::{
     jumped_if, popped_into, regs_after_pop, regs_after_push, stack_top, target, top_pushed,
 };
 use crate::exchanged::exchange_after;
-use crate::operand::{next_rip, opcode_number, reg_number, set_register};
+use crate::operand::{next_rip, set_register};
 use crate::write_back::{compute_result, last_operand, regs_at_next, rm_value};
 use sb_alu::{Operation, Size};
-use sb_insn::{Insn, OperandForm, Regs};
+use sb_insn::{Insn, OperandForm, Regs, opcode_number, reg_number};
 use sb_memory::Linear;
 
 // ---- registers, and the number that is stored
@@ -42,7 +42,7 @@ fn into_reg(size: Size, value: u64, insn: &Insn, regs: &Regs) -> After
     ensures { result ≡ into_reg size value insn.now regs.now }
 {
     let mut next = regs_at_next(insn, regs);
-    set_register(size, reg_number(insn), value, &mut next);
+    set_register(size, usize::from(reg_number(insn)), value, &mut next);
     keeping(next)
 }
 
@@ -67,7 +67,11 @@ pub fn after(action: Action, insn: &Insn, regs: &Regs, loaded: u64) -> After
             regs: regs_after_push(regs_at_next(insn, regs)),
             stored: last_operand(form, Size::Quadword, insn, regs, loaded),
         },
-        Action::Pop => keeping(popped_into(opcode_number(insn), loaded, regs_at_next(insn, regs))),
+        Action::Pop => keeping(popped_into(
+            usize::from(opcode_number(insn)),
+            loaded,
+            regs_at_next(insn, regs),
+        )),
         Action::Return => keeping(Regs {
             rip: loaded,
             ..regs_after_pop(*regs)
