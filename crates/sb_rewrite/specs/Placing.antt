@@ -1,7 +1,6 @@
 -- What stands in place of each instruction of a text, and where its slot in the rewrite area begins.
-use Rattle.std.specs.Prelude.{ℕ, ◌+◌, ◌-◌, ◌*◌, Bool, ◌&&◌, ◌==◌, nat_lt, List, [], ◌∷◌, ◌++◌, length, slice_index}
-use Rattle.sb_abi.specs.declared.space.TheConstants.{AREA_ADDRESS, AREA_PAGES}
-use Rattle.sb_memory.specs.declared.page.TheConstants.{PAGE_SIZE}
+use Rattle.std.specs.Prelude.{ℕ, ◌+◌, ◌-◌, Bool, ◌&&◌, ◌==◌, nat_lt, List, [], ◌∷◌, ◌++◌, length, slice_index}
+use Rattle.sb_abi.specs.declared.space.TheConstants.{AREA_ADDRESS}
 use Rattle.sb_insn.specs.declared.insn.Insn.{Insn}
 use Rattle.sb_insn.specs.Spelling.{spelling}
 use Rattle.sb_forms.specs.declared.answer.Form.{Form}
@@ -12,10 +11,6 @@ use Rattle.sb_rewrite.specs.Listing.{text_address}
 -- where the rewrite area begins
 abbrev pub area_address : ℕ
 area_address = AREA_ADDRESS
-
--- the first address behind it
-abbrev pub area_end : ℕ
-area_end = AREA_ADDRESS + AREA_PAGES * PAGE_SIZE
 
 -- an instruction of a text, its address, where the next slot begins, and what stands in its place
 pub record Placement : Type 0 where
