@@ -33,7 +33,8 @@ use Rattle.sb_exec.specs.declared.action.Load.{Load}
 use Rattle.sb_exec.specs.declared.action.Load.TheVariants as load
 use Rattle.sb_exec.specs.declared.action.Store.{Store}
 use Rattle.sb_exec.specs.declared.action.Store.TheVariants as store
-use Rattle.sb_exec.specs.Operand.{general, register_value, register_after_write, with_register, operand_value, reg_number, opcode_number, next_rip}
+use Rattle.sb_exec.specs.Operand.{general, register_value, register_after_write, with_register, operand_value, next_rip}
+use Rattle.sb_insn.specs.RegisterNumbers.{reg_number, opcode_number}
 use Rattle.sb_exec.specs.Address.{rm_location, operand_address, base_value, disp_value}
 use Rattle.sb_exec.specs.WriteBack.{regs_at_next, with_flags, write_result, rm_value, destination, first_operand, last_operand, result_or_nothing, compute_result}
 use Rattle.sb_exec.specs.Exchange.{xchg_result, cmpxchg_unequal, cmpxchg_result, exchange_of}

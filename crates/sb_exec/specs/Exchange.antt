@@ -10,7 +10,8 @@ use Rattle.sb_exec.specs.declared.action.Exchange.TheVariants as exchange
 use Rattle.sb_exec.specs.declared.action.Location.{Location}
 use Rattle.sb_exec.specs.declared.action.Location.TheVariants.{Register, Memory}
 use Rattle.sb_exec.specs.declared.action.RowResult.{RowResult}
-use Rattle.sb_exec.specs.Operand.{reg_number, register_value, with_register}
+use Rattle.sb_exec.specs.Operand.{register_value, with_register}
+use Rattle.sb_insn.specs.RegisterNumbers.{reg_number}
 use Rattle.sb_exec.specs.Address.{rm_location}
 use Rattle.sb_alu.specs.Arithmetic.{sum_outcome, difference_outcome, sum_of}
 use Rattle.sb_exec.specs.WriteBack.{regs_at_next, with_flags, without_store, with_store, write_result, rm_value}

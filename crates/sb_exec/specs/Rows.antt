@@ -22,7 +22,8 @@ use Rattle.sb_exec.specs.declared.action.Load.TheVariants as load
 use Rattle.sb_exec.specs.declared.action.Store.{Store}
 use Rattle.sb_exec.specs.declared.action.Store.TheVariants as store
 use Rattle.sb_exec.specs.declared.action.RowResult.{RowResult}
-use Rattle.sb_exec.specs.Operand.{reg_number, opcode_number, general, with_register, next_rip}
+use Rattle.sb_exec.specs.Operand.{general, with_register, next_rip}
+use Rattle.sb_insn.specs.RegisterNumbers.{reg_number, opcode_number}
 use Rattle.sb_exec.specs.Address.{linear, operand_address, rm_location}
 use Rattle.sb_exec.specs.WriteBack.{regs_at_next, without_store, with_store, rm_value, last_operand, compute_result}
 use Rattle.sb_exec.specs.Exchange.{exchange_after}

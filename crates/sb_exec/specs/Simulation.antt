@@ -24,7 +24,8 @@ WhereOk (Err stop) claim = Unit {0}
 -- an access to data; what is fetched may differ
 abbrev pub IsData : Access → Type 0
 IsData access.Fetch = ⊥
-IsData _ = Unit {0}
+IsData access.Read = Unit {0}
+IsData access.Write = Unit {0}
 
 -- ---- of which accesses something is said, by their addresses and sizes
 

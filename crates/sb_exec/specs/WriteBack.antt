@@ -15,7 +15,8 @@ use Rattle.sb_exec.specs.declared.action.Location.TheVariants.{Register, Memory}
 use Rattle.sb_alu.specs.declared.operation.OperationOutcome.{OperationOutcome}
 use Rattle.sb_exec.specs.declared.action.RowResult.{RowResult}
 use Rattle.sb_alu.specs.Size.{low}
-use Rattle.sb_exec.specs.Operand.{reg_number, opcode_number, operand_value, register_value, with_register, next_rip}
+use Rattle.sb_exec.specs.Operand.{operand_value, register_value, with_register, next_rip}
+use Rattle.sb_insn.specs.RegisterNumbers.{reg_number, opcode_number}
 use Rattle.sb_exec.specs.Address.{rm_location}
 use Rattle.sb_alu.specs.Outcome.{operation_outcome}
 

@@ -15,8 +15,11 @@ ghost use Rattle.sb_exec.specs.Address.{
 };
 
 use crate::action::Location;
-use crate::operand::{modrm_of, next_rip, rm_number};
-use sb_insn::{Disp, Insn, Regs, base, index, mod_field, rex_b, rex_x, rm_field, scale};
+use crate::operand::{next_rip, rm_number};
+use sb_insn::{
+    Disp, Insn, Regs, base, index, mod_field, modrm_of, register_number, rex_b, rex_x, rm_field,
+    scale,
+};
 use sb_memory::Linear;
 
 // ---- the SIB byte
@@ -33,7 +36,7 @@ fn index_number(insn: &Insn) -> usize
     ensures value { result ≡ index_number insn.now }
     ensures range { result < 16 }
 {
-    usize::from(index(sib_of(insn)) + 8 * rex_x(insn.rex))
+    usize::from(register_number(index(sib_of(insn)), rex_x(insn.rex)))
 }
 
 /// The register that base names.
@@ -41,7 +44,7 @@ fn base_number(insn: &Insn) -> usize
     ensures value { result ≡ base_number insn.now }
     ensures range { result < 16 }
 {
-    usize::from(base(sib_of(insn)) + 8 * rex_b(insn.rex))
+    usize::from(register_number(base(sib_of(insn)), rex_b(insn.rex)))
 }
 
 /// The index times 1, 2, 4 or 8.

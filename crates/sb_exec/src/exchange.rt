@@ -14,11 +14,11 @@ ghost use Rattle.sb_exec.specs.Exchange.{
 
 use crate::action::{Exchange, Location, RowResult};
 use crate::address::rm_location;
-use crate::operand::{reg_number, register_value, set_register};
+use crate::operand::{register_value, set_register};
 use crate::write_back::{regs_at_next, rm_value, write_result};
 use sb_alu::{Size, difference_outcome, sum_of, sum_outcome};
 use sb_insn::registers::RAX;
-use sb_insn::{Insn, Regs};
+use sb_insn::{Insn, Regs, reg_number};
 
 /// reg gets what rm held, and then rm the new value.
 fn xchg_result(
@@ -121,7 +121,7 @@ pub fn exchange_after(
 ) -> RowResult
     ensures { result ≡ exchange_after kind size insn.now regs.now loaded }
 {
-    let number = reg_number(insn);
+    let number = usize::from(reg_number(insn));
     let old = rm_value(size, insn, regs, loaded);
     let source = register_value(size, number, regs);
     exchange_of(

@@ -23,10 +23,10 @@ use crate::branch::{
     stack_top, target_of,
 };
 use crate::exchange::exchange_after;
-use crate::operand::{next_rip, opcode_number, reg_number, set_register};
+use crate::operand::{next_rip, set_register};
 use crate::write_back::{compute_result, last_operand, regs_at_next, rm_value};
 use sb_alu::{Operation, Size};
-use sb_insn::{Insn, OperandForm, Regs};
+use sb_insn::{Insn, OperandForm, Regs, opcode_number, reg_number};
 use sb_memory::Linear;
 
 // ---- registers, and the number that is stored
@@ -43,7 +43,7 @@ fn into_reg(size: Size, value: u64, insn: &Insn, regs: &Regs) -> RowResult
     ensures { result ≡ into_reg size value insn.now regs.now }
 {
     let mut next = regs_at_next(insn, regs);
-    set_register(size, reg_number(insn), value, &mut next);
+    set_register(size, usize::from(reg_number(insn)), value, &mut next);
     without_store(next)
 }
 
@@ -69,7 +69,7 @@ pub fn after_action(action: Action, insn: &Insn, regs: &Regs, loaded: u64) -> Ro
             stored: last_operand(form, Size::Quadword, insn, regs, loaded),
         },
         Action::Pop => without_store(regs_after_pop_into(
-            opcode_number(insn),
+            usize::from(opcode_number(insn)),
             loaded,
             regs_at_next(insn, regs),
         )),

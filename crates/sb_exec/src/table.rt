@@ -4,9 +4,9 @@ ghost use Rattle.std.specs.Prelude.{◌≡◌};
 ghost use Rattle.sb_exec.specs.Actions.{moved_size, condition_number, action_by, action_of};
 
 use crate::action::{Action, Effect, Exchange};
-use crate::operand::{last_opcode_byte, operand_size};
+use crate::operand::operand_size;
 use sb_alu::{Operation, Size};
-use sb_insn::{Insn, Mnemonic, OperandForm, instruction_of, modrm_opcode_of};
+use sb_insn::{Insn, Mnemonic, OperandForm, instruction_of, last_opcode_byte, modrm_opcode_of};
 
 /// The size of what MOV moves: a byte where the opcode says so.
 fn moved_size(insn: &Insn) -> Size

@@ -16,12 +16,10 @@ ghost use Rattle.sb_exec.specs.WriteBack.{
 
 use crate::action::{Location, RowResult};
 use crate::address::rm_location;
-use crate::operand::{
-    next_rip, opcode_number, operand_value, reg_number, register_value, set_register,
-};
+use crate::operand::{next_rip, operand_value, register_value, set_register};
 use sb_alu::{Operation, Size, operation_outcome};
 use sb_insn::registers::{RAX, RCX};
-use sb_insn::{Insn, OperandForm, Regs};
+use sb_insn::{Insn, OperandForm, Regs, opcode_number, reg_number};
 
 /// The registers at the next instruction.
 pub fn regs_at_next(insn: &Insn, regs: &Regs) -> Regs
@@ -73,8 +71,12 @@ fn destination(form: OperandForm, insn: &Insn, regs: &Regs) -> Location
         | OperandForm::RmCount
         | OperandForm::RmCl
         | OperandForm::Rm => rm_location(insn, regs),
-        OperandForm::RegRm | OperandForm::RegRmImm => Location::Register(reg_number(insn)),
-        OperandForm::OpcodeImm | OperandForm::Opcode => Location::Register(opcode_number(insn)),
+        OperandForm::RegRm | OperandForm::RegRmImm => Location::Register(usize::from(reg_number(
+            insn,
+        ))),
+        OperandForm::OpcodeImm | OperandForm::Opcode => Location::Register(usize::from(
+            opcode_number(insn),
+        )),
         OperandForm::AccImm | OperandForm::Imm | OperandForm::Relative | OperandForm::Nothing =>
             Location::Register(RAX),
     }
@@ -112,7 +114,7 @@ pub fn last_operand(form: OperandForm, size: Size, insn: &Insn, regs: &Regs, loa
     ensures range { result < modulus size }
 {
     match form {
-        OperandForm::RmReg => register_value(size, reg_number(insn), regs),
+        OperandForm::RmReg => register_value(size, usize::from(reg_number(insn)), regs),
         OperandForm::RegRm | OperandForm::Rm => rm_value(size, insn, regs, loaded),
         OperandForm::RmImm
         | OperandForm::AccImm
@@ -121,7 +123,7 @@ pub fn last_operand(form: OperandForm, size: Size, insn: &Insn, regs: &Regs, loa
         | OperandForm::Imm => size.low(insn.imm.value()),
         OperandForm::RmCount => Size::Byte.low(insn.imm.value()),
         OperandForm::RmCl => register_value(Size::Byte, RCX, regs),
-        OperandForm::Opcode => register_value(size, opcode_number(insn), regs),
+        OperandForm::Opcode => register_value(size, usize::from(opcode_number(insn)), regs),
         OperandForm::Relative => size.low(next_rip(insn, regs).wrapping_add(insn.imm.value())),
         OperandForm::Nothing => 0,
     }

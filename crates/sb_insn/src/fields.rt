@@ -313,7 +313,7 @@ fn rule_of(cell: Cell, modrm: Option<u8>) -> ImmRule
     match modrm {
         None => match cell {
             Cell::NoModRm(opcode) => opcode.imm,
-            _ => ImmRule::None,
+            Cell::Absent | Cell::ModRm(_) | Cell::Extended(..) => ImmRule::None,
         },
         Some(modrm) => match modrm_opcode(cell, reg_field(modrm)) {
             None => ImmRule::None,

@@ -8,7 +8,8 @@ use Rattle.sb_insn.specs.Spelling.{spelling}
 use Rattle.sb_bundle.specs.declared.bundle.Image.{Image}
 use Rattle.sb_bundle.specs.Limits.{IsImage}
 use Rattle.sb_rewrite.specs.Listing.{text_address}
-use Rattle.sb_rewrite.specs.Placing.{Placement, slot_bytes, place, places_from, places, area_address, area_end}
+use Rattle.sb_forms.specs.Answers.{area_end}
+use Rattle.sb_rewrite.specs.Placing.{Placement, slot_bytes, place, places_from, places, area_address}
 use Rattle.sb_rewrite.specs.RewrittenText.{RewrittenText, area_bytes}
 use Rattle.sb_rewrite.specs.Rewriting.{EndsBehindArea, NoneOf, Rewrites}
 use Rattle.sb_rewrite.proofs.Ordered.{ordered}

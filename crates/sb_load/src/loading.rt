@@ -21,7 +21,11 @@ fn refusal_of(process: u32, why: RewriteRefusal) -> LoadRefusal
 {
     match why {
         RewriteRefusal::Memory => LoadRefusal::Memory,
-        _ => LoadRefusal::Process { process, why },
+        RewriteRefusal::Undecoded { .. }
+        | RewriteRefusal::BadTarget { .. }
+        | RewriteRefusal::Unmovable { .. }
+        | RewriteRefusal::AreaFull { .. }
+        | RewriteRefusal::Left { .. } => LoadRefusal::Process { process, why },
     }
 }
 

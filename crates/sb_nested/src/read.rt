@@ -3,7 +3,7 @@
 ghost use Rattle.std.specs.Prelude.{◌≡◌, ◌*◌, ◌%◌, ◌≤◌, ◌<◌, ◌^◌, IfOk};
 ghost use Rattle.sb_memory.specs.Accounts.{account_after_reads};
 ghost use Rattle.sb_bus.specs.Access.{byte_for, loaded_from};
-ghost use Rattle.sb_nested.specs.Stop.{stop_at};
+ghost use Rattle.sb_nested.specs.Stop.{ept_stop, table_stop, walk_stop, stop_at};
 ghost use Rattle.sb_nested.specs.View.{byte_calls, view_byte};
 ghost use Rattle.sb_nested.specs.Store.{load_calls};
 
@@ -12,18 +12,51 @@ use sb_bus::{BusStop, FaultKind};
 use sb_memory::{Access, EptStop, Linear};
 use sb_walks::{NestedStop, TableStop, WalkStop};
 
+/// What an instruction meets where the EPT refuses: the missing frame of a table, or a fault.
+fn ept_stop(at: Linear, stop: EptStop) -> BusStop
+    ensures { result ≡ ept_stop at.0 stop }
+{
+    match stop {
+        EptStop::Missing(frame) => BusStop::Missing(frame),
+        EptStop::TooWide
+        | EptStop::NotPresent { .. }
+        | EptStop::Misconfigured { .. }
+        | EptStop::Large { .. }
+        | EptStop::Outside { .. }
+        | EptStop::Denied { .. } => BusStop::Fault(FaultKind::Memory, at),
+    }
+}
+
+/// What it meets where an entry of the guest's tables cannot be read.
+fn table_stop(at: Linear, stop: TableStop) -> BusStop
+    ensures { result ≡ table_stop at.0 stop }
+{
+    match stop {
+        TableStop::Missing(frame) => BusStop::Missing(frame),
+        TableStop::Ept(stop) => ept_stop(at, stop),
+    }
+}
+
+/// What it meets where the guest's walk is refused.
+fn walk_stop(at: Linear, stop: WalkStop) -> BusStop
+    ensures { result ≡ walk_stop at.0 stop }
+{
+    match stop {
+        WalkStop::NonCanonical => BusStop::Fault(FaultKind::Canon, at),
+        WalkStop::Table(stop) => table_stop(at, stop),
+        WalkStop::NotPresent { .. } | WalkStop::Large { .. } | WalkStop::Denied { .. } => {
+            BusStop::Fault(FaultKind::Memory, at)
+        }
+    }
+}
+
 /// What an instruction meets where the walk of an address is refused.
 pub fn stop_at(at: Linear, stop: NestedStop) -> BusStop
     ensures { result ≡ stop_at at.0 stop }
 {
     match stop {
-        NestedStop::Walk(WalkStop::NonCanonical) => BusStop::Fault(FaultKind::Canon, at),
-        NestedStop::Walk(WalkStop::Table(TableStop::Missing(frame))) => BusStop::Missing(frame),
-        NestedStop::Walk(WalkStop::Table(TableStop::Ept(EptStop::Missing(frame)))) => {
-            BusStop::Missing(frame)
-        }
-        NestedStop::Page(EptStop::Missing(frame)) => BusStop::Missing(frame),
-        _ => BusStop::Fault(FaultKind::Memory, at),
+        NestedStop::Walk(stop) => walk_stop(at, stop),
+        NestedStop::Page(stop) => ept_stop(at, stop),
     }
 }
 

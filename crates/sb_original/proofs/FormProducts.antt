@@ -10,14 +10,13 @@ use Rattle.sb_original.proofs.Pieces.{save_does}
 use Rattle.sb_original.proofs.Helpers.{second_unnamed, first_unnamed, helpers_differ}
 use Rattle.sb_original.proofs.Classes.{number_shown}
 use Rattle.sb_original.proofs.Memory.{memory_place, memory_mod, address_below}
-use Rattle.sb_original.proofs.Fields.{modrm_same, with_b, reg_number_same}
+use Rattle.sb_original.proofs.Fields.{with_b}
 use Rattle.sb_original.proofs.Saves.{save_done_first, save_done_second, staged_done, staged_then, address_saves, constant_saves}
 use Rattle.sb_original.specs.Work.{IsEntered}
 use Rattle.sb_forms.proofs.Leads.{b_1}
 use Rattle.sb_forms.specs.Answers.{IsSmall}
 use Rattle.sb_forms.specs.Table.{spelled_bytes, move_outcome, bytes_of, constant_form, address_and_constant_form}
 use Rattle.sb_forms.specs.Registers as forms
-use Rattle.sb_insn.specs.RegisterNumbers as encoded
 use Rattle.sb_insn.specs.Rex.{with_r_b}
 use Rattle.sb_forms.specs.declared.slots.Site.{Site}
 use Rattle.sb_insn.specs.Fields.{mod_field, rex_b, has_memory}
@@ -39,13 +38,13 @@ use Rattle.sb_exec.specs.declared.action.Location.{Location}
 use Rattle.sb_exec.specs.declared.action.Location.TheVariants.{Register, Memory}
 use Rattle.sb_exec.specs.Interface.{Interface}
 use Rattle.sb_insn.specs.Branch.{imm_value}
-use Rattle.sb_exec.specs.Operand.{reg_number, operand_size, general, next_rip, with_register, modrm_of, rm_number}
+use Rattle.sb_exec.specs.Operand.{operand_size, general, next_rip, with_register, rm_number}
+use Rattle.sb_insn.specs.RegisterNumbers.{reg_number, modrm_of}
 use Rattle.sb_exec.specs.Address.{rm_location, linear, operand_address}
 use Rattle.sb_exec.specs.WriteBack.{regs_at_next, with_flags, without_store, write_result, result_or_nothing, rm_value}
 use Rattle.sb_exec.specs.Actions.{action_for, action_of, action_by}
 use Rattle.sb_exec.specs.Rows.{row_of, row_by, load_by, store_by}
 use Rattle.sb_forms.specs.declared.helper.Helper.{Helper}
-use Rattle.sb_insn.specs.RegisterNumbers.{byte_of}
 use Rattle.sb_forms.specs.Registers.{number_of, is_number, is_named, first_helper, second_helper}
 use Rattle.sb_forms.specs.Pieces.{first_saved, second_saved, restore, jump_insn, save, load_constant, load_address_of_operand}
 use Rattle.sb_forms.specs.Mains.{with_constant, move_product, at_helper, own_register, on_register, behind_main}
@@ -256,8 +255,7 @@ work_action insn instruction value work =
 product_free : (numbers : List ℕ) (insn : Insn) (instruction : Instruction) (value : ℤ) → IsProductWork insn instruction value
     → NamesNone instruction.form insn numbers → hides numbers (reg_number insn) ≡ false
 product_free numbers insn instruction value work none =
-    ap (λ (n : ℕ). hides numbers n) (sym (reg_number_same insn))
-    ∙ number_shown (encoded.reg_number insn) instruction.form insn numbers (ap (λ k. forms.form_number k insn) work.form) none
+    number_shown (reg_number insn) instruction.form insn numbers (ap (λ k. forms.form_number k insn) work.form) none
 
 pub product_slot : {M A N : Type 0} (bus : Interface M A) (Holds : Words → M → N
     → Type 0) (insn : Insn) (instruction : Instruction) (value : ℤ) (helper : Helper) (site : Site) (start : ℕ) (state : Slotted)
@@ -297,11 +295,11 @@ product_slot bus Holds insn instruction value helper site start state has work f
     ap (λ (rest : List Insn). save helper first_saved ∷ rest) (insns_staged saves (load_constant helper value)) in
     let before : Before bus Holds start old stages state ready =
     (first, save_does bus Holds helper FirstSaved state has, refl, kept first agree refl, loads.before) in
-    let low_field = byte_of insn.modrm % 8 in
+    let low_field = modrm_of insn % 8 in
     let known : IsRegister operand low_field 0 = record { mod_rm = refl; within = omega arith; rex = b_1 insn.rex } in
     let three : mod_field (modrm_of insn) ≡ 3 = ap (λ (m : Option ℕ). mod_field (unwrap_or m 0)) modrm.1 ∙ modrm.2 in
     let number : low_field + 8 * rex_b (with_r_b insn.rex 0 (rex_b insn.rex)) ≡ rm_number insn =
-    omega (arith, modrm_same insn.modrm, with_b insn.rex 0 (omega arith)) in
+    omega (arith, with_b insn.rex 0 (omega arith)) in
     let there = register_place insn old three in
     let bit : operand.rex_b ≤ 1 = b_1 insn.rex in
     let mains : IsProductMain numbers insn main helper value old ready.regs = record {

@@ -5,7 +5,7 @@ use Rattle.std.specs.List.{AllByRecursion}
 use Rattle.sb_insn.specs.declared.insn.Insn.{Insn}
 use Rattle.sb_insn.specs.declared.registers.Regs.{Regs}
 use Rattle.sb_alu.specs.declared.size.Size.{Size}
-use Rattle.sb_alu.specs.declared.size.Size.TheVariants.{Doubleword}
+use Rattle.sb_alu.specs.declared.size.Size.TheVariants.{Byte, Doubleword, Quadword}
 use Rattle.sb_exec.specs.declared.action.Effect.TheVariants.{Next}
 use Rattle.sb_exec.specs.declared.action.Load.{Load}
 use Rattle.sb_exec.specs.declared.action.Load.TheVariants as load
@@ -49,7 +49,8 @@ loaded_word (load.ReadForWrite address size) words = word_at address.0 words
 -- the third word is stored whole or by halves
 abbrev pub third_stored : Size → ℕ → Words → Words
 third_stored Doubleword value words = with_lower value words
-third_stored _ value words = with_word Third value words
+third_stored Quadword value words = with_word Third value words
+third_stored Byte value words = with_word Third value words
 
 abbrev pub word_stored : ℕ → Size → ℕ → Words → Words
 word_stored address size value words =

@@ -8,7 +8,8 @@ use Rattle.sb_forms.specs.declared.answer.Form.{Form}
 use Rattle.sb_forms.specs.declared.answer.Form.TheVariants as form
 use Rattle.sb_rewrite.specs.declared.edit.Move.{Move}
 use Rattle.sb_rewrite.specs.Listing.{text_address}
-use Rattle.sb_rewrite.specs.Placing.{Placement, slot_bytes, area_address, area_end}
+use Rattle.sb_forms.specs.Answers.{area_end}
+use Rattle.sb_rewrite.specs.Placing.{Placement, slot_bytes, area_address}
 use Rattle.sb_rewrite.specs.RewrittenText.{RewrittenText, rewritten_text, starts_of, moves_of, moves_by, IsOrdered, IsMain, RunsAt}
 use Rattle.sb_rewrite.specs.Rewriting.{EndsBehindArea, NoneOf, ArePlaces, OneOriginal}
 use Rattle.sb_list.proofs.Search.{in_order}

@@ -8,7 +8,8 @@ use Rattle.sb_rewrite.specs.declared.refusal.RewriteRefusal.{RewriteRefusal}
 use Rattle.sb_rewrite.specs.declared.refusal.RewriteRefusal.TheVariants.{Undecoded, BadTarget, Unmovable, AreaFull, Left, Memory}
 use Rattle.sb_rewrite.specs.Listing.{text_address, spelled_bytes, AllValid, IsUndecodedAt}
 use Rattle.sb_rewrite.specs.Target.{direct_target, IsBadTarget}
-use Rattle.sb_rewrite.specs.Placing.{Placement, slot_bytes, places, area_address, area_end}
+use Rattle.sb_forms.specs.Answers.{area_end}
+use Rattle.sb_rewrite.specs.Placing.{Placement, slot_bytes, places, area_address}
 use Rattle.sb_rewrite.specs.RewrittenText.{RewrittenText, rewritten_text, starts_of, RunsAt, IsBetween}
 
 -- ---- what is wrong with an instruction

@@ -36,7 +36,8 @@ edits_by (form.Moved pre main post) place =
       old_len = length (spelling place.insn);
       slot = Some (place.slot, length (pre ++ (main ++ post)));
     } ∷ []
-edits_by _ place = []
+edits_by form.Keep place = []
+edits_by form.Unmovable place = []
 
 abbrev pub edits_of : Placement → List Edit
 edits_of place = edits_by place.form place
@@ -44,7 +45,9 @@ edits_of place = edits_by place.form place
 -- where the main of a moved instruction stands
 abbrev pub moves_by : Form → Placement → List Move
 moves_by (form.Moved pre main post) place = record { start = place.at; main = place.slot + length pre } ∷ []
-moves_by _ place = []
+moves_by form.Keep place = []
+moves_by (form.InPlace bytes) place = []
+moves_by form.Unmovable place = []
 
 abbrev pub moves_of : Placement → List Move
 moves_of place = moves_by place.form place

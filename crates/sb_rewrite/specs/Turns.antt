@@ -1,5 +1,5 @@
 -- What one turn of a rewriter's loop does: an instruction is decoded, and what stands in its place is put.
-use Rattle.std.specs.Prelude.{◌≡◌, ℕ, ◌+◌, ◌-◌, ◌*◌, ◌≤◌, Bool, ◌&&◌, nat_le, nat_lt, if◌then◌else◌, List, [], ◌∷◌, ◌++◌, length, All, Contains, Option, Some, None, Result, Ok, Err}
+use Rattle.std.specs.Prelude.{◌≡◌, ℕ, ◌+◌, ◌-◌, ◌≤◌, Bool, ◌&&◌, nat_le, nat_lt, if◌then◌else◌, List, [], ◌∷◌, ◌++◌, length, All, Contains, Option, Some, None, Result, Ok, Err}
 use Rattle.sb_insn.specs.declared.insn.Insn.{Insn}
 use Rattle.sb_insn.specs.Spelling.{spelling}
 use Rattle.sb_insn.specs.Grammar.{IsValid, BeginsWith}
@@ -9,9 +9,8 @@ use Rattle.sb_rewrite.specs.declared.refusal.RewriteRefusal.TheVariants.{Undecod
 use Rattle.sb_rewrite.specs.declared.target.Jump.{Jump}
 use Rattle.sb_rewrite.specs.Listing.{text_address, IsUndecodedAt}
 use Rattle.sb_rewrite.specs.Target.{direct_target}
-use Rattle.sb_abi.specs.declared.space.TheConstants.{TEXT_ADDRESS, WINDOW_PAGES}
-use Rattle.sb_memory.specs.declared.page.TheConstants.{PAGE_SIZE}
-use Rattle.sb_forms.specs.Places.{IsPermitted}
+use Rattle.sb_abi.specs.declared.space.TheConstants.{TEXT_ADDRESS}
+use Rattle.sb_forms.specs.Places.{text_end, IsPermitted}
 use Rattle.sb_forms.specs.declared.answer.Form.{Form}
 use Rattle.sb_forms.specs.declared.answer.Form.TheVariants as form
 use Rattle.sb_rewrite.specs.Placing.{Placement, area_address}
@@ -85,7 +84,7 @@ Puts old new place (Err Memory) = Unit {0}
 
 -- an address that a text can have
 abbrev pub is_in_text : ℕ → Bool
-is_in_text address = nat_le TEXT_ADDRESS address && nat_lt address (TEXT_ADDRESS + WINDOW_PAGES * PAGE_SIZE)
+is_in_text address = nat_le TEXT_ADDRESS address && nat_lt address text_end
 
 -- there is a target, and it is neither such an address nor in the trampoline
 abbrev pub IsFar : Option ℕ → Type 0
@@ -103,13 +102,20 @@ Remembers old new text_insn (Ok done) =
     ¬ IsFar (direct_target text_insn.insn text_insn.at) × (new ≡ old ++ jumps_to text_insn.at (direct_target text_insn.insn text_insn.at))
 Remembers old new text_insn (Err (BadTarget at)) = IsFar (direct_target text_insn.insn text_insn.at)
 Remembers old new text_insn (Err Memory) = Unit {0}
-Remembers old new text_insn (Err _) = ⊥
+Remembers old new text_insn (Err (Undecoded at)) = ⊥
+Remembers old new text_insn (Err (Unmovable at)) = ⊥
+Remembers old new text_insn (Err (AreaFull at)) = ⊥
+Remembers old new text_insn (Err (Left at)) = ⊥
 
 -- all remembered jumps lead to starts, or one does not
 abbrev pub ChecksJumps : List Jump → List ℕ → Result (Unit {0}) RewriteRefusal → Type 0
 ChecksJumps jumps starts (Ok done) = All (λ jump. Contains starts jump.target) jumps
 ChecksJumps jumps starts (Err (BadTarget at)) = (jump : Jump) × Contains jumps jump × ¬ Contains starts jump.target
-ChecksJumps jumps starts (Err _) = ⊥
+ChecksJumps jumps starts (Err (Undecoded at)) = ⊥
+ChecksJumps jumps starts (Err (Unmovable at)) = ⊥
+ChecksJumps jumps starts (Err (AreaFull at)) = ⊥
+ChecksJumps jumps starts (Err (Left at)) = ⊥
+ChecksJumps jumps starts (Err Memory) = ⊥
 
 -- ---- a whole text
 
@@ -124,7 +130,11 @@ IsFirstOf Holds text at = (of_text : List Placement) × ArePlaces text of_text �
 abbrev pub ChecksTargets : List ℕ → Result (Unit {0}) RewriteRefusal → Type 0
 ChecksTargets text (Ok done) = JumpsLeadWell text
 ChecksTargets text (Err (BadTarget at)) = IsFirstOf (λ of_text. HasBadTarget (starts_of of_text)) text at
-ChecksTargets text (Err _) = ⊥
+ChecksTargets text (Err (Undecoded at)) = ⊥
+ChecksTargets text (Err (Unmovable at)) = ⊥
+ChecksTargets text (Err (AreaFull at)) = ⊥
+ChecksTargets text (Err (Left at)) = ⊥
+ChecksTargets text (Err Memory) = ⊥
 
 -- something can stand in place of each instruction of the text
 abbrev pub AllMovable : List ℕ → Type 0
@@ -133,7 +143,11 @@ AllMovable text = (of_text : List Placement) × ArePlaces text of_text × NoneOf
 abbrev pub ChecksMovable : List ℕ → Result (Unit {0}) RewriteRefusal → Type 0
 ChecksMovable text (Ok done) = AllMovable text
 ChecksMovable text (Err (Unmovable at)) = IsFirstOf (λ of_text. IsUnmovable) text at
-ChecksMovable text (Err _) = ⊥
+ChecksMovable text (Err (Undecoded at)) = ⊥
+ChecksMovable text (Err (BadTarget at)) = ⊥
+ChecksMovable text (Err (AreaFull at)) = ⊥
+ChecksMovable text (Err (Left at)) = ⊥
+ChecksMovable text (Err Memory) = ⊥
 
 -- What stands in place of the instructions, where it all can be put.
 abbrev pub IsAllPut : List ℕ → RewrittenText → Type 0

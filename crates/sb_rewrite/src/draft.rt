@@ -4,7 +4,8 @@ ghost use Rattle.std.specs.Prelude.{◌≡◌, ◌+◌, ◌-◌, ◌≤◌, ◌+
 ghost use Rattle.sb_insn.specs.Spelling.{spelling};
 ghost use Rattle.sb_forms.specs.Pieces.{jump_insn};
 ghost use Rattle.sb_forms.specs.Answers.{HasRoom, FitsSlot};
-ghost use Rattle.sb_rewrite.specs.Placing.{area_address, area_end};
+ghost use Rattle.sb_forms.specs.Answers.{area_end};
+ghost use Rattle.sb_rewrite.specs.Placing.{area_address};
 ghost use Rattle.sb_rewrite.specs.RewrittenText.{IsOrdered};
 ghost use Rattle.sb_rewrite.specs.Turns.{IsTextInsn, started, keep, moved, in_place, next_place, with_start, Puts, IsFirstLeft};
 

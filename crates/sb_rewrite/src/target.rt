@@ -2,7 +2,8 @@
 
 ghost use Rattle.std.specs.Prelude.{◌≡◌, ◌↔◌, IsTrue};
 ghost use Rattle.std.specs.List.Sorted.{IsStrictlyIncreasing};
-ghost use Rattle.sb_rewrite.specs.Target.{InTrampoline, IsBadTarget};
+ghost use Rattle.sb_forms.specs.Places.{IsInTrampoline};
+ghost use Rattle.sb_rewrite.specs.Target.{IsBadTarget};
 ghost use Rattle.sb_rewrite.specs.Turns.{is_in_text, Remembers, ChecksJumps};
 
 use crate::listing::Listing;
@@ -22,7 +23,7 @@ pub(crate) struct Jump {
 
 /// Whether the address is in the trampoline page, to which any text may jump.
 fn is_in_trampoline(target: u64) -> bool
-    ensures { IsTrue result ↔ InTrampoline target }
+    ensures { IsTrue result ↔ IsInTrampoline target }
 {
     TRAMPOLINE_ADDRESS <= target && target < TRAMPOLINE_ADDRESS + PAGE_SIZE
 }

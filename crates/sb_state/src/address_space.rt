@@ -134,7 +134,14 @@ pub fn mode_of(name: PageName, executable: bool) -> Mode
         | PageName::HomeTrampoline
         | PageName::ServerTrampoline => Mode::Fetch,
         PageName::Record(_, _) => Mode::Read,
-        _ => Mode::ReadWrite,
+        PageName::Data(_, _)
+        | PageName::Heap(_, _)
+        | PageName::Pool(_)
+        | PageName::ServerStack(_, _)
+        | PageName::Save(_)
+        | PageName::Stack(_, _)
+        | PageName::Buffer(_, _, _)
+        | PageName::Scratch(_, _) => Mode::ReadWrite,
     }
 }
 
@@ -146,6 +153,8 @@ pub fn permits(mode: Mode, access: Access) -> bool
         (Mode::Fetch, Access::Fetch)
         | (Mode::Read, Access::Read)
         | (Mode::ReadWrite, Access::Read | Access::Write) => true,
-        _ => false,
+        (Mode::Fetch, Access::Read | Access::Write)
+        | (Mode::Read, Access::Write | Access::Fetch)
+        | (Mode::ReadWrite, Access::Fetch) => false,
     }
 }

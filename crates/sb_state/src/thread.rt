@@ -71,12 +71,19 @@ impl PlainState {
         }
     }
 
-    /// The flight of the thread of a core, where it is in flight.
+    /// The flight of the thread with this number, where it is in flight.
     #[tactic(auto, unfolding(crate::specs::State::flight_at))]
+    pub fn flight_at(&self, number: usize) -> Option<Flight>
+        ensures { result ≡ flight_at self.now number }
+    {
+        *self.flights.get(number)?
+    }
+
+    /// The flight of the thread of a core, where it is in flight.
     pub fn flight(&self, core: u8) -> Option<Flight>
         ensures { result ≡ flight_at self.now core }
     {
-        *self.flights.get(usize::from(core))?
+        self.flight_at(usize::from(core))
     }
 
     /// Puts the thread of a core into a flight, or into none.

@@ -7,7 +7,26 @@ use Rattle.std.specs.List.{AllByRecursion}
 use Rattle.sb_memory.specs.declared.address.Access.TheVariants.{Write}
 use Rattle.sb_memory.specs.Words.{put_word}
 use Rattle.sb_trace.specs.declared.event.Event.{Event}
-use Rattle.sb_trace.specs.declared.event.Event.TheVariants.{Step as StepLine, Extra, Stray, Sys, Entered, Landing, Idle}
+use Rattle.sb_trace.specs.declared.event.Event.TheVariants.{
+  Step as StepLine,
+  Extra,
+  Stray,
+  Printed,
+  Sys,
+  Exit,
+  Fault,
+  ServerFault,
+  ServerExit,
+  Entered,
+  WrongKey,
+  PoolEmpty,
+  Unbound,
+  BadLeaf,
+  Return,
+  Turn,
+  Landing,
+  Idle,
+}
 use Rattle.sb_state.specs.declared.page.PageName.{PageName}
 use Rattle.sb_state.specs.declared.page.PageName.TheVariants.{Heap, Pool}
 use Rattle.sb_state.specs.declared.page.Page.{Page}
@@ -167,7 +186,17 @@ LineChanges old core (Entered index slot) new = EntersServer old core index slot
 LineChanges old core (Sys number answer) new = CallChanges old core number answer new
 LineChanges old core (Landing phase) new = OnlyThreads old new × (new.threads ≡ old.threads)
 LineChanges old core Idle new = new ≡ old
-LineChanges old core _ new = OnlyThreads old new
+LineChanges old core (Printed value) new = OnlyThreads old new
+LineChanges old core (Exit status) new = OnlyThreads old new
+LineChanges old core (Fault kind at) new = OnlyThreads old new
+LineChanges old core (ServerFault kind at) new = OnlyThreads old new
+LineChanges old core (ServerExit status) new = OnlyThreads old new
+LineChanges old core (WrongKey index) new = OnlyThreads old new
+LineChanges old core (PoolEmpty index) new = OnlyThreads old new
+LineChanges old core (Unbound index) new = OnlyThreads old new
+LineChanges old core (BadLeaf index) new = OnlyThreads old new
+LineChanges old core Return new = OnlyThreads old new
+LineChanges old core Turn new = OnlyThreads old new
 
 pub record StepChanges (old : State) (core : ℕ) (event : Event) (new : State) : Type 0 where
   pub thread : OnlyThread old core new

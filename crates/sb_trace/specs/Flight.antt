@@ -45,11 +45,15 @@ decision_at_phase phase key_fits pool mask =
 
 abbrev pub is_wrong_key : Option Decision → Bool
 is_wrong_key (Some decision.WrongKey) = true
-is_wrong_key _ = false
+is_wrong_key (Some decision.PoolEmpty) = false
+is_wrong_key (Some decision.Entered) = false
+is_wrong_key None = false
 
 abbrev pub is_entered : Option Decision → Bool
 is_entered (Some decision.Entered) = true
-is_entered _ = false
+is_entered (Some decision.WrongKey) = false
+is_entered (Some decision.PoolEmpty) = false
+is_entered None = false
 
 -- the phase behind this one; None where the landing ends
 unfoldable pub phase_after : ℕ → Option Decision → ℕ → Option ℕ

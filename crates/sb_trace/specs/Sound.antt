@@ -7,7 +7,7 @@ use Rattle.sb_tramp.specs.Server.{server_page}
 use Rattle.sb_exec.specs.Words.{AreWords}
 use Rattle.sb_state.specs.declared.end_kind.EndKind.TheVariants.{Running}
 use Rattle.sb_state.specs.declared.page.PageName.{PageName}
-use Rattle.sb_state.specs.declared.page.PageName.TheVariants.{Text, Area, Heap, Record, HomeTrampoline, ServerTrampoline}
+use Rattle.sb_state.specs.declared.page.PageName.TheVariants.{Text, Area, Data, Heap, Pool, ServerStack, Save, Stack, Buffer, Record, Scratch, HomeTrampoline, ServerTrampoline}
 use Rattle.sb_state.specs.declared.page.Page.{Page}
 use Rattle.sb_state.specs.declared.state.Binding.{Binding}
 use Rattle.sb_state.specs.declared.state.Decision.{Decision}
@@ -36,7 +36,15 @@ is_code_name (Text process page) = true
 is_code_name (Area process page) = true
 is_code_name HomeTrampoline = true
 is_code_name ServerTrampoline = true
-is_code_name _ = false
+is_code_name (Data process page) = false
+is_code_name (Heap process page) = false
+is_code_name (Pool process) = false
+is_code_name (ServerStack process page) = false
+is_code_name (Save thread) = false
+is_code_name (Stack thread page) = false
+is_code_name (Buffer thread index page) = false
+is_code_name (Record thread view) = false
+is_code_name (Scratch thread view) = false
 
 -- Each page has 4,096 bytes, the trampoline stands, and VMFUNC's bytes stand in no text, rewrite area or executable heap.
 pub record ArePagesSound (pages : List Page) : Type 0 where

@@ -9,7 +9,7 @@ use Rattle.sb_rewrite.specs.Placing.{area_address}
 use Rattle.sb_rewrite.specs.RewrittenText.{RewrittenText}
 use Rattle.sb_load.specs.Loading.{Load, Loads, rewritten_of}
 use Rattle.sb_load.specs.Need.{need_of, have_of}
-use Rattle.sb_load.specs.RefusalText.{hex}
+use Rattle.sb_state.specs.EndText.{hex}
 
 -- ---- check: the frames that the bundle takes, and those that it has
 

@@ -7,9 +7,12 @@ use Rattle.skybridge.specs.declared.bridge.Status.TheVariants.{Done, BadWords, R
 abbrev pub IsOwn : Status → Type 0
 IsOwn Done = ⊤
 IsOwn BadWords = ⊤
+IsOwn ReadFault = ⊥
 IsOwn WriteFault = ⊤
+IsOwn BundleRefused = ⊥
+IsOwn LoadRefused = ⊥
 IsOwn NoMemory = ⊤
-IsOwn _ = ⊥
+IsOwn TooLong = ⊥
 
 -- the program's exit status
 abbrev pub status_number : Status → ℕ
