@@ -1,5 +1,8 @@
-use Rattle.sb_memory.proofs.Frames.{bytes_within, cleared_within, word_within}
-use Rattle.sb_memory.proofs.law.changes_leave_other_frames.Goals as goal
+use Rattle.sb_memory.proofs.Frames.{byte_within, word_within, bytes_within, cleared_within}
+use Rattle.sb_memory.proofs.laws.changes_leave_other_frames.Goals as goal
+
+pub returns-clause-byte : goal.returns-clause-byte
+returns-clause-byte c = byte_within
 
 pub returns-clause-word : goal.returns-clause-word
 returns-clause-word c = word_within
