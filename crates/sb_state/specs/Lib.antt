@@ -13,3 +13,4 @@ pub mod Reach
 pub mod Spots
 pub mod ThreadMemory
 pub mod Start
+pub mod Laws

@@ -79,7 +79,8 @@ fn store_by(
     spots: &mut [Spot],
 ) -> Result<(), BusStop>
     ensures answer { result ≡ store_answer (byte_for (plain_byte thread view state.old) Write) at.0 (length spots.old) }
-    ensures written { state.new ≡ where_stored result (plain_stored thread view state.old at.0 (length spots.old) value) state.old }
+    ensures written { state.new
+        ≡ where_stored result (plain_stored thread view state.old at.0 (length spots.old) value) state.old }
 {
     find_spots(state, thread, view, at, spots)?;
     put(state, spots, value);
