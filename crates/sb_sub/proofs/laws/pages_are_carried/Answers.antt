@@ -2,7 +2,7 @@ use Rattle.sb_sub.proofs.Carried.{can_take, page_carried}
 use Rattle.sb_sub.proofs.Pooled.{finds_pool, registered_carried}
 use Rattle.sb_sub.proofs.Registered.{registered_stands}
 use Rattle.sb_sub.proofs.Servable.{sound_servable, server_servable}
-use Rattle.sb_sub.proofs.law.pages_are_carried.Goals as goal
+use Rattle.sb_sub.proofs.laws.pages_are_carried.Goals as goal
 
 pub returns-clause-can_take : goal.returns-clause-can_take
 returns-clause-can_take c = can_take
