@@ -32,7 +32,8 @@ impl Model for Loaded {
 
     ghost view = { λ loaded. record { bundle = loaded.bundle; rewritten = loaded.rewritten } };
 
-    ghost invariant = { λ loaded. ∥ IsLoadable (record { bundle = loaded.bundle; rewritten = loaded.rewritten }) ∥₁ × (loaded.need ≡ need_of loaded.bundle loaded.rewritten) };
+    ghost invariant = { λ loaded. ∥ IsLoadable (record { bundle = loaded.bundle; rewritten = loaded.rewritten }) ∥₁
+        × (loaded.need ≡ need_of loaded.bundle loaded.rewritten) };
 }
 
 impl Loaded {

@@ -34,7 +34,9 @@ pub fn translate<P: Phys>(
     ensures answer { result ≡ translation (mapped_answer (P.meaning phys.old) eptp) cr3 at.0 access }
     ensures inside { IfOk result (λ place. place.0 < PAGE_SIZE * frame_count (P.meaning phys.old)) }
     ensures same { P.meaning phys.new ≡ P.meaning phys.old }
-    ensures account { P.account phys.new ≡ account_after_words P.rule (P.meaning phys.old) (translation_reads (mapped_answer (P.meaning phys.old) eptp) cr3 at.0 access) (P.account phys.old) }
+    ensures account { P.account phys.new
+        ≡ account_after_words P.rule (P.meaning phys.old)
+        (translation_reads (mapped_answer (P.meaning phys.old) eptp) cr3 at.0 access) (P.account phys.old) }
     ensures kept { P.kept phys.new ≡ P.kept phys.old }
 {
     match walk(&mut TablesBehindEpt { phys, eptp }, cr3, at, access) {

@@ -1,11 +1,10 @@
 //! Bytes read through the nested walk.
 
 ghost use Rattle.std.specs.Prelude.{◌≡◌, ◌*◌, ◌%◌, ◌≤◌, ◌<◌, ◌^◌, IfOk};
-ghost use Rattle.sb_memory.specs.Accounts.{account_after_reads};
 ghost use Rattle.sb_bus.specs.Access.{byte_for, loaded_from};
 ghost use Rattle.sb_nested.specs.Stop.{ept_stop, table_stop, walk_stop, stop_at};
-ghost use Rattle.sb_nested.specs.View.{byte_calls, view_byte};
-ghost use Rattle.sb_nested.specs.Store.{load_calls};
+ghost use Rattle.sb_nested.specs.View.{view_byte};
+ghost use Rattle.sb_nested.specs.Store.{account_after_byte, account_after_load};
 
 use crate::walk::Walk;
 use sb_bus::{BusStop, FaultKind};
@@ -65,7 +64,7 @@ pub fn stop_at(at: Linear, stop: NestedStop) -> BusStop
 pub fn byte<W: Walk>(walk: &mut W, at: Linear, access: Access) -> Result<u8, BusStop>
     ensures answer { result ≡ view_byte (W.view walk.old) at.0 access }
     ensures same { W.view walk.new ≡ W.view walk.old }
-    ensures account { W.account walk.new ≡ account_after_reads W.rule (W.view walk.old).physical (byte_calls (W.view walk.old) access at.0) (W.account walk.old) }
+    ensures account { W.account walk.new ≡ account_after_byte W.rule (W.view walk.old) access at.0 (W.account walk.old) }
     ensures kept { W.kept walk.new ≡ W.kept walk.old }
 {
     let place = walk.place(at, access)?;
@@ -79,7 +78,7 @@ pub fn bytes<W: Walk>(walk: &mut W, at: Linear, size: u8, access: Access) -> Res
     ensures answer { result ≡ loaded_from (byte_for (view_byte (W.view walk.old)) access) at.0 size }
     ensures range { IfOk result (λ number. number < 256 ^ size) }
     ensures same { W.view walk.new ≡ W.view walk.old }
-    ensures account { W.account walk.new ≡ account_after_reads W.rule (W.view walk.old).physical (load_calls (W.view walk.old) access at.0 size) (W.account walk.old) }
+    ensures account { W.account walk.new ≡ account_after_load W.rule (W.view walk.old) access at.0 size (W.account walk.old) }
     ensures kept { W.kept walk.new ≡ W.kept walk.old }
 {
     if size == 0 {

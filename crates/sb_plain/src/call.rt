@@ -124,7 +124,8 @@ fn enter(state: &mut PlainState, core: u8, binding: Binding, word: u64) -> Event
 
 /// A call with the key: it enters where a server stack is free.
 fn take_stack(state: &mut PlainState, core: u8, binding: Binding) -> Event
-    ensures { (result, state.new) ≡ entry_outcome state.old core (thread_at state.old core) binding (pool_word state.old binding.server) }
+    ensures { (result, state.new)
+        ≡ entry_outcome state.old core (thread_at state.old core) binding (pool_word state.old binding.server) }
 {
     let index = u32::from(binding.index);
     match pool_word(state, binding.server) {
@@ -142,7 +143,9 @@ fn take_stack(state: &mut PlainState, core: u8, binding: Binding) -> Event
 
 /// A call through the binding of an index, if there is one.
 fn call_through(state: &mut PlainState, core: u8, index: u32) -> Event
-    ensures { (result, state.new) ≡ call_outcome state.old core (thread_at state.old core) index (binding_with (thread_at state.old core).bindings index) }
+    ensures { (result, state.new)
+        ≡ call_outcome state.old core (thread_at state.old core) index
+        (binding_with (thread_at state.old core).bindings index) }
 {
     let thread = state.thread(core);
     let key = thread.regs.general[RSI];

@@ -84,7 +84,8 @@ Rewrites text (Err (Unmovable at)) =
     (of_text : List Placement) × ArePlaces text of_text × LeadsWell of_text × IsFirstAt IsUnmovable of_text at
 Rewrites text (Err (AreaFull at)) =
     (of_text : List Placement) × ArePlaces text of_text × IsMovable of_text × IsFirstAt EndsBehindArea of_text at
-Rewrites text (Err (Left at)) = (of_text : List Placement) × ArePlaces text of_text × FitsArea of_text × IsLeftAt (rewritten_text of_text) at
+Rewrites text (Err (Left at)) =
+    (of_text : List Placement) × ArePlaces text of_text × FitsArea of_text × IsLeftAt (rewritten_text of_text) at
 Rewrites text (Err Memory) = Unit {0}
 
 -- ---- how long what is made is

@@ -13,7 +13,7 @@ use Rattle.sb_abi.specs.declared.space.TheConstants.{TEXT_ADDRESS}
 use Rattle.sb_forms.specs.Places.{text_end, IsPermitted}
 use Rattle.sb_forms.specs.declared.answer.Form.{Form}
 use Rattle.sb_forms.specs.declared.answer.Form.TheVariants as form
-use Rattle.sb_rewrite.specs.Placing.{Placement, area_address}
+use Rattle.sb_rewrite.specs.Placing.{Placement, area_address, place}
 use Rattle.sb_rewrite.specs.RewrittenText.{RewrittenText, rewritten_text, starts_of, text_bytes, area_bytes, edits_of, moves_of}
 use Rattle.sb_rewrite.specs.Rewriting.{HasBadTarget, IsUnmovable, EndsBehindArea, NoneOf, IsFirstAt, ArePlaces, LeadsWell, FitsArea, IsFree, IsLeftAt}
 
@@ -55,6 +55,10 @@ started = record { text = []; area = []; starts = []; edits = []; moves = [] }
 -- an instruction with this in its place, and the slot that comes next
 abbrev pub next_place : RewrittenText → Insn → ℕ → Form → Placement
 next_place old insn at form = record { insn = insn; at = at; slot = area_address + length old.area; form = form }
+
+-- an instruction of a text with what the table of forms puts in its place, and the slot that comes next
+abbrev pub place_by_table : List ℕ → Output → TextInsn → Placement
+place_by_table text old text_insn = place text text_insn.at (area_address + length old.area) text_insn.insn
 
 -- one more instruction starts
 abbrev pub with_start : RewrittenText → ℕ → RewrittenText
@@ -99,7 +103,8 @@ jumps_to at (Some target) = if is_in_text target then record { at = at; target =
 -- a jump that leads into the text is remembered, and one that leads far away is refused
 abbrev pub Remembers : List Jump → List Jump → TextInsn → Result (Unit {0}) RewriteRefusal → Type 0
 Remembers old new text_insn (Ok done) =
-    ¬ IsFar (direct_target text_insn.insn text_insn.at) × (new ≡ old ++ jumps_to text_insn.at (direct_target text_insn.insn text_insn.at))
+    ¬ IsFar (direct_target text_insn.insn text_insn.at)
+    × (new ≡ old ++ jumps_to text_insn.at (direct_target text_insn.insn text_insn.at))
 Remembers old new text_insn (Err (BadTarget at)) = IsFar (direct_target text_insn.insn text_insn.at)
 Remembers old new text_insn (Err Memory) = Unit {0}
 Remembers old new text_insn (Err (Undecoded at)) = ⊥

@@ -41,7 +41,13 @@ impl Model for Draft {
 
     ghost Value = { RewrittenText };
 
-    ghost view = { λ draft. record { text = draft.text.items; area = draft.area.items; starts = draft.starts.items; edits = draft.edits.items; moves = draft.moves.items } };
+    ghost view = { λ draft. record {
+      text = draft.text.items;
+      area = draft.area.items;
+      starts = draft.starts.items;
+      edits = draft.edits.items;
+      moves = draft.moves.items;
+    } };
 
     ghost invariant = { λ draft. length draft.area.items ≤ 0x10000 };
 }
@@ -51,7 +57,8 @@ fn put_jump(text: &mut Vec<u8>, from: u64, to: u64, length: usize) -> Result<(),
     requires from { from ≤ 0x600000 }
     requires to { to ≤ 0x11000 }
     requires room { 5 ≤ length }
-    ensures { IfOk result (λ done. text.new.items ≡ text.old.items ++ (spelling (jump_insn from to) ++ replicate (length - 5) 0x90)) }
+    ensures { IfOk result (λ done. text.new.items
+        ≡ text.old.items ++ (spelling (jump_insn from to) ++ replicate (length - 5) 0x90)) }
 {
     text.extend_from_slice(jump_code(from, to).bytes())?;
     put_nops(text, length - 5)
@@ -115,7 +122,8 @@ impl Draft {
         requires text_insn { IsTextInsn text_insn.now }
         requires jump { 5 ≤ length text_insn.now.bytes.now }
         requires slot { FitsSlot pre.now main.now post.now }
-        ensures { Puts self.old self.new (next_place self.old text_insn.now.insn text_insn.now.at (moved pre.now main.now post.now)) result }
+        ensures { Puts self.old self.new
+            (next_place self.old text_insn.now.insn text_insn.now.at (moved pre.now main.now post.now)) result }
     {
         let slot = self.next_slot();
         let before = pre.bytes().len();

@@ -22,9 +22,21 @@ impl Model for Rewritten {
 
     ghost Value = { RewrittenText };
 
-    ghost view = { λ made. record { text = made.text.items; area = made.area.items; starts = made.starts; edits = made.edits; moves = made.moves.items } };
+    ghost view = { λ made. record {
+      text = made.text.items;
+      area = made.area.items;
+      starts = made.starts;
+      edits = made.edits;
+      moves = made.moves.items;
+    } };
 
-    ghost invariant = { λ made. IsOrdered (record { text = made.text.items; area = made.area.items; starts = made.starts; edits = made.edits; moves = made.moves.items }) };
+    ghost invariant = { λ made. IsOrdered (record {
+      text = made.text.items;
+      area = made.area.items;
+      starts = made.starts;
+      edits = made.edits;
+      moves = made.moves.items;
+    }) };
 }
 
 impl Rewritten {

@@ -3,6 +3,8 @@ use Rattle.std.specs.Prelude.{ℕ, ◌≡◌, ◌+◌, ◌<◌, ◌≤◌, ◌�
 use Rattle.std.specs.List.{Contains}
 use Rattle.sb_memory.specs.Physical.{Physical, HoldsBytes, frame_of}
 use Rattle.sb_memory.specs.Changes.{SameOutside}
+use Rattle.sb_memory.specs.Reading.{with_bytes}
+use Rattle.sb_memory.specs.Words.{put_word}
 use Rattle.sb_memory.specs.declared.address.Frame.{Frame}
 use Rattle.sb_walks.specs.Entry.{entry_in}
 use Rattle.sb_frames.specs.Book.{Book, IsInBook, holder, with_holder, free_count}
@@ -51,6 +53,11 @@ pub record IsAddedList (root root' : RootKernel) (book book' : Book) (old new : 
   pub zeros : IsZeroed new frame.0
   pub same : SameOutside (frame.0 ∷ []) old new
   pub rights : SameRights old new
+
+-- the entry of a thread's list at an index was set to a word, and no other byte was changed
+abbrev pub SetsEntry : RootKernel → Physical → Physical → ℕ → ℕ → ℕ → Type 0
+SetsEntry root old new thread index word = (list : Frame) → eptp_list_frame root thread ≡ Some list
+    → new ≡ with_bytes old (put_word old.bytes (entry_in list.0 index) word)
 
 -- a thread got a view at its lowest free index, in frames that were free
 pub record IsAddedView (root root' : RootKernel) (book book' : Book) (old new : Physical) (thread : ℕ) (home target : Frame)

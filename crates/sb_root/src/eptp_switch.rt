@@ -26,7 +26,8 @@ pub fn switch<P: Phys>(phys: &mut P, list: Frame, eax: u32, ecx: u32) -> Result<
     ensures answer { result ≡ switch_result (P.meaning phys.old) list.0 eax ecx }
     ensures pointer { IfOk result HasPointer }
     ensures same { P.meaning phys.new ≡ P.meaning phys.old }
-    ensures account { P.account phys.new ≡ account_after_words P.rule (P.meaning phys.old) (switch_reads list.0 eax ecx) (P.account phys.old) }
+    ensures account { P.account phys.new
+        ≡ account_after_words P.rule (P.meaning phys.old) (switch_reads list.0 eax ecx) (P.account phys.old) }
     ensures kept { P.kept phys.new ≡ P.kept phys.old }
 {
     if eax != 0 {

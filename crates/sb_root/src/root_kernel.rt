@@ -6,7 +6,6 @@ ghost use Rattle.sb_memory.specs.Changes.{SameOutside};
 ghost use Rattle.sb_memory.specs.Reading.{with_bytes};
 ghost use Rattle.sb_memory.specs.Words.{put_word, word_at};
 ghost use Rattle.sb_memory.specs.declared.address.Frame.{Frame};
-ghost use Rattle.sb_walks.specs.Entry.{entry_in};
 ghost use Rattle.sb_frames.specs.Book.{Book, free_count};
 ghost use Rattle.sb_root.specs.declared.view.View.{View};
 ghost use Rattle.sb_root.specs.Entry.{is_rights, leaf_to};
@@ -14,7 +13,7 @@ ghost use Rattle.sb_root.specs.Tables.{base_frames, rights_in, shared_frames, sh
 ghost use Rattle.sb_root.specs.Root.{HasFreeIndex, IsLowestFree, IsSet, entry_of_view, is_listed, eptp_list_frame, no_threads, without_listing, view_of, with_view};
 ghost use Rattle.sb_root.specs.Standing.{IsBooked, IsRootFrame, Stands};
 ghost use Rattle.sb_root.specs.Answers.{Exposes, IsFirstBase, SameRights, SameViews};
-ghost use Rattle.sb_root.specs.Calls.{IsAddedList, IsAddedView, no_frames};
+ghost use Rattle.sb_root.specs.Calls.{IsAddedList, IsAddedView, SetsEntry, no_frames};
 
 use crate::entry::leaf;
 use crate::page::put_page;
@@ -84,7 +83,8 @@ impl RootKernel {
         requires inside { frame.0 < frame_count memory.old }
         requires rights { IsTrue (is_rights rights) }
         ensures root { self.new ≡ self.old }
-        ensures entry { memory.new ≡ with_bytes memory.old (put_word memory.old.bytes (shared_place frame.0) (leaf_to frame.0 rights)) }
+        ensures entry { memory.new
+            ≡ with_bytes memory.old (put_word memory.old.bytes (shared_place frame.0) (leaf_to frame.0 rights)) }
         ensures stands { Stands self.new memory.new }
         ensures booked { (book : Book) → IsBooked self.old book memory.old → IsBooked self.new book memory.new }
         ensures exposes { Exposes self.old memory.old memory.new frame.0 rights }
@@ -113,7 +113,8 @@ impl RootKernel {
         ensures refused { IsErr result ↔ (free_count book.old ≡ 0) }
         ensures cause { IfErr result (λ refusal. refusal ≡ no_frames 1 (free_count book.old)) }
         ensures unchanged { IfErr result (λ _. (self.new ≡ self.old) × (book.new ≡ book.old) × (memory.new ≡ memory.old)) }
-        ensures added { IfOk result (λ _. (frame : Frame) × IsAddedList self.old self.new book.old book.new memory.old memory.new thread frame) }
+        ensures added { IfOk result (λ _. (frame : Frame)
+            × IsAddedList self.old self.new book.old book.new memory.old memory.new thread frame) }
         ensures stands { Stands self.new memory.new }
         ensures booked { IsBooked self.new book.new memory.new }
         ensures others { SameViews self.old memory.old memory.new }
@@ -156,7 +157,9 @@ impl RootKernel {
         ensures refused { IsErr result ↔ (free_count book.old < 6) }
         ensures cause { IfErr result (λ refusal. refusal ≡ no_frames 6 (free_count book.old)) }
         ensures unchanged { IfErr result (λ _. (self.new ≡ self.old) × (book.new ≡ book.old) × (memory.new ≡ memory.old)) }
-        ensures added { IfOk result (λ index. (view : View) × IsAddedView self.old self.new book.old book.new memory.old memory.new thread home_root target_root words.now server index view) }
+        ensures added { IfOk result (λ index. (view : View)
+            × IsAddedView self.old self.new book.old book.new memory.old memory.new thread home_root target_root words.now
+            server index view) }
         ensures stands { Stands self.new memory.new }
         ensures booked { IsBooked self.new book.new memory.new }
         ensures others { SameViews self.old memory.old memory.new }
@@ -181,8 +184,9 @@ impl RootKernel {
         requires thread { thread < 32 }
         requires list { eptp_list_frame self.old thread ≢ None }
         requires set { IsSet self.old thread index }
-        ensures root { (view : View) → view_of self.old thread index ≡ Some view → self.new ≡ with_view self.old thread index (without_listing view) }
-        ensures entry { (list : Frame) → eptp_list_frame self.old thread ≡ Some list → memory.new ≡ with_bytes memory.old (put_word memory.old.bytes (entry_in list.0 index) 0) }
+        ensures root { (view : View) → view_of self.old thread index ≡ Some view
+            → self.new ≡ with_view self.old thread index (without_listing view) }
+        ensures entry { SetsEntry self.old memory.old memory.new thread index 0 }
         ensures stands { Stands self.new memory.new }
         ensures booked { (book : Book) → IsBooked self.old book memory.old → IsBooked self.new book memory.new }
         ensures views { SameViews self.old memory.old memory.new }
@@ -250,7 +254,7 @@ impl RootKernel {
         requires index { index < 16 }
         requires inside { (list : Frame) → eptp_list_frame self.old thread ≡ Some list → list.0 < frame_count memory.old }
         ensures root { self.new ≡ with_view self.old thread index view }
-        ensures entry { (list : Frame) → eptp_list_frame self.old thread ≡ Some list → memory.new ≡ with_bytes memory.old (put_word memory.old.bytes (entry_in list.0 index) (entry_of_view view)) }
+        ensures entry { SetsEntry self.old memory.old memory.new thread index (entry_of_view view) }
     {
         let list = self.list_frame(thread);
         memory.set_word(list.word(u64::from(index)), view.list_entry());

@@ -50,8 +50,10 @@ pub fn region_table(region: usize) -> Frame
 impl ViewTables {
     /// Writes the tables of levels 4, 3 and 2.
     pub fn put_upper(&self, memory: &mut Memory)
-        requires inside { (self.now.root.0 < frame_count memory.old) × (self.now.pointers.0 < frame_count memory.old) × (self.now.directory.0 < frame_count memory.old) }
-        requires different { (self.now.root.0 ≢ self.now.pointers.0) × (self.now.root.0 ≢ self.now.directory.0) × (self.now.pointers.0 ≢ self.now.directory.0) }
+        requires inside { (self.now.root.0 < frame_count memory.old) × (self.now.pointers.0 < frame_count memory.old)
+            × (self.now.directory.0 < frame_count memory.old) }
+        requires different { (self.now.root.0 ≢ self.now.pointers.0) × (self.now.root.0 ≢ self.now.directory.0)
+            × (self.now.pointers.0 ≢ self.now.directory.0) }
         ensures root { IsPage memory.new self.now.root.0 (upper_entries self.now.pointers.0) }
         ensures pointers { IsPage memory.new self.now.pointers.0 (upper_entries self.now.directory.0) }
         ensures directory { IsPage memory.new self.now.directory.0 (directory_entries self.now.first.0) }

@@ -13,3 +13,4 @@ pub mod NameForAccess
 pub mod PagePlaces
 pub mod ThreadMemory
 pub mod Start
+pub mod Laws

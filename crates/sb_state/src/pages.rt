@@ -90,7 +90,8 @@ impl Model for Pages {
 
     ghost view = { λ pages. record { pages = pages.pages.items; room = length pages.blank.items } };
 
-    ghost invariant = { λ pages. IsSound (get equal_names pages.places) pages.pages.items pages.blank.items (vec_capacity pages.pages) (spare pages.places) pages.known.items };
+    ghost invariant = { λ pages. IsSound (get equal_names pages.places) pages.pages.items pages.blank.items
+        (vec_capacity pages.pages) (spare pages.places) pages.known.items };
 }
 
 /// Bytes of zero for a page.
@@ -271,7 +272,8 @@ impl Pages {
 
     /// Puts a byte into a page. Where the page or the byte is not there, nothing changes.
     pub fn put(&mut self, name: PageName, offset: usize, value: u8)
-        ensures { self.new ≡ with_pages self.old (with_page_bytes self.old.pages name (slice_set (bytes_of (find_page self.old.pages name)) offset value)) }
+        ensures { self.new ≡ with_pages self.old
+            (with_page_bytes self.old.pages name (slice_set (bytes_of (find_page self.old.pages name)) offset value)) }
     {
         if let Some(place) = self.place(name) {
             let bytes = &mut self.pages[place].bytes;
@@ -296,7 +298,8 @@ impl Pages {
     /// Puts a word of 8 bytes into a page. Where the page is not there, nothing changes.
     pub fn put_word(&mut self, name: PageName, place: usize, word: u64)
         requires { place + 8 ≤ 4096 }
-        ensures { self.new ≡ with_pages self.old (with_page_bytes self.old.pages name (put_word (bytes_of (find_page self.old.pages name)) place word)) }
+        ensures { self.new ≡ with_pages self.old
+            (with_page_bytes self.old.pages name (put_word (bytes_of (find_page self.old.pages name)) place word)) }
     {
         if let Some(index) = self.place(name) {
             put_word(&mut self.pages[index].bytes, place, word);

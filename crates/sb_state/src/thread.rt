@@ -101,7 +101,8 @@ impl PlainState {
     #[tactic(auto, unfolding(crate::specs::State::thread_at))]
     pub fn push_binding(&mut self, core: u8, binding: Binding)
         requires { length (thread_at self.old core).bindings < 15 }
-        ensures { self.new ≡ with_thread self.old core (record (thread_at self.old core) { bindings = (thread_at self.old core).bindings ++ binding ∷ [] }) }
+        ensures { self.new ≡ with_thread self.old core
+            (record (thread_at self.old core) { bindings = (thread_at self.old core).bindings ++ binding ∷ [] }) }
     {
         if usize::from(core) < self.threads.len() {
             self.threads[usize::from(core)].bindings.push(binding);

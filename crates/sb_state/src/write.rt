@@ -84,7 +84,8 @@ fn store_by(
     places: &mut [PagePlace],
 ) -> Result<(), BusStop>
     ensures answer { result ≡ store_answer (byte_for (plain_byte thread view state.old) Write) at.0 (length places.old) }
-    ensures written { state.new ≡ where_stored result (plain_stored thread view state.old at.0 (length places.old) value) state.old }
+    ensures written { state.new
+        ≡ where_stored result (plain_stored thread view state.old at.0 (length places.old) value) state.old }
 {
     find_page_places(state, thread, view, at, places)?;
     put(state, places, value);

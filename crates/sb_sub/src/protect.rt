@@ -7,7 +7,7 @@ ghost use Rattle.sb_pagewalk.specs.TableSet.{table_frame};
 ghost use Rattle.sb_root.specs.Standing.{IsApart, Stands};
 ghost use Rattle.sb_shows.specs.Placement.{leaf_for, rights_for};
 ghost use Rattle.sb_sub.specs.Heap.{FindsHeap, SetsMode, heap_mode, pattern_at};
-ghost use Rattle.sb_sub.specs.Refusals.{pattern_refusal, page_refusal};
+ghost use Rattle.sb_sub.specs.Refusals.{pattern_refusal, heap_page_refusal};
 
 use crate::heap::{heap_address, heap_pattern, page_frame};
 use crate::process::Process;
@@ -37,7 +37,7 @@ fn refusal(
 ) -> Option<(CallRefusal, u64)>
     requires finds { FindsHeap memory.old process.now.set process.now.process.heap_pages }
     ensures same { memory.new ≡ memory.old }
-    ensures refusal { result ≡ page_refusal process.now.process.heap_pages page mode (pattern_at memory.old process.now.set page process.now.process.heap_pages) }
+    ensures refusal { result ≡ heap_page_refusal memory.old process.now page mode }
     ensures within { IfNone result (page < process.now.process.heap_pages) }
 {
     if let Some(refusal) = protect_refusal(process.heap_pages, page, mode) {
@@ -121,7 +121,7 @@ pub fn protect(
     requires tables { HasTables process.now.set memory.old }
     requires stands { Stands root.old memory.old }
     requires apart { IsApart root.old (table_frame process.now.set 7 ∷ []) }
-    ensures refusal { result ≡ page_refusal process.now.process.heap_pages page mode (pattern_at memory.old process.now.set page process.now.process.heap_pages) }
+    ensures refusal { result ≡ heap_page_refusal memory.old process.now page mode }
     ensures root { root.new ≡ root.old }
     ensures refused { IfSome result (λ _. memory.new ≡ memory.old) }
     ensures within { IfNone result (page < process.now.process.heap_pages) }

@@ -122,7 +122,8 @@ impl SubKernel {
         requires stands { (book : Book) × (state : State) × StandsFor self.now root.old book memory.old state }
         ensures root { root.new ≡ root.old }
         ensures refused { IfSome result (λ _. memory.new ≡ memory.old) }
-        ensures served { (book : Book) (state : State) → StandsFor self.now root.old book memory.old state → ProtectsBy self.now root.old book memory.new state process page mode result }
+        ensures served { (book : Book) (state : State) → StandsFor self.now root.old book memory.old state
+            → ProtectsBy self.now root.old book memory.new state process page mode result }
     {
         if self.has_process(process) {
             protect(self.process(process), memory, root, page, mode)
@@ -145,8 +146,10 @@ impl SubKernel {
         requires stands { (state : State) × StandsFor self.old root.old book.old memory.old state }
         requires thread { thread < length self.old.seats }
         requires built { (rax regs.old ≢ 2) × (rax regs.old ≢ 3) }
-        ensures served { ServesBy syscall_outcome self.old root.old book.old memory.old self.new root.new book.new memory.new thread view result regs.old regs.new }
-        ensures refused { IsRefused result → (self.new ≡ self.old) × (root.new ≡ root.old) × (book.new ≡ book.old) × (memory.new ≡ memory.old) }
+        ensures served { ServesBy syscall_outcome self.old root.old book.old memory.old self.new root.new book.new memory.new
+            thread view result regs.old regs.new }
+        ensures refused { IsRefused result
+            → (self.new ≡ self.old) × (root.new ≡ root.old) × (book.new ≡ book.old) × (memory.new ≡ memory.old) }
         ensures tables { rax regs.old ≢ 4 → memory.new ≡ memory.old }
     {
         let number = regs.general[RAX];

@@ -1,7 +1,7 @@
 //! Pages that are added: a frame is taken, filled, mapped and exposed.
 
-ghost use Rattle.std.specs.Prelude.{ℕ, ◌≡◌, ◌+◌, ◌*◌, ◌<◌, ◌≤◌, [], ◌∷◌, get_or};
-ghost use Rattle.sb_memory.specs.Physical.{HasSize, frame_count};
+ghost use Rattle.std.specs.Prelude.{◌≡◌, ◌+◌, ◌*◌, ◌<◌, ◌≤◌, [], ◌∷◌};
+ghost use Rattle.sb_memory.specs.Physical.{HasSize, HoldsBytes, frame_count};
 ghost use Rattle.sb_memory.specs.Changes.{SameOutside};
 ghost use Rattle.sb_frames.specs.Book.{free_count};
 ghost use Rattle.sb_pagewalk.specs.Windows.{IsInWindow};
@@ -27,7 +27,7 @@ fn fill(memory: &mut Memory, frame: Frame, top: u64)
     requires inside { frame.0 < frame_count memory.old }
     requires size { HasSize memory.old }
     ensures same { SameOutside (frame.0 ∷ []) memory.old memory.new }
-    ensures held { (offset : ℕ) → offset < 4096 → get_or memory.new.bytes (4096 * frame.0 + offset) 0 ≡ get_or (top_bytes top) offset 0 }
+    ensures held { HoldsBytes memory.new frame.0 (top_bytes top) }
 {
     memory.clear_frame(frame);
     if top != 0 {

@@ -6,13 +6,12 @@ use Rattle.sb_trace.specs.declared.event.Event.TheVariants.{Printed, Exit, Serve
 use Rattle.sb_state.specs.declared.end_kind.EndKind.TheVariants.{Ended}
 use Rattle.sb_state.specs.declared.state.Thread.{Thread}
 use Rattle.sb_state.specs.State.{State, thread_at, with_regs, with_end}
-use Rattle.sb_state.specs.Registers.{rax, rsi, rdi}
+use Rattle.sb_state.specs.Registers.{rax, rdi}
 use Rattle.sb_trace.specs.Home.{Outcome, state_at_home}
-use Rattle.sb_state.specs.Windows.{process_now}
 use Rattle.sb_trace.specs.SyscallAnswer.{state_after_call, syscall_refusal}
-use Rattle.sb_trace.specs.SyscallRegister.{refusal_of_register, register_outcome}
-use Rattle.sb_trace.specs.SyscallBind.{refusal_of_bind, bind_outcome}
-use Rattle.sb_trace.specs.SyscallProtect.{protect_outcome}
+use Rattle.sb_trace.specs.SyscallRegister.{register_of_thread}
+use Rattle.sb_trace.specs.SyscallBind.{bind_of_thread}
+use Rattle.sb_trace.specs.SyscallProtect.{protect_of_thread}
 
 -- exit: at home the thread ends with the status in RDI, and RAX and RDX stay; in a server's view it is sent home
 abbrev pub exit_outcome : State → ℕ → Regs → Outcome
@@ -25,11 +24,9 @@ abbrev pub outcome_by_number : State → ℕ → Thread → Regs → ℕ → Out
 outcome_by_number state core thread next call =
     if call == 0 then exit_outcome state core next
     else if call == 1 then (Printed (rdi next), state_after_call state core next 0 0)
-    else if call == 2
-    then register_outcome state core next (process_now thread)
-    (refusal_of_register state thread.view (process_now thread) (rdi next) (rsi next))
-    else if call == 3 then bind_outcome state core thread next (refusal_of_bind state thread (rdi next))
-    else if call == 4 then protect_outcome state core next (process_now thread) (rdi next) (rsi next)
+    else if call == 2 then register_of_thread state core thread next
+    else if call == 3 then bind_of_thread state core thread next
+    else if call == 4 then protect_of_thread state core thread next
     else syscall_refusal state core next NoCall 0
 
 -- SYSCALL of the thread of this core, by the registers after it: the number is in RAX, arguments are in RDI and RSI

@@ -79,3 +79,7 @@ binding_outcome state core thread next binding = (
 abbrev pub bind_outcome : State → ℕ → Thread → Regs → Option CallRefusal → Outcome
 bind_outcome state core thread next (Some refusal) = syscall_refusal state core next refusal 0
 bind_outcome state core thread next None = binding_outcome state core thread next (new_binding state thread (rdi next))
+
+-- bind of a thread: it gets a view of the server, or it is refused
+abbrev pub bind_of_thread : State → ℕ → Thread → Regs → Outcome
+bind_of_thread state number thread next = bind_outcome state number thread next (refusal_of_bind state thread (rdi next))

@@ -66,7 +66,8 @@ fn refuse<K: Sink>(sink: &mut K, line: &str, status: Status) -> Status
 /// Writes the line of a refusal with this status, if there is memory for the line.
 fn refuse_by<K: Sink>(sink: &mut K, line: Result<String, AllocError>, status: Status) -> Status
     ensures written { MatchResult line
-        (λ text. (result ≡ status) × WritesLine (K.held sink.old) (K.held sink.new) (K.faults sink.old) (K.faults sink.new) (string_bytes text))
+        (λ text. (result ≡ status)
+        × WritesLine (K.held sink.old) (K.held sink.new) (K.faults sink.old) (K.faults sink.new) (string_bytes text))
         (λ _. (result ≡ Status.NoMemory) × (K.held sink.new ≡ K.held sink.old)) }
     ensures later { K.faults sink.old ≤ K.faults sink.new }
 {
@@ -131,12 +132,14 @@ fn run_on_bundle<S: Source, K: Sink>(
         → WritesLine (K.held sink.old) (K.held sink.new) (K.faults sink.old) (K.faults sink.new) too_long_line }
 
     ensures bundle_refused { result ≡ Status.BundleRefused
-        → RefusedBundle (S.left source.old) (S.left source.new) (K.held sink.old) (K.held sink.new) (K.faults sink.old) (K.faults sink.new) }
+        → RefusedBundle (S.left source.old) (S.left source.new) (K.held sink.old) (K.held sink.new)
+        (K.faults sink.old) (K.faults sink.new) }
     ensures no_bundle { IsTold (S.left source.old) SomeNoBundle
         → ¬ Rose (S.faults source.old) (S.faults source.new) → (result ≡ Status.BundleRefused) ⊎ (result ≡ Status.NoMemory) }
 
     ensures load_refused { result ≡ Status.LoadRefused
-        → RefusedLoad (S.left source.old) (S.left source.new) (K.held sink.old) (K.held sink.new) (K.faults sink.old) (K.faults sink.new) }
+        → RefusedLoad (S.left source.old) (S.left source.new) (K.held sink.old) (K.held sink.new)
+        (K.faults sink.old) (K.faults sink.new) }
     ensures not_loadable { IsTold (S.left source.old) SomeNotLoadable
         → ¬ Rose (S.faults source.old) (S.faults source.new) → (result ≡ Status.LoadRefused) ⊎ (result ≡ Status.NoMemory) }
 
@@ -178,7 +181,8 @@ fn bytes_of(text: Result<String, AllocError>) -> Result<Vec<u8>, AllocError>
 /// Runs the command of the words, from the source to the sink.
 ///
 /// A refusal keeps its status where its line could not be written whole. Causes are tried in the order words, reading,
-/// bundle, loading, run, writing; once the words are a command, `NoMemory` may come anywhere between. Commands that read no bundle leave the source as it is.
+/// bundle, loading, run, writing; once the words are a command, `NoMemory` may come anywhere between. Commands that read no
+/// bundle leave the source as it is.
 pub fn bridge<S: Source, K: Sink>(
     alloc: Global,
     words: &Vec<String>,
@@ -219,13 +223,15 @@ pub fn bridge<S: Source, K: Sink>(
 
     // An input that is no bundle is refused as such, and no other input is.
     ensures bundle_refused { result ≡ Status.BundleRefused
-        → RefusedBundle (S.left source.old) (S.left source.new) (K.held sink.old) (K.held sink.new) (K.faults sink.old) (K.faults sink.new) }
+        → RefusedBundle (S.left source.old) (S.left source.new) (K.held sink.old) (K.held sink.new)
+        (K.faults sink.old) (K.faults sink.new) }
     ensures no_bundle { ReadsBundle (word_texts words.now.items) → IsTold (S.left source.old) SomeNoBundle
         → ¬ Rose (S.faults source.old) (S.faults source.new) → (result ≡ Status.BundleRefused) ⊎ (result ≡ Status.NoMemory) }
 
     // A bundle that the loader refuses is refused as such, and no other input is.
     ensures load_refused { result ≡ Status.LoadRefused
-        → RefusedLoad (S.left source.old) (S.left source.new) (K.held sink.old) (K.held sink.new) (K.faults sink.old) (K.faults sink.new) }
+        → RefusedLoad (S.left source.old) (S.left source.new) (K.held sink.old) (K.held sink.new)
+        (K.faults sink.old) (K.faults sink.new) }
     ensures not_loadable { ReadsBundle (word_texts words.now.items) → IsTold (S.left source.old) SomeNotLoadable
         → ¬ Rose (S.faults source.old) (S.faults source.new) → (result ≡ Status.LoadRefused) ⊎ (result ≡ Status.NoMemory) }
 
@@ -255,6 +261,7 @@ pub fn bridge<S: Source, K: Sink>(
 /// A law, which does nothing when it is called: the definitions give one text of a command and a bundle, and one summary of
 /// a generated bundle's run.
 pub fn one_output()
-    ensures of_bundle { (command : BundleCommand) (bundle : Bundle) (text other : List ℕ) → IsOutput command bundle text → IsOutput command bundle other → text ≡ other }
+    ensures of_bundle { (command : BundleCommand) (bundle : Bundle) (text other : List ℕ)
+        → IsOutput command bundle text → IsOutput command bundle other → text ≡ other }
     ensures made { (number : ℕ) (text other : List ℕ) → IsSummary number text → IsSummary number other → text ≡ other }
 {}

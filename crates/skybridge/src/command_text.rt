@@ -101,7 +101,8 @@ fn push_process(
 }
 
 fn push_processes(out: &mut String, loaded: &Loaded) -> Result<(), AllocError>
-    ensures { OnOk result (string_bytes out.new ≡ string_bytes out.old ++ processes_text loaded.now.rewritten 0 loaded.now.bundle.images) }
+    ensures { OnOk result (string_bytes out.new
+        ≡ string_bytes out.old ++ processes_text loaded.now.rewritten 0 loaded.now.bundle.images) }
 {
     for (number, image) in loaded.bundle().images.items().iter().enumerate() {
         push_process(out, number, image, loaded.rewritten(number as u32))?;

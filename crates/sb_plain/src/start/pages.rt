@@ -73,7 +73,8 @@ fn push_part(
     contents: &[u8],
 ) -> Result<(), AllocError>
     requires { length contents.now < 2 ^ 32 }
-    ensures { OnOk result (pages.new.pages ≡ pages.old.pages ++ padded_pages (part_name part process) (part_filler part) contents.now) }
+    ensures { OnOk result (pages.new.pages
+        ≡ pages.old.pages ++ padded_pages (part_name part process) (part_filler part) contents.now) }
 {
     for page in 0..page_count(contents.len()) {
         let bytes = page_of(alloc, part.filler(), contents, page)?;
@@ -167,7 +168,9 @@ fn push_threads(alloc: Global, pages: &mut Pages, cores: &[CoreStart]) -> Result
 
 /// The pages at the start: those of each process, those of each thread, and the trampoline.
 pub fn start_pages(alloc: Global, loaded: &Loaded) -> Result<Pages, AllocError>
-    ensures { IfOk result (λ pages. pages.pages ≡ images_pages 0 (images_loaded loaded.now) ++ (threads_pages 0 (map entry_of loaded.now.bundle.cores) ++ trampoline_pages)) }
+    ensures { IfOk result (λ pages. pages.pages
+        ≡ images_pages 0 (images_loaded loaded.now)
+        ++ (threads_pages 0 (map entry_of loaded.now.bundle.cores) ++ trampoline_pages)) }
 {
     let mut pages = Pages::new(alloc);
     pages.know_names()?;

@@ -5,8 +5,7 @@ ghost use Rattle.sb_tramp.specs.Record.{record_bytes};
 ghost use Rattle.sb_state.specs.declared.page.PageName.TheVariants.{Record};
 ghost use Rattle.sb_state.specs.State.{page_with, thread_at};
 ghost use Rattle.sb_state.specs.Store.{with_added_page};
-ghost use Rattle.sb_state.specs.Registers.{rdi};
-ghost use Rattle.sb_trace.specs.SyscallBind.{refusal_of_bind, buffer_page, binding_pages, first_key, new_binding, with_binding, bind_outcome};
+ghost use Rattle.sb_trace.specs.SyscallBind.{refusal_of_bind, buffer_page, binding_pages, first_key, new_binding, with_binding, bind_of_thread};
 
 use super::refuse;
 use crate::server::{handler_of, registration_at};
@@ -69,7 +68,10 @@ fn add_view(pages: &mut Pages, thread: u32, index: u32, words: &RecordWords)
 /// The pages of a view are there, and its frames are taken.
 fn take_view(state: &mut PlainState, thread: u8, index: u16, words: &RecordWords)
     requires { 10 ≤ state.old.free }
-    ensures { state.new ≡ record state.old { pages = state.old.pages ++ binding_pages thread index words.now; free = state.old.free - 10 } }
+    ensures { state.new ≡ record state.old {
+      pages = state.old.pages ++ binding_pages thread index words.now;
+      free = state.old.free - 10;
+    } }
 {
     state.free -= BIND_FRAMES;
     add_view(&mut state.pages, u32::from(thread), u32::from(index), words);
@@ -89,7 +91,8 @@ fn make_binding(state: &mut PlainState, core: u8, server: u32) -> Binding
     requires bindings { length (thread_at state.old core).bindings < 15 }
     requires frames { 10 ≤ state.old.free }
     ensures binding { result ≡ new_binding state.old (thread_at state.old core) server }
-    ensures made { state.new ≡ with_binding state.old core (thread_at state.old core) (new_binding state.old (thread_at state.old core) server) }
+    ensures made { state.new
+        ≡ with_binding state.old core (thread_at state.old core) (new_binding state.old (thread_at state.old core) server) }
 {
     let handler = handler_of(state, server);
     let key = draw_key(state);
@@ -105,7 +108,7 @@ fn make_binding(state: &mut PlainState, core: u8, server: u32) -> Binding
 /// Binds the thread to the process in RDI. RDX becomes the index of the view, R8 its key, and R10 the address of its
 /// buffer.
 pub fn bind(state: &mut PlainState, core: u8, next: &Regs) -> Event
-    ensures { (result, state.new) ≡ bind_outcome state.old core (thread_at state.old core) next.now (refusal_of_bind state.old (thread_at state.old core) (rdi next.now)) }
+    ensures { (result, state.new) ≡ bind_of_thread state.old core (thread_at state.old core) next.now }
 {
     let server = next.general[RDI];
     if let Some(refusal) = refusal_of_bind(state, state.thread(core), server) {

@@ -2,10 +2,8 @@
 
 ghost use Rattle.std.specs.Prelude.{◌≡◌, ◌<◌, ◌≤◌, ◌-◌, ◌*◌, ◌++◌, None, slice_get};
 ghost use Rattle.sb_state.specs.State.{thread_at, process_at};
-ghost use Rattle.sb_state.specs.Registers.{rdi, rsi};
-ghost use Rattle.sb_state.specs.Windows.{process_now};
 ghost use Rattle.sb_state.specs.Start.{pages_from};
-ghost use Rattle.sb_trace.specs.SyscallRegister.{is_start, refusal_of_register, server_stack_page, with_registration, with_server, register_outcome};
+ghost use Rattle.sb_trace.specs.SyscallRegister.{is_start, refusal_of_register, server_stack_page, with_registration, with_server, register_of_thread};
 ghost use Rattle.sb_state.specs.Store.{with_added_page};
 
 use super::{accept, refuse};
@@ -67,7 +65,10 @@ fn add_stack_page(pages: &mut Pages, process: u32, page: u32)
 
 fn add_stacks(pages: &mut Pages, process: u32, count: u32)
     requires { count ≤ pages.old.room }
-    ensures { pages.new ≡ record { pages = pages.old.pages ++ pages_from (server_stack_page process) 0 count; room = pages.old.room - count } }
+    ensures { pages.new ≡ record {
+      pages = pages.old.pages ++ pages_from (server_stack_page process) 0 count;
+      room = pages.old.room - count;
+    } }
 {
     for page in 0..count {
         add_stack_page(pages, process, page);
@@ -77,7 +78,10 @@ fn add_stacks(pages: &mut Pages, process: u32, count: u32)
 /// The stacks are there, and their frames are taken.
 fn take_stacks(state: &mut PlainState, process: u32, pages: u32)
     requires { pages ≤ state.old.free }
-    ensures { state.new ≡ record state.old { pages = state.old.pages ++ pages_from (server_stack_page process) 0 pages; free = state.old.free - pages } }
+    ensures { state.new ≡ record state.old {
+      pages = state.old.pages ++ pages_from (server_stack_page process) 0 pages;
+      free = state.old.free - pages;
+    } }
 {
     state.free -= pages;
     add_stacks(&mut state.pages, process, pages);
@@ -95,7 +99,9 @@ fn note_registration(processes: &mut [Process], process: u32, registration: Regi
 
 #[tactic(auto, unfolding(sb_state::specs::State::process_at))]
 fn set_registration(state: &mut PlainState, process: u32, registration: Registration)
-    ensures { state.new ≡ record state.old { processes = with_registration (process_at state.old process) state.old.processes process registration } }
+    ensures { state.new ≡ record state.old {
+      processes = with_registration (process_at state.old process) state.old.processes process registration;
+    } }
 {
     note_registration(&mut state.processes, process, registration);
 }
@@ -114,7 +120,7 @@ fn make_server(state: &mut PlainState, process: u32, handler: u64, stacks: u32)
 
 /// Makes the process that the view shows a server: its handler is in RDI, its number of stacks in RSI.
 pub fn register(state: &mut PlainState, core: u8, next: &Regs) -> Event
-    ensures { (result, state.new) ≡ register_outcome state.old core next.now (process_now (thread_at state.old core)) (refusal_of_register state.old (thread_at state.old core).view (process_now (thread_at state.old core)) (rdi next.now) (rsi next.now)) }
+    ensures { (result, state.new) ≡ register_of_thread state.old core (thread_at state.old core) next.now }
 {
     let thread = state.thread(core);
     let (view, process) = (thread.view, process_now(thread));
