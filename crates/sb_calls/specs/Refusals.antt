@@ -1,5 +1,6 @@
 -- Why a system call is refused: the first reason that applies (docs/FORMATS.md, "System calls").
 use Rattle.std.specs.Prelude.{ℕ, ◌*◌, ◌==◌, ◌&&◌, ◌||◌, nat_le, nat_lt, not, Bool, Option, Some, None, if◌then◌else◌}
+use Rattle.sb_calls.specs.declared.refusals.TheConstants.{WRITE_MODE, EXECUTE_MODE}
 use Rattle.sb_abi.specs.declared.call.CallRefusal.{CallRefusal}
 use Rattle.sb_abi.specs.declared.call.CallRefusal.TheVariants.{InServer, Already, BadHandler, BadCount, NoFrames, NoServer, ListFull, NoKeys, BadPage, BadMode}
 use Rattle.sb_abi.specs.declared.frames.TheConstants.{BIND_FRAMES}
@@ -31,5 +32,5 @@ bind_refusal view home process registered bindings keys free =
 unfoldable pub protect_refusal : ℕ → ℕ → ℕ → Option CallRefusal
 protect_refusal count page mode =
     if nat_le count page then Some BadPage
-    else if (mode == 0) || (mode == 1) then None
+    else if (mode == WRITE_MODE) || (mode == EXECUTE_MODE) then None
     else Some BadMode

@@ -1,5 +1,6 @@
 -- System call 4, protect: a heap page is written, or executed.
 use Rattle.std.specs.Prelude.{ℕ, ◌==◌, Bool, true, false, Option, Some, None, if◌then◌else◌}
+use Rattle.sb_calls.specs.declared.refusals.TheConstants.{EXECUTE_MODE}
 use Rattle.sb_insn.specs.declared.registers.Regs.{Regs}
 use Rattle.sb_abi.specs.declared.call.CallRefusal.{CallRefusal}
 use Rattle.sb_abi.specs.declared.call.CallRefusal.TheVariants.{Pattern}
@@ -28,7 +29,7 @@ execute_mode_outcome state number next process page None = syscall_acceptance (w
 abbrev pub protect_outcome_by : State → ℕ → Regs → ℕ → ℕ → ℕ → Option CallRefusal → Outcome
 protect_outcome_by state number next process page mode (Some refusal) = syscall_refusal state number next refusal 0
 protect_outcome_by state number next process page mode None =
-    if mode == 1 then execute_mode_outcome state number next process page (heap_pattern state process page)
+    if mode == EXECUTE_MODE then execute_mode_outcome state number next process page (heap_pattern state process page)
     else syscall_acceptance (with_heap_mode state process page false) number next
 
 -- protect of a thread: this page of the process gets this mode
