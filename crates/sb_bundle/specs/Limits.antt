@@ -1,8 +1,8 @@
 -- Which bundles there are: each field within its limits.
 use Rattle.std.specs.Prelude.{ℕ, ◌≤◌, ◌<◌, ◌^◌, List, length}
 use Rattle.std.specs.List.{AllByRecursion}
-use Rattle.sb_abi.specs.declared.frames.TheConstants.{MIN_FRAMES, MAX_FRAMES}
 use Rattle.sb_abi.specs.declared.space.TheConstants.{MAX_THREADS, MAX_PROCESSES, WINDOW_BYTES, WINDOW_PAGES}
+use Rattle.sb_abi.specs.declared.frames.TheConstants.{MIN_FRAMES, MAX_FRAMES}
 use Rattle.sb_bundle.specs.declared.limits.Limits.{Limits}
 use Rattle.sb_bundle.specs.declared.bundle.Bundle.{Bundle}
 use Rattle.sb_bundle.specs.declared.bundle.Image.{Image}

@@ -1,10 +1,10 @@
 -- Why a system call is refused: the first reason that applies (docs/FORMATS.md, "System calls").
 use Rattle.std.specs.Prelude.{ℕ, ◌*◌, ◌==◌, ◌&&◌, ◌||◌, nat_le, nat_lt, not, Bool, Option, Some, None, if◌then◌else◌}
-use Rattle.sb_calls.specs.declared.refusals.TheConstants.{WRITE_MODE, EXECUTE_MODE}
 use Rattle.sb_abi.specs.declared.call.CallRefusal.{CallRefusal}
 use Rattle.sb_abi.specs.declared.call.CallRefusal.TheVariants.{InServer, Already, BadHandler, BadCount, NoFrames, NoServer, ListFull, NoKeys, BadPage, BadMode}
 use Rattle.sb_abi.specs.declared.frames.TheConstants.{BIND_FRAMES}
 use Rattle.sb_abi.specs.declared.space.TheConstants.{MAX_BINDINGS, MAX_STACKS, STACK_PAGES}
+use Rattle.sb_calls.specs.declared.refusals.TheConstants.{WRITE_MODE, EXECUTE_MODE}
 
 -- register, in a view: whether the process is a server already, whether an instruction starts at the handler, how many stacks
 -- are asked for, and how many frames are free

@@ -1,8 +1,8 @@
 //! Why system calls are refused, in the order of docs/FORMATS.md.
 
 ghost use Rattle.std.specs.Prelude.{◌≡◌, ◌<◌, ◌≤◌, ◌*◌, None, true};
-ghost use Rattle.sb_abi.specs.declared.space.TheConstants.{MAX_BINDINGS, MAX_STACKS, STACK_PAGES};
 ghost use Rattle.sb_abi.specs.declared.frames.TheConstants.{BIND_FRAMES};
+ghost use Rattle.sb_abi.specs.declared.space.TheConstants.{MAX_BINDINGS, MAX_STACKS, STACK_PAGES};
 ghost use Rattle.sb_calls.specs.Refusals.{bind_refusal, protect_refusal, register_refusal};
 
 use sb_abi::{BIND_FRAMES, CallRefusal, MAX_BINDINGS, MAX_STACKS, STACK_PAGES};

@@ -1,13 +1,13 @@
 -- The registers at each phase of a landing (docs/FORMATS.md, "The landing").
 use Rattle.std.specs.Prelude.{ℕ, ◌+◌, ◌-◌, ◌*◌, ◌^◌, List, [], ◌∷◌, false, Option, Some, None, slice_index, bit_and}
-use Rattle.sb_abi.specs.declared.trampoline.TheConstants.{COMPARE_KEY, BRANCH_ON_KEY, LOAD_POOL, TEST_MASK, BRANCH_ON_POOL, LESS_ONE, DROP_BIT, FIND_STACK, EXCHANGE_POOL, BRANCH_ON_EXCHANGE, STACK_OFFSET, LOAD_BASE, ADD_OFFSET, CLEAR_OFFSET, CLEAR_INDEX, CLEAR_MASK, ENTER, STATUS_WRONG_KEY, SKIP, STATUS_POOL_EMPTY, LEAVE, HOME_INDEX, HOME_LEAF, JUMP_BACK, GO_HOME}
+use Rattle.sb_abi.specs.Numbers.{status_number}
 use Rattle.sb_abi.specs.declared.call.CallStatus.TheVariants as status
+use Rattle.sb_abi.specs.declared.trampoline.TheConstants.{COMPARE_KEY, BRANCH_ON_KEY, LOAD_POOL, TEST_MASK, BRANCH_ON_POOL, LESS_ONE, DROP_BIT, FIND_STACK, EXCHANGE_POOL, BRANCH_ON_EXCHANGE, STACK_OFFSET, LOAD_BASE, ADD_OFFSET, CLEAR_OFFSET, CLEAR_INDEX, CLEAR_MASK, ENTER, STATUS_WRONG_KEY, SKIP, STATUS_POOL_EMPTY, LEAVE, HOME_INDEX, HOME_LEAF, JUMP_BACK, GO_HOME}
 use Rattle.sb_insn.specs.declared.registers.Flags.{Flags}
 use Rattle.sb_insn.specs.declared.registers.Regs.{Regs}
 use Rattle.sb_alu.specs.declared.size.Size.TheVariants.{Quadword}
 use Rattle.sb_exec.specs.Arithmetic.{logic_outcome, sum_outcome}
 use Rattle.sb_exec.specs.Shift.{shl_outcome}
-use Rattle.sb_abi.specs.Numbers.{status_number}
 use Rattle.sb_state.specs.declared.state.Decision.{Decision}
 use Rattle.sb_state.specs.declared.state.Decision.TheVariants as decision
 use Rattle.sb_trace.specs.Registers.{zero_flags}

@@ -1,6 +1,5 @@
 -- What guest-physical addresses answer, in the base and in each view.
 use Rattle.std.specs.Prelude.{ℕ, ◌≡◌, ◌≢◌, ◌+◌, ◌/◌, ◌<◌, ◌≤◌, IsErr}
-use Rattle.sb_root.specs.declared.entry.TheConstants.{RIGHT_READ, RIGHT_READ_WRITE, RIGHT_EXECUTE}
 use Rattle.sb_abi.specs.declared.frames.TheConstants.{KEPT_FRAMES, MAX_FRAMES}
 use Rattle.sb_abi.specs.declared.layout.TheConstants.{FIRST_ROOT, LAST_ROOT, HOME_TRAMPOLINE_FRAME, TRAMPOLINE_GUEST_PAGE, RECORD_GUEST_PAGE, SCRATCH_GUEST_PAGE}
 use Rattle.sb_memory.specs.Physical.{Physical}
@@ -11,6 +10,7 @@ use Rattle.sb_root.specs.declared.view.View.{View}
 use Rattle.sb_root.specs.Entry.{entry_reached}
 use Rattle.sb_root.specs.Tables.{base_eptp, rights_in, trampoline_frame}
 use Rattle.sb_root.specs.Root.{IsSet, list_entry}
+use Rattle.sb_root.specs.declared.entry.TheConstants.{RIGHT_READ, RIGHT_READ_WRITE, RIGHT_EXECUTE}
 
 -- each address answers behind a pointer as it did
 abbrev pub SameAnswers : Physical → Physical → ℕ → Type 0
@@ -38,7 +38,8 @@ pub record IsFirstBase (memory : Physical) : Type 0 where
       → ept_walk memory base_eptp at access ≡ entry_reached (at / 4096) RIGHT_READ at access
   pub trampoline : (at : ℕ) (access : Access) → at / 4096 ≡ TRAMPOLINE_GUEST_PAGE
       → ept_walk memory base_eptp at access ≡ entry_reached HOME_TRAMPOLINE_FRAME RIGHT_EXECUTE at access
-  pub others : (at : ℕ) (access : Access) → at / 4096 ≢ TRAMPOLINE_GUEST_PAGE → ((FIRST_ROOT ≤ at / 4096) → (at / 4096 < LAST_ROOT + 1) → ⊥)
+  pub others : (at : ℕ) (access : Access) → at / 4096 ≢ TRAMPOLINE_GUEST_PAGE
+      → ((FIRST_ROOT ≤ at / 4096) → (at / 4096 < LAST_ROOT + 1) → ⊥)
       → IsErr (ept_walk memory base_eptp at access)
 
 -- the base at all times: as it was built but for the pages from 512 on, each of which leads to its own frame with the rights that
@@ -50,7 +51,8 @@ pub record IsBase (memory : Physical) : Type 0 where
       → ept_walk memory base_eptp at access ≡ entry_reached HOME_TRAMPOLINE_FRAME RIGHT_EXECUTE at access
   pub shared : (at : ℕ) (access : Access) → KEPT_FRAMES ≤ at / 4096 → at / 4096 < MAX_FRAMES
       → ept_walk memory base_eptp at access ≡ entry_reached (at / 4096) (rights_in memory (at / 4096)) at access
-  pub others : (at : ℕ) (access : Access) → at / 4096 ≢ TRAMPOLINE_GUEST_PAGE → ((FIRST_ROOT ≤ at / 4096) → (at / 4096 < LAST_ROOT + 1) → ⊥)
+  pub others : (at : ℕ) (access : Access) → at / 4096 ≢ TRAMPOLINE_GUEST_PAGE
+      → ((FIRST_ROOT ≤ at / 4096) → (at / 4096 < LAST_ROOT + 1) → ⊥)
       → ((KEPT_FRAMES ≤ at / 4096) → (at / 4096 < MAX_FRAMES) → ⊥) → IsErr (ept_walk memory base_eptp at access)
 
 -- each page from 512 on has the rights that it had

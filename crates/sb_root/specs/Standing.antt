@@ -31,7 +31,8 @@ pub record Stands (root : RootKernel) (memory : Physical) : Type 0 where
       → IsPage memory frame.0 (list_entry root thread)
   pub views : (thread index : ℕ) (view : View) → view_of root thread index ≡ Some view → HasView memory view
   pub listed : (thread index : ℕ) (view : View) → view_of root thread index ≡ Some view → eptp_list_frame root thread ≢ None
-  pub inside : (purpose : Use) (frame : ℕ) → used_frame root purpose ≡ Some frame → (KEPT_FRAMES ≤ frame) × (frame < frame_count memory)
+  pub inside : (purpose : Use) (frame : ℕ) → used_frame root purpose ≡ Some frame
+      → (KEPT_FRAMES ≤ frame) × (frame < frame_count memory)
   pub apart : (first second : Use) (frame : ℕ) → used_frame root first ≡ Some frame → used_frame root second ≡ Some frame
       → first ≡ second
 

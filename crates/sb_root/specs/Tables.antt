@@ -2,9 +2,8 @@
 -- 2 MiB. The tables of level 1 for the other fifteen times 2 MiB are the base's, and all share them.
 use Rattle.std.specs.Prelude.{ℕ, ◌≡◌, ◌≢◌, ◌+◌, ◌-◌, ◌/◌, ◌%◌, ◌<◌, ◌≤◌, ◌==◌, ◌&&◌, Bool, IsTrue, List, ◌∷◌, nat_lt, nat_le, get_or, if◌then◌else◌}
 use Rattle.std.specs.List.{range_with_len}
-use Rattle.sb_root.specs.declared.tables.TheConstants.{REGIONS}
-use Rattle.sb_abi.specs.declared.frames.TheConstants.{KEPT_FRAMES, MIN_FRAMES, MAX_FRAMES}
 use Rattle.sb_abi.specs.declared.layout.TheConstants.{HOME_TRAMPOLINE_FRAME, SERVER_TRAMPOLINE_FRAME, FIRST_ROOT, LAST_ROOT, FIRST_REGION_TABLE, BASE_ROOT, BASE_POINTERS, BASE_DIRECTORY, TRAMPOLINE_GUEST_PAGE, RECORD_GUEST_PAGE, SCRATCH_GUEST_PAGE}
+use Rattle.sb_abi.specs.declared.frames.TheConstants.{KEPT_FRAMES, MIN_FRAMES, MAX_FRAMES}
 use Rattle.sb_memory.specs.Physical.{Physical, HasSize, HasAllFrames, frame_count}
 use Rattle.sb_memory.specs.Words.{word_at}
 use Rattle.sb_walks.specs.Entry.{entry_in}
@@ -12,6 +11,7 @@ use Rattle.sb_root.specs.declared.entry.TheConstants.{RIGHT_READ, RIGHT_READ_WRI
 use Rattle.sb_root.specs.declared.tables.ViewTables.{ViewTables}
 use Rattle.sb_root.specs.declared.view.View.{View}
 use Rattle.sb_root.specs.Entry.{eptp_to, link_to, leaf_to, is_rights}
+use Rattle.sb_root.specs.declared.tables.TheConstants.{REGIONS}
 
 -- the tables of the base
 abbrev pub base_tables : ViewTables

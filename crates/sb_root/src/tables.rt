@@ -1,12 +1,12 @@
 //! The tables of an EPT.
 
 ghost use Rattle.std.specs.Prelude.{ℕ, ◌≡◌, ◌≢◌, ◌+◌, ◌<◌, [], ◌∷◌, length, get_or};
-ghost use Rattle.sb_root.specs.declared.tables.TheConstants.{REGIONS};
 ghost use Rattle.sb_abi.specs.declared.layout.TheConstants.{FIRST_REGION_TABLE};
 ghost use Rattle.sb_memory.specs.Physical.{HasSize, frame_count};
 ghost use Rattle.sb_memory.specs.Changes.{SameOutside};
 ghost use Rattle.sb_root.specs.Entry.{link_to};
 ghost use Rattle.sb_root.specs.Tables.{IsPage, upper_entries, directory_entries};
+ghost use Rattle.sb_root.specs.declared.tables.TheConstants.{REGIONS};
 
 use crate::entry::link;
 use crate::page::put_page;

@@ -1,8 +1,8 @@
 -- Words of 8 bytes in pages, the lowest byte first.
 use Rattle.std.specs.Prelude.{ℕ, List, replicate}
-use Rattle.sb_memory.specs.declared.page.TheConstants.{PAGE_SIZE}
 use Rattle.sb_memory.specs.Words.{word_at, put_word}
 pub use Rattle.sb_memory.specs.Words.{words_put}
+use Rattle.sb_memory.specs.declared.page.TheConstants.{PAGE_SIZE}
 use Rattle.sb_state.specs.declared.page.PageName.{PageName}
 use Rattle.sb_state.specs.State.{State, contents, with_contents}
 

@@ -1,8 +1,8 @@
 -- The state at the start of images and entries (docs/FORMATS.md, "The start").
 use Rattle.std.specs.Prelude.{ℕ, zero, suc, ◌+◌, ◌-◌, ◌*◌, List, [], ◌∷◌, ◌++◌, length, take, drop, map, replicate, slice_set, None}
 use Rattle.sb_abi.specs.declared.space.TheConstants.{STACKS_ADDRESS, THREAD_DISTANCE}
-use Rattle.sb_memory.specs.declared.page.TheConstants.{PAGE_SIZE}
 pub use Rattle.sb_memory.specs.Pages.{page_count}
+use Rattle.sb_memory.specs.declared.page.TheConstants.{PAGE_SIZE}
 use Rattle.sb_insn.specs.declared.registers.Regs.{Regs}
 use Rattle.sb_state.specs.declared.end_kind.EndKind.TheVariants.{Running}
 use Rattle.sb_state.specs.declared.page.PageName.{PageName}

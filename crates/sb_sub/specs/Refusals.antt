@@ -4,6 +4,7 @@ use Rattle.sb_abi.specs.declared.call.CallRefusal.{CallRefusal}
 use Rattle.sb_abi.specs.declared.call.CallRefusal.TheVariants.{Pattern}
 use Rattle.sb_abi.specs.Numbers.{refusal_number}
 use Rattle.sb_calls.specs.Refusals.{protect_refusal}
+use Rattle.sb_calls.specs.declared.refusals.TheConstants.{EXECUTE_MODE}
 
 -- where the pattern stands it refuses, and the address is the second value
 abbrev pub pattern_refusal : Option ℕ → Option (CallRefusal × ℕ)
@@ -17,7 +18,7 @@ with_pattern None executable pattern = if executable then pattern_refusal patter
 
 -- protect, in a heap of so many pages
 abbrev pub page_refusal : ℕ → ℕ → ℕ → Option ℕ → Option (CallRefusal × ℕ)
-page_refusal count page mode pattern = with_pattern (protect_refusal count page mode) (mode == 1) pattern
+page_refusal count page mode pattern = with_pattern (protect_refusal count page mode) (mode == EXECUTE_MODE) pattern
 
 -- the answer of a call and its second value, by its refusal
 abbrev pub answer_by : Option (CallRefusal × ℕ) → ℕ × ℕ

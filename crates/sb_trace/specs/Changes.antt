@@ -1,11 +1,11 @@
 -- What a step may change, by its line.
 use Rattle.std.specs.Prelude.{◌≡◌, ◌≢◌, ◌⊎◌, ℕ, ◌-◌, ◌*◌, ◌^◌, ◌<◌, ◌≤◌, Bool, true, List, [], ◌∷◌, ◌++◌, length, map, None, Some, slice_get, slice_set}
-use Rattle.sb_abi.specs.Numbers.{call_number}
-use Rattle.sb_abi.specs.declared.call.Call.TheVariants.{Register, Bind, Protect}
 use Rattle.sb_abi.specs.declared.frames.TheConstants.{BIND_FRAMES}
 use Rattle.sb_abi.specs.declared.space.TheConstants.{STACK_PAGES, MAX_STACKS}
 use Rattle.std.specs.Option.{option_map}
 use Rattle.std.specs.List.{AllByRecursion}
+use Rattle.sb_abi.specs.Numbers.{call_number}
+use Rattle.sb_abi.specs.declared.call.Call.TheVariants.{Register, Bind, Protect}
 use Rattle.sb_memory.specs.declared.address.Access.TheVariants.{Write}
 use Rattle.sb_memory.specs.Words.{put_word}
 use Rattle.sb_trace.specs.declared.event.Event.{Event}

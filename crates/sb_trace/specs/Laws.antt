@@ -1,9 +1,9 @@
 -- The laws of runs of the plain machine (docs/LAWS.md).
 use Rattle.std.specs.Prelude.{◌≡◌, ℕ, ◌*◌, ◌%◌, ◌^◌, ◌<◌, ◌≤◌, List, length, take, drop, Option, Some, None}
 use Rattle.std.specs.List.{AllByRecursion}
-use Rattle.sb_memory.specs.declared.page.TheConstants.{PAGE_SIZE}
-use Rattle.sb_abi.specs.declared.trampoline.TheConstants.{VMFUNC_ADDRESS}
 use Rattle.sb_abi.specs.declared.space.TheConstants.{WINDOW_BYTES, WINDOW_PAGES, WINDOW_THREADS, AREA_PAGES, MAX_PROCESSES}
+use Rattle.sb_abi.specs.declared.trampoline.TheConstants.{VMFUNC_ADDRESS}
+use Rattle.sb_memory.specs.declared.page.TheConstants.{PAGE_SIZE}
 use Rattle.sb_scan.specs.Pattern.{pattern, HasNoPattern}
 use Rattle.sb_exec.specs.Fetching.{Stands, fetch_of}
 use Rattle.sb_trace.specs.declared.event.Event.{Event}

@@ -1,9 +1,9 @@
 -- What holds in each state of a run (docs/LAWS.md): it holds at the start, and each step keeps it.
 use Rattle.std.specs.Prelude.{◌≡◌, ◌≢◌, ℕ, ◌%◌, ◌^◌, ◌<◌, ◌≤◌, Bool, true, false, List, [], ◌∷◌, length, Option, Some, None}
 use Rattle.std.specs.List.{AllByRecursion, Contains}
-use Rattle.sb_memory.specs.declared.page.TheConstants.{PAGE_SIZE}
-use Rattle.sb_abi.specs.declared.trampoline.TheConstants.{VMFUNC_ADDRESS, COMPARE_KEY, BRANCH_ON_KEY, LOAD_POOL, TEST_MASK, BRANCH_ON_POOL, LESS_ONE, DROP_BIT, FIND_STACK, EXCHANGE_POOL, BRANCH_ON_EXCHANGE, STACK_OFFSET, LOAD_BASE, ADD_OFFSET, CLEAR_OFFSET, CLEAR_INDEX, CLEAR_MASK, ENTER, STATUS_WRONG_KEY, SKIP, STATUS_POOL_EMPTY, LEAVE, HOME_INDEX, HOME_LEAF, JUMP_BACK, GO_HOME}
 use Rattle.sb_abi.specs.declared.space.TheConstants.{WINDOW_PAGES, WINDOW_THREADS, MAX_PROCESSES, MAX_BINDINGS, MAX_STACKS}
+use Rattle.sb_abi.specs.declared.trampoline.TheConstants.{VMFUNC_ADDRESS, COMPARE_KEY, BRANCH_ON_KEY, LOAD_POOL, TEST_MASK, BRANCH_ON_POOL, LESS_ONE, DROP_BIT, FIND_STACK, EXCHANGE_POOL, BRANCH_ON_EXCHANGE, STACK_OFFSET, LOAD_BASE, ADD_OFFSET, CLEAR_OFFSET, CLEAR_INDEX, CLEAR_MASK, ENTER, STATUS_WRONG_KEY, SKIP, STATUS_POOL_EMPTY, LEAVE, HOME_INDEX, HOME_LEAF, JUMP_BACK, GO_HOME}
+use Rattle.sb_memory.specs.declared.page.TheConstants.{PAGE_SIZE}
 use Rattle.sb_tramp.specs.declared.record_words.RecordWords.{RecordWords}
 use Rattle.sb_tramp.specs.Home.{home_page}
 use Rattle.sb_tramp.specs.Server.{server_page}

@@ -1,9 +1,9 @@
 -- The system calls (docs/FORMATS.md, "System calls"): exit, print, and those that a server and its clients make.
 use Rattle.std.specs.Prelude.{ℕ, ◌==◌, if◌then◌else◌}
-use Rattle.sb_insn.specs.declared.registers.Regs.{Regs}
-use Rattle.sb_abi.specs.declared.call.Call.TheVariants as system_call
-use Rattle.sb_abi.specs.declared.call.CallRefusal.TheVariants.{NoCall}
 use Rattle.sb_abi.specs.Numbers.{call_number}
+use Rattle.sb_abi.specs.declared.call.Call.TheVariants as system_call
+use Rattle.sb_insn.specs.declared.registers.Regs.{Regs}
+use Rattle.sb_abi.specs.declared.call.CallRefusal.TheVariants.{NoCall}
 use Rattle.sb_trace.specs.declared.event.Event.TheVariants.{Printed, Exit, ServerExit}
 use Rattle.sb_state.specs.declared.end_kind.EndKind.TheVariants.{Ended}
 use Rattle.sb_state.specs.declared.state.Thread.{Thread}

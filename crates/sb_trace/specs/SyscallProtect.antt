@@ -1,10 +1,10 @@
 -- System call 4, protect: a heap page is written, or executed.
 use Rattle.std.specs.Prelude.{ℕ, ◌==◌, Bool, true, false, Option, Some, None, if◌then◌else◌}
-use Rattle.sb_calls.specs.declared.refusals.TheConstants.{EXECUTE_MODE}
 use Rattle.sb_insn.specs.declared.registers.Regs.{Regs}
 use Rattle.sb_abi.specs.declared.call.CallRefusal.{CallRefusal}
 use Rattle.sb_abi.specs.declared.call.CallRefusal.TheVariants.{Pattern}
 use Rattle.sb_calls.specs.Refusals.{protect_refusal}
+use Rattle.sb_calls.specs.declared.refusals.TheConstants.{EXECUTE_MODE}
 use Rattle.sb_state.specs.declared.page.PageName.TheVariants.{Heap}
 use Rattle.sb_state.specs.State.{State, Process, with_mode, process_at}
 use Rattle.sb_trace.specs.Home.{Outcome}
