@@ -1,6 +1,8 @@
 -- What the parts of loading answer.
-use Rattle.std.specs.Prelude.{◌≡◌, ℕ, ◌≤◌, List, length, Result, Ok, Err}
+use Rattle.std.specs.Prelude.{◌≡◌, ℕ, ◌*◌, ◌≤◌, List, length, Result, Ok, Err}
 use Rattle.std.specs.List.{AllByRecursion}
+use Rattle.sb_abi.specs.declared.space.TheConstants.{AREA_PAGES}
+use Rattle.sb_memory.specs.declared.page.TheConstants.{PAGE_SIZE}
 use Rattle.sb_bundle.specs.declared.bundle.Bundle.{Bundle}
 use Rattle.sb_bundle.specs.declared.bundle.Image.{Image}
 use Rattle.sb_bundle.specs.declared.bundle.CoreStart.{CoreStart}
@@ -47,7 +49,7 @@ ChecksFrames bundle rewritten (Err Memory) = ⊥
 
 -- a rewrite area of 64 KiB at most
 abbrev pub HasSmallArea : RewrittenText → Type 0
-HasSmallArea made = length made.area ≤ 65536
+HasSmallArea made = length made.area ≤ AREA_PAGES * PAGE_SIZE
 
 abbrev pub AllSmallAreas : List RewrittenText → Type 0
 AllSmallAreas rewritten = AllByRecursion HasSmallArea rewritten

@@ -15,7 +15,7 @@ use Rattle.sb_forms.specs.declared.helper.Helper.{Helper}
 use Rattle.sb_insn.specs.RegisterNumbers.{modrm_of}
 use Rattle.sb_forms.specs.Registers.{number_of}
 use Rattle.sb_forms.specs.Table.{Replacement, Keep, Moved, InPlace, Unmovable, is_one_byte, is_modrm}
-use Rattle.sb_original.specs.Words.{ScratchWord, FirstSaved, SecondSaved, Words, word_of}
+use Rattle.sb_original.specs.Words.{ScratchWord, FirstSaved, SecondSaved, Words, place_of, word_of}
 use Rattle.sb_original.specs.Kept.{AgreeBut}
 use Rattle.sb_original.specs.Alike.{hides}
 use Rattle.sb_original.specs.Slot.{Slotted, Does}
@@ -39,8 +39,8 @@ original saves start state = record (state.regs) { general = unsaved saves state
 -- what is saved at an address
 abbrev pub save_at : Disp → ℕ → List Save
 save_at (disp.D32 (pos address)) number =
-    if address == 0x70004000 then record { number = number; which = FirstSaved } ∷ []
-    else if address == 0x70004008 then record { number = number; which = SecondSaved } ∷ []
+    if address == place_of FirstSaved then record { number = number; which = FirstSaved } ∷ []
+    else if address == place_of SecondSaved then record { number = number; which = SecondSaved } ∷ []
     else []
 save_at (disp.D32 distance) number = []
 save_at (disp.D8 distance) number = []

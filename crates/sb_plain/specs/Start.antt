@@ -1,7 +1,7 @@
 -- The parts of a process that have bytes at the start, and what the start of a loaded bundle is made from.
 use Rattle.std.specs.Prelude.{ℕ, ◌<◌, ◌≤◌, ◌^◌, length, map}
 use Rattle.std.specs.List.{AllByRecursion}
-use Rattle.sb_abi.specs.declared.space.TheConstants.{MAX_THREADS}
+use Rattle.sb_abi.specs.declared.space.TheConstants.{MAX_THREADS, MAX_PROCESSES}
 use Rattle.sb_load.specs.Loading.{Load, IsLoadable}
 pub use Rattle.sb_load.specs.FirstState.{image_of, images_of, images_loaded, entry_of, first_state}
 use Rattle.sb_trace.specs.Laws.{IsImageSound, IsEntrySound}
@@ -27,7 +27,7 @@ part_filler part.Data = 0
 -- sound images, entries in them, few of both, and key words: what a sound state starts from
 pub record HasSoundStart (load : Load) : Type 0 where
   pub images : AllByRecursion IsImageSound (images_loaded load)
-  pub image_count : length (images_loaded load) ≤ 16
+  pub image_count : length (images_loaded load) ≤ MAX_PROCESSES
   pub entries : AllByRecursion (IsEntrySound (length (images_loaded load))) (map entry_of load.bundle.cores)
   pub entry_count : length (map entry_of load.bundle.cores) ≤ MAX_THREADS
   pub keys : AllByRecursion (λ key. key < 2 ^ 64) load.bundle.keys

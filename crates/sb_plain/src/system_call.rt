@@ -21,7 +21,7 @@ use crate::fault::send_home;
 use bind::bind;
 use protect::protect;
 use register::register;
-use sb_abi::CallRefusal;
+use sb_abi::{Call, CallRefusal};
 use sb_calls::{after_syscall, regs_with_answer};
 use sb_insn::registers::{RAX, RDI};
 use sb_insn::{Insn, Regs};
@@ -78,20 +78,30 @@ fn exit(state: &mut PlainState, core: u8, next: &Regs) -> Event
 
 // ---- by number
 
+const EXIT: u64 = Call::Exit as u64;
+
+const PRINT: u64 = Call::Print as u64;
+
+const REGISTER: u64 = Call::Register as u64;
+
+const BIND: u64 = Call::Bind as u64;
+
+const PROTECT: u64 = Call::Protect as u64;
+
 fn call_by_number(state: &mut PlainState, core: u8, next: &Regs, number: u64) -> Event
     ensures { (result, state.new) ≡ outcome_by_number state.old core (thread_at state.old core) next.now number }
 {
     match number {
-        0 => exit(state, core, next),
-        1 => {
+        EXIT => exit(state, core, next),
+        PRINT => {
             answer_call(state, core, next, 0, 0);
             Event::Printed {
                 value: next.general[RDI],
             }
         }
-        2 => register(state, core, next),
-        3 => bind(state, core, next),
-        4 => protect(state, core, next),
+        REGISTER => register(state, core, next),
+        BIND => bind(state, core, next),
+        PROTECT => protect(state, core, next),
         _ => refuse(state, core, next, CallRefusal::NoCall, 0),
     }
 }

@@ -1,6 +1,7 @@
 -- What calls of a root kernel take and change.
 use Rattle.std.specs.Prelude.{ℕ, ◌≡◌, ◌+◌, ◌<◌, ◌≤◌, ◌⊎◌, Bool, true, None, Some, List, [], ◌∷◌, length, get_or}
 use Rattle.std.specs.List.{Contains}
+use Rattle.sb_abi.specs.declared.frames.TheConstants.{VIEW_FRAMES}
 use Rattle.sb_memory.specs.Physical.{Physical, HoldsBytes, frame_of}
 use Rattle.sb_memory.specs.Changes.{SameOutside}
 use Rattle.sb_memory.specs.Reading.{with_bytes}
@@ -66,7 +67,7 @@ pub record IsAddedView (root root' : RootKernel) (book book' : Book) (old new : 
   pub shows : (view.home_root ≡ home) × (view.target_root ≡ target) × (view.server ≡ server) × (view.listed ≡ true)
   pub free : (frame : ℕ) → Contains (view_frames view) frame → IsFree book frame
   pub taken : book' ≡ with_parts book thread 0 (view_frames view)
-  pub count : free_count book' + 6 ≡ free_count book
+  pub count : free_count book' + VIEW_FRAMES ≡ free_count book
   pub kept : root' ≡ with_view root thread index view
   pub answers : IsViewOf new view (eptp_of_view view)
   pub record_page : IsPage new view.record_page.0 (from_start (words_of words))

@@ -25,6 +25,7 @@ mod tables;
 mod taking;
 mod view;
 
+pub use entry::{RIGHT_EXECUTE, RIGHT_READ, RIGHT_READ_WRITE};
 pub use eptp_switch::switch;
 pub use laws::{
     base_answers, lists_lead_to_views, roots_keep_apart, views_answer, walks_read_tables,

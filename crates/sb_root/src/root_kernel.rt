@@ -20,16 +20,16 @@ use crate::page::put_page;
 use crate::tables::{BASE, REGIONS, region_table};
 use crate::taking::take_view;
 use crate::view::{View, base_entries};
-use sb_abi::VIEW_FRAMES;
+use sb_abi::{MAX_VIEWS, VIEW_FRAMES, WINDOW_THREADS};
 use sb_frames::{FrameBook, Kind};
 use sb_memory::{Frame, Memory, Phys};
 use sb_tramp::RecordWords;
 use thiserror::Error;
 
 /// How many threads there can be.
-const THREADS: usize = 32;
+const THREADS: usize = WINDOW_THREADS as usize;
 /// How many views a thread can have.
-const VIEWS: usize = 16;
+const VIEWS: usize = MAX_VIEWS as usize;
 
 /// Fewer frames are free than a call needs.
 #[derive(Clone, Copy, Debug, PartialEq, Eq, Error)]
@@ -48,9 +48,9 @@ pub struct NoFrames {
 #[derive(Drop)]
 pub struct RootKernel {
     /// For each thread the frame of its list.
-    lists: [Option<Frame>; 32],
+    lists: [Option<Frame>; THREADS],
     /// For each thread the views at its indices.
-    views: [[Option<View>; 16]; 32],
+    views: [[Option<View>; VIEWS]; THREADS],
 }
 
 impl RootKernel {

@@ -7,7 +7,42 @@ ghost use Rattle.sb_state.specs.Windows.{process_of_view, process_now, process_s
 
 use crate::page::{Mode, PageName};
 use crate::state::Thread;
+use sb_abi::{
+    AREA_PAGE, AREA_PAGES, BUFFER_PAGES, BUFFERS_DISTANCE_PAGES, BUFFERS_PAGE, BUFFERS_PER_THREAD,
+    BUFFERS_WINDOW_PAGES, DATA_PAGE, HEAP_PAGE, POOL_PAGE, RECORD_PAGE, SCRATCH_PAGE,
+    SERVER_STACKS_PAGE, STACK_PAGES, STACKS_PAGE, TEXT_PAGE, THREAD_PAGES, TRAMPOLINE_PAGE,
+    WINDOW_PAGES,
+};
 use sb_memory::Access;
+
+// ---- the last pages of the windows
+
+const LAST_AREA: u64 = AREA_PAGE + AREA_PAGES - 1;
+
+const LAST_TEXT: u64 = TEXT_PAGE + WINDOW_PAGES - 1;
+
+const LAST_DATA: u64 = DATA_PAGE + WINDOW_PAGES - 1;
+
+const LAST_HEAP: u64 = HEAP_PAGE + WINDOW_PAGES - 1;
+
+const LAST_BUFFERS: u64 = BUFFERS_PAGE + BUFFERS_WINDOW_PAGES - 1;
+
+const LAST_STACKS: u64 = STACKS_PAGE + WINDOW_PAGES - 1;
+
+const LAST_SERVER_STACKS: u64 = SERVER_STACKS_PAGE + WINDOW_PAGES - 1;
+
+// ---- pages inside of a window, whose numbers have 32 bits
+
+/// The pages from one thread's to the next one's, of which the last half are its stack.
+const THREAD: u32 = THREAD_PAGES as u32;
+/// The first page of its stack.
+const STACK: u32 = (THREAD_PAGES - STACK_PAGES) as u32;
+/// The pages of the buffers of a thread.
+const BUFFERS: u32 = BUFFERS_DISTANCE_PAGES as u32;
+/// The pages of a buffer.
+const BUFFER: u32 = BUFFER_PAGES as u32;
+/// The indices of a thread's buffers.
+const INDICES: u32 = BUFFERS_PER_THREAD as u32;
 
 /// The process that a thread's view shows.
 pub fn process_of_view(view: u32, thread: &Thread) -> Option<u32>
@@ -50,13 +85,13 @@ fn shows_process(threads: &[Thread], thread: u32, view: u32, process: u32) -> bo
 fn stack_name(threads: &[Thread], process: u32, page: u32) -> Option<PageName>
     ensures { result ≡ stack_name threads.now process page }
 {
-    let (thread, number) = (page / 8, page % 8);
+    let (thread, number) = (page / THREAD, page % THREAD);
     if !shows_process(threads, thread, 0, process) {
         return None;
     }
     match number {
         0 => Some(PageName::Save(thread)),
-        4..=7 => Some(PageName::Stack(thread, number - 4)),
+        STACK.. => Some(PageName::Stack(thread, number - STACK)),
         _ => None,
     }
 }
@@ -66,11 +101,11 @@ fn stack_name(threads: &[Thread], process: u32, page: u32) -> Option<PageName>
 fn buffer_name(threads: &[Thread], process: u32, page: u32) -> Option<PageName>
     ensures { result ≡ buffer_name threads.now process page }
 {
-    let (thread, index) = (page / 64, page / 4 % 16);
+    let (thread, index) = (page / BUFFERS, page / BUFFER % INDICES);
     if shows_process(threads, thread, 0, process)
         || shows_process(threads, thread, index, process)
     {
-        Some(PageName::Buffer(thread, index, page % 4))
+        Some(PageName::Buffer(thread, index, page % BUFFER))
     } else {
         None
     }
@@ -81,11 +116,11 @@ fn special_name(thread: u32, view: u32, process: u32, page: u64) -> Option<PageN
     ensures { result ≡ special_name thread view process page }
 {
     match page {
-        0x70000 if view == 0 => Some(PageName::HomeTrampoline),
-        0x70000 => Some(PageName::ServerTrampoline),
-        0x70002 => Some(PageName::Record(thread, view)),
-        0x70004 => Some(PageName::Scratch(thread, view)),
-        0x70006 => Some(PageName::Pool(process)),
+        TRAMPOLINE_PAGE if view == 0 => Some(PageName::HomeTrampoline),
+        TRAMPOLINE_PAGE => Some(PageName::ServerTrampoline),
+        RECORD_PAGE => Some(PageName::Record(thread, view)),
+        SCRATCH_PAGE => Some(PageName::Scratch(thread, view)),
+        POOL_PAGE => Some(PageName::Pool(process)),
         _ => None,
     }
 }
@@ -97,13 +132,17 @@ fn name_at(threads: &[Thread], thread: u32, view: u32, page: u64, process: u32) 
     ensures { result ≡ name_at threads.now thread view page process }
 {
     match page {
-        0x1..=0x10 => Some(PageName::Area(process, (page - 0x1) as u32)),
-        0x400..=0x5FF => Some(PageName::Text(process, (page - 0x400) as u32)),
-        0x800..=0x9FF => Some(PageName::Data(process, (page - 0x800) as u32)),
-        0xC00..=0xDFF => Some(PageName::Heap(process, (page - 0xC00) as u32)),
-        0x2000..=0x27FF => buffer_name(threads, process, (page - 0x2000) as u32),
-        0x3000..=0x31FF => stack_name(threads, process, (page - 0x3000) as u32),
-        0x4000..=0x41FF => Some(PageName::ServerStack(process, (page - 0x4000) as u32)),
+        AREA_PAGE..=LAST_AREA => Some(PageName::Area(process, (page - AREA_PAGE) as u32)),
+        TEXT_PAGE..=LAST_TEXT => Some(PageName::Text(process, (page - TEXT_PAGE) as u32)),
+        DATA_PAGE..=LAST_DATA => Some(PageName::Data(process, (page - DATA_PAGE) as u32)),
+        HEAP_PAGE..=LAST_HEAP => Some(PageName::Heap(process, (page - HEAP_PAGE) as u32)),
+        BUFFERS_PAGE..=LAST_BUFFERS => {
+            buffer_name(threads, process, (page - BUFFERS_PAGE) as u32)
+        },
+        STACKS_PAGE..=LAST_STACKS => stack_name(threads, process, (page - STACKS_PAGE) as u32),
+        SERVER_STACKS_PAGE..=LAST_SERVER_STACKS => {
+            Some(PageName::ServerStack(process, (page - SERVER_STACKS_PAGE) as u32))
+        },
         _ => special_name(thread, view, process, page),
     }
 }

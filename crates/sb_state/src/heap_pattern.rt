@@ -1,6 +1,7 @@
 //! The bytes of VMFUNC, `0F 01 D4`, in a heap page and across its borders.
 
-ghost use Rattle.std.specs.Prelude.{◌≡◌, ◌<◌, ◌≤◌, ◌+◌, ◌*◌, ◌^◌, ◌++◌, IfSome, length, drop};
+ghost use Rattle.std.specs.Prelude.{◌≡◌, ◌<◌, ◌≤◌, ◌+◌, ◌-◌, ◌*◌, ◌^◌, ◌++◌, IfSome, length, drop};
+ghost use Rattle.sb_memory.specs.declared.page.TheConstants.{PAGE_SIZE};
 ghost use Rattle.sb_state.specs.declared.page.PageName.TheVariants.{Heap};
 ghost use Rattle.sb_state.specs.State.{find_page};
 ghost use Rattle.sb_state.specs.Pattern.{executable_bytes, bytes_before, bytes_behind, heap_pattern};
@@ -13,7 +14,7 @@ use sb_scan::first_place;
 
 /// The bytes of a heap page that is executable; none of another.
 fn executable_bytes(state: &PlainState, process: u32, page: u32) -> &[u8]
-    ensures size { length result.now ≤ 4096 }
+    ensures size { length result.now ≤ PAGE_SIZE }
     ensures bytes { result.now ≡ executable_bytes (find_page state.now.pages (Heap process page)) }
 {
     match state.pages.find(PageName::Heap(process, page)) {
@@ -24,8 +25,8 @@ fn executable_bytes(state: &PlainState, process: u32, page: u32) -> &[u8]
 
 /// The last two bytes of a page; none of no bytes.
 pub fn last_two(bytes: &[u8]) -> &[u8]
-    requires { length bytes.now ≤ 4096 }
-    ensures bytes { result.now ≡ drop 4094 bytes.now }
+    requires { length bytes.now ≤ PAGE_SIZE }
+    ensures bytes { result.now ≡ drop (PAGE_SIZE - 2) bytes.now }
     ensures size { length result.now ≤ 2 }
 {
     let start = (PAGE_SIZE - 2).min(bytes.len());

@@ -40,7 +40,7 @@ mod translate;
 mod write;
 
 pub use address_space::process_now;
-pub use bindings::{Bindings, MAX_BINDINGS};
+pub use bindings::Bindings;
 pub use bus::PlainBus;
 pub use end_kind::EndKind;
 pub use heap_pattern::last_two;

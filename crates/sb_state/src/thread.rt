@@ -1,6 +1,7 @@
 //! The thread that a core runs: the one of its number. Where there is none, it is one that has ended, and no call changes it.
 
 ghost use Rattle.std.specs.Prelude.{◌≡◌, ◌<◌, ◌++◌, ◌∷◌, [], length};
+ghost use Rattle.sb_abi.specs.declared.space.TheConstants.{MAX_BINDINGS};
 ghost use Rattle.sb_state.specs.State.{no_thread, thread_at, with_thread, with_regs, with_end, with_view, flight_at, with_flight};
 
 use crate::bindings::Bindings;
@@ -100,7 +101,7 @@ impl PlainState {
     /// Gives the thread of a core a binding behind its others.
     #[tactic(auto, unfolding(crate::specs::State::thread_at))]
     pub fn push_binding(&mut self, core: u8, binding: Binding)
-        requires { length (thread_at self.old core).bindings < 15 }
+        requires { length (thread_at self.old core).bindings < MAX_BINDINGS }
         ensures { self.new ≡ with_thread self.old core
             (record (thread_at self.old core) { bindings = (thread_at self.old core).bindings ++ binding ∷ [] }) }
     {

@@ -1,6 +1,7 @@
 //! The page that an access reaches.
 
 ghost use Rattle.std.specs.Prelude.{◌≡◌, Some, IfOk, length};
+ghost use Rattle.sb_memory.specs.declared.page.TheConstants.{PAGE_SIZE};
 ghost use Rattle.sb_state.specs.State.{find_page};
 ghost use Rattle.sb_state.specs.Windows.{page_by_name};
 ghost use Rattle.sb_state.specs.NameForAccess.{name_for_access, name_if_permitted, name_only};
@@ -21,7 +22,7 @@ fn page_if_permitted(
 ) -> Result<(PageName, &Page), BusStop>
     ensures name { name_only result ≡ name_if_permitted (page_by_name pages.now.pages name) at.0 access }
     ensures page { IfOk result (λ found. find_page pages.now.pages found.0 ≡ Some found.1.now) }
-    ensures size { IfOk result (λ found. length found.1.now.bytes ≡ 4096) }
+    ensures size { IfOk result (λ found. length found.1.now.bytes ≡ PAGE_SIZE) }
 {
     match pages.find(name) {
         Some(page) if permits(mode_of(name, page.executable), access) => Ok((name, page)),
@@ -40,7 +41,7 @@ pub fn page_for_access(
 ) -> Result<(PageName, &Page), BusStop>
     ensures name { name_only result ≡ name_for_access thread view state.now at.0 access }
     ensures page { IfOk result (λ found. find_page state.now.pages found.0 ≡ Some found.1.now) }
-    ensures size { IfOk result (λ found. length found.1.now.bytes ≡ 4096) }
+    ensures size { IfOk result (λ found. length found.1.now.bytes ≡ PAGE_SIZE) }
 {
     if !at.is_canonical() {
         return Err(BusStop::Fault(FaultKind::Canon, at));

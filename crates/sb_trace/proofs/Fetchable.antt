@@ -3,6 +3,7 @@ use Rattle.std.proofs.Common.{◌≡◌, ◌∙◌, sym, ap, subst, ℕ, ◌+◌
 use Rattle.std.specs.Prelude.{Option, Some, None, if◌then◌else◌, nat_lt, nat_le}
 use Rattle.std.specs.Option.{option_map, option_and_then}
 use Rattle.std.proofs.lemmas.Bool.{ltb-true, leb-true, and_parts}
+use Rattle.sb_abi.specs.declared.trampoline.TheConstants.{VMFUNC_ADDRESS}
 use Rattle.sb_memory.specs.declared.address.Access.TheVariants.{Fetch}
 use Rattle.sb_bus.specs.declared.stop.BusStop.{BusStop}
 use Rattle.sb_bus.specs.declared.stop.FaultKind.TheVariants.{Canon, Memory}
@@ -21,7 +22,7 @@ use Rattle.sb_state.specs.State.{State, find_page, contents, bytes_of}
 use Rattle.sb_state.specs.Windows.{name_if, is_within, is_in_buffers, stack_name, buffer_name, special_name, name_at, process_shown, page_by_name, page_and_mode, page_for}
 use Rattle.sb_state.specs.PlainMemory.{plain, plain_byte, byte_seen, byte_in, is_canonical, fault_at}
 use Rattle.sb_trace.specs.Code.{fetched_byte, code_byte, HasNoCodePattern}
-use Rattle.sb_trace.specs.Sound.{HasPage, ArePagesSound, vmfunc_address}
+use Rattle.sb_trace.specs.Sound.{HasPage, ArePagesSound}
 use Rattle.sb_state.proofs.Cases.{clash, same_found}
 use Rattle.sb_state.proofs.Names.{number}
 
@@ -420,7 +421,7 @@ shows state thread view address value is =
 
 pub one_pattern : (state : State) (thread view address : ℕ) → ArePagesSound state.pages
     → Stands (fetch_of (plain thread view) state) address pattern
-    → address % 2 ^ 64 ≡ vmfunc_address
+    → address % 2 ^ 64 ≡ VMFUNC_ADDRESS
 one_pattern state thread view address sound stands =
     let zero_on : bytes_from_fetch address 0 ≡ address % 2 ^ 64 = omega arith in
     let first : plain_byte thread view state (address % 2 ^ 64) Fetch ≡ Ok 0x0F =

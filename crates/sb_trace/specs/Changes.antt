@@ -1,9 +1,11 @@
 -- What a step may change, by its line.
 use Rattle.std.specs.Prelude.{◌≡◌, ◌≢◌, ◌⊎◌, ℕ, ◌-◌, ◌*◌, ◌^◌, ◌<◌, ◌≤◌, Bool, true, List, [], ◌∷◌, ◌++◌, length, map, None, Some, slice_get, slice_set}
 use Rattle.sb_abi.specs.declared.frames.TheConstants.{BIND_FRAMES}
-use Rattle.sb_abi.specs.declared.space.TheConstants.{STACK_PAGES}
+use Rattle.sb_abi.specs.declared.space.TheConstants.{STACK_PAGES, MAX_STACKS}
 use Rattle.std.specs.Option.{option_map}
 use Rattle.std.specs.List.{AllByRecursion}
+use Rattle.sb_abi.specs.Numbers.{call_number}
+use Rattle.sb_abi.specs.declared.call.Call.TheVariants.{Register, Bind, Protect}
 use Rattle.sb_memory.specs.declared.address.Access.TheVariants.{Write}
 use Rattle.sb_memory.specs.Words.{put_word}
 use Rattle.sb_trace.specs.declared.event.Event.{Event}
@@ -129,7 +131,7 @@ pub record AddsStacks (old : State) (process : ℕ) (new : State) : Type 0 where
   pub listed : is_listed found.starts handler ≡ true
   pub stacks : ℕ
   pub some : 1 ≤ stacks
-  pub few : stacks ≤ 16
+  pub few : stacks ≤ MAX_STACKS
   pub room : STACK_PAGES * stacks ≤ old.free
   pub pages : new.pages
       ≡ with_first_word old (Pool process) (2 ^ stacks - 1) ++ pages_from (server_stack_page process) 0 (STACK_PAGES * stacks)
@@ -170,9 +172,10 @@ pub record ChangesMode (old : State) (process : ℕ) (new : State) : Type 0 wher
 abbrev pub CallChanges : State → ℕ → ℕ → ℕ → State → Type 0
 CallChanges old core number answer new =
     ((answer ≢ 0) × OnlyThreads old new)
-    ⊎ ((answer ≡ 0) × (number ≡ 2) × ((thread_at old core).view ≡ 0) × AddsStacks old (thread_at old core).home new)
-    ⊎ ((answer ≡ 0) × (number ≡ 3) × ((thread_at old core).view ≡ 0) × AddsView old core new)
-    ⊎ ((answer ≡ 0) × (number ≡ 4) × ChangesMode old (process_now (thread_at old core)) new)
+    ⊎ ((answer ≡ 0) × (number ≡ call_number Register) × ((thread_at old core).view ≡ 0)
+      × AddsStacks old (thread_at old core).home new)
+    ⊎ ((answer ≡ 0) × (number ≡ call_number Bind) × ((thread_at old core).view ≡ 0) × AddsView old core new)
+    ⊎ ((answer ≡ 0) × (number ≡ call_number Protect) × ChangesMode old (process_now (thread_at old core)) new)
 
 -- ---- a step
 

@@ -1,5 +1,7 @@
 -- The system calls (docs/FORMATS.md, "System calls"): exit, print, and those that a server and its clients make.
 use Rattle.std.specs.Prelude.{ℕ, ◌==◌, if◌then◌else◌}
+use Rattle.sb_abi.specs.Numbers.{call_number}
+use Rattle.sb_abi.specs.declared.call.Call.TheVariants as system_call
 use Rattle.sb_insn.specs.declared.registers.Regs.{Regs}
 use Rattle.sb_abi.specs.declared.call.CallRefusal.TheVariants.{NoCall}
 use Rattle.sb_trace.specs.declared.event.Event.TheVariants.{Printed, Exit, ServerExit}
@@ -22,11 +24,11 @@ exit_outcome state core next =
 -- by the number of the call, which acts on the process that the thread's view shows
 abbrev pub outcome_by_number : State → ℕ → Thread → Regs → ℕ → Outcome
 outcome_by_number state core thread next call =
-    if call == 0 then exit_outcome state core next
-    else if call == 1 then (Printed (rdi next), state_after_call state core next 0 0)
-    else if call == 2 then register_of_thread state core thread next
-    else if call == 3 then bind_of_thread state core thread next
-    else if call == 4 then protect_of_thread state core thread next
+    if call == call_number system_call.Exit then exit_outcome state core next
+    else if call == call_number system_call.Print then (Printed (rdi next), state_after_call state core next 0 0)
+    else if call == call_number system_call.Register then register_of_thread state core thread next
+    else if call == call_number system_call.Bind then bind_of_thread state core thread next
+    else if call == call_number system_call.Protect then protect_of_thread state core thread next
     else syscall_refusal state core next NoCall 0
 
 -- SYSCALL of the thread of this core, by the registers after it: the number is in RAX, arguments are in RDI and RSI

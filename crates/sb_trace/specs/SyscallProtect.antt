@@ -4,6 +4,7 @@ use Rattle.sb_insn.specs.declared.registers.Regs.{Regs}
 use Rattle.sb_abi.specs.declared.call.CallRefusal.{CallRefusal}
 use Rattle.sb_abi.specs.declared.call.CallRefusal.TheVariants.{Pattern}
 use Rattle.sb_calls.specs.Refusals.{protect_refusal}
+use Rattle.sb_calls.specs.declared.refusals.TheConstants.{EXECUTE_MODE}
 use Rattle.sb_state.specs.declared.page.PageName.TheVariants.{Heap}
 use Rattle.sb_state.specs.declared.state.Thread.{Thread}
 use Rattle.sb_state.specs.State.{State, Process, with_mode, process_at}
@@ -31,7 +32,7 @@ execute_mode_outcome state core next process page None = syscall_acceptance (wit
 abbrev pub protect_outcome_by : State → ℕ → Regs → ℕ → ℕ → ℕ → Option CallRefusal → Outcome
 protect_outcome_by state core next process page mode (Some refusal) = syscall_refusal state core next refusal 0
 protect_outcome_by state core next process page mode None =
-    if mode == 1 then execute_mode_outcome state core next process page (heap_pattern state process page)
+    if mode == EXECUTE_MODE then execute_mode_outcome state core next process page (heap_pattern state process page)
     else syscall_acceptance (with_heap_mode state process page false) core next
 
 -- protect: this page of the process gets this mode, or it is refused

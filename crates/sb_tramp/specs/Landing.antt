@@ -6,7 +6,7 @@ use Rattle.sb_tramp.specs.declared.landing.LandingRow.{LandingRow}
 use Rattle.sb_tramp.specs.Page.{PageRow, StandsIn}
 use Rattle.sb_tramp.specs.Server.{switch_row, landed_rows, server_page}
 
--- the rows in the order of the phases 0 to 24
+-- the rows in the order of the phases, from COMPARE_KEY to GO_HOME
 abbrev pub phase_rows : List PageRow
 phase_rows = landed_rows ++ (switch_row ∷ [])
 

@@ -1,6 +1,7 @@
 //! The pages at the start.
 
 ghost use Rattle.std.specs.Prelude.{◌≡◌, ◌^◌, ◌<◌, ◌++◌, ◌∷◌, [], IfOk, OnOk, length, map};
+ghost use Rattle.sb_memory.specs.declared.page.TheConstants.{PAGE_SIZE};
 ghost use Rattle.sb_state.specs.State.{page_with};
 ghost use Rattle.sb_state.specs.PageWords.{zeros};
 ghost use Rattle.sb_state.specs.Start.{padded_pages, heap_pages, process_pages, thread_pages, trampoline_pages, images_pages, threads_pages};
@@ -48,7 +49,7 @@ impl ImagePart {
 }
 
 fn push_named(pages: &mut Pages, name: PageName, bytes: PageBytes) -> Result<(), AllocError>
-    requires { length bytes ≡ 4096 }
+    requires { length bytes ≡ PAGE_SIZE }
     ensures { OnOk result (pages.new.pages ≡ pages.old.pages ++ page_with name bytes ∷ []) }
 {
     pages.push(Page {

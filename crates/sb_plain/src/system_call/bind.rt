@@ -1,6 +1,8 @@
 //! System call 3: a thread gets a view of a server.
 
 ghost use Rattle.std.specs.Prelude.{◌≡◌, ◌<◌, ◌≤◌, ◌+◌, ◌-◌, ◌^◌, ◌++◌, None, length, drop};
+ghost use Rattle.sb_abi.specs.declared.frames.TheConstants.{BIND_FRAMES};
+ghost use Rattle.sb_abi.specs.declared.space.TheConstants.{MAX_BINDINGS};
 ghost use Rattle.sb_tramp.specs.Record.{record_bytes};
 ghost use Rattle.sb_state.specs.declared.page.PageName.TheVariants.{Record};
 ghost use Rattle.sb_state.specs.State.{page_with, thread_at};
@@ -24,8 +26,8 @@ use sb_tramp::RecordWords;
 fn refusal_of_bind(state: &PlainState, thread: &Thread, server: u64) -> Option<CallRefusal>
     ensures refusal { result ≡ refusal_of_bind state.now thread.now server }
     ensures number { result ≡ None → server < 2 ^ 32 }
-    ensures bindings { result ≡ None → length thread.now.bindings < 15 }
-    ensures frames { result ≡ None → 10 ≤ state.now.free }
+    ensures bindings { result ≡ None → length thread.now.bindings < MAX_BINDINGS }
+    ensures frames { result ≡ None → BIND_FRAMES ≤ state.now.free }
 {
     let registered = registration_at(state, server as usize).is_some();
     bind_refusal(
@@ -67,10 +69,10 @@ fn add_view(pages: &mut Pages, thread: u32, index: u32, words: &RecordWords)
 
 /// The pages of a view are there, and its frames are taken.
 fn take_view(state: &mut PlainState, thread: u8, index: u16, words: &RecordWords)
-    requires { 10 ≤ state.old.free }
+    requires { BIND_FRAMES ≤ state.old.free }
     ensures { state.new ≡ record state.old {
       pages = state.old.pages ++ binding_pages thread index words.now;
-      free = state.old.free - 10;
+      free = state.old.free - BIND_FRAMES;
     } }
 {
     state.free -= BIND_FRAMES;
@@ -88,8 +90,8 @@ fn draw_key(state: &mut PlainState) -> u64
 /// The thread has a view of a server more, with its pages and a key of its own.
 #[tactic(auto, unfolding(sb_trace::specs::SyscallBind::with_binding, sb_state::specs::State::thread_at, sb_state::specs::State::registration_at, sb_state::specs::State::process_at))]
 fn make_binding(state: &mut PlainState, core: u8, server: u32) -> Binding
-    requires bindings { length (thread_at state.old core).bindings < 15 }
-    requires frames { 10 ≤ state.old.free }
+    requires bindings { length (thread_at state.old core).bindings < MAX_BINDINGS }
+    requires frames { BIND_FRAMES ≤ state.old.free }
     ensures binding { result ≡ new_binding state.old (thread_at state.old core) server }
     ensures made { state.new
         ≡ with_binding state.old core (thread_at state.old core) (new_binding state.old (thread_at state.old core) server) }

@@ -1,6 +1,7 @@
 //! System call 2: the process becomes a server.
 
 ghost use Rattle.std.specs.Prelude.{◌≡◌, ◌<◌, ◌≤◌, ◌-◌, ◌*◌, ◌++◌, None, slice_get};
+ghost use Rattle.sb_abi.specs.declared.space.TheConstants.{MAX_STACKS};
 ghost use Rattle.sb_state.specs.State.{thread_at, process_at};
 ghost use Rattle.sb_state.specs.Start.{pages_from};
 ghost use Rattle.sb_trace.specs.SyscallRegister.{is_start, refusal_of_register, server_stack_page, with_registration, with_server, register_of_thread};
@@ -39,7 +40,7 @@ fn refusal_of_register(
     stacks: u64,
 ) -> Option<CallRefusal>
     ensures refusal { result ≡ refusal_of_register state.now view process handler stacks }
-    ensures stacks { result ≡ None → stacks ≤ 16 }
+    ensures stacks { result ≡ None → stacks ≤ MAX_STACKS }
     ensures frames { result ≡ None → 4 * stacks ≤ state.now.free }
 {
     let registered = registration_at(state, process as usize).is_some();
@@ -109,7 +110,7 @@ fn set_registration(state: &mut PlainState, process: u32, registration: Registra
 /// The process has so many stacks, all of them free.
 #[tactic(auto, unfolding(sb_trace::specs::SyscallRegister::with_server, sb_state::specs::State::process_at, sb_state::specs::PageWords::with_word, sb_state::specs::State::with_contents))]
 fn make_server(state: &mut PlainState, process: u32, handler: u64, stacks: u32)
-    requires count { stacks ≤ 16 }
+    requires count { stacks ≤ MAX_STACKS }
     requires frames { 4 * stacks ≤ state.old.free }
     ensures { state.new ≡ with_server state.old process handler stacks }
 {
