@@ -8,7 +8,7 @@ ghost use Rattle.skybridge.specs.declared.words.BundleCommand.{BundleCommand};
 ghost use Rattle.skybridge.specs.Output.{IsOutput, IsTold, WhereTold, PartlyAppended, ReportedAs, PartlyReported, Wrote, PartlyWrote, RefusedBundle, RefusedLoad, WritesLine};
 ghost use Rattle.skybridge.specs.Lawful.{IsLawfulOutput, WroteLawfully};
 ghost use Rattle.skybridge.specs.Words.{IsCommand, ReadsBundle, word_texts};
-ghost use Rattle.skybridge.specs.Status.{IsOwn, status_number};
+ghost use Rattle.skybridge.specs.Status.{IsOwn, exit_status};
 ghost use Rattle.skybridge.specs.Summary.{IsSummary};
 ghost use Rattle.skybridge.specs.Lines.{usage_line, read_fault_line, too_long_line};
 
@@ -44,7 +44,7 @@ pub enum Status {
 impl Status {
     /// The program's exit status.
     pub fn number(self) -> u8
-        ensures { result ≡ status_number self }
+        ensures { result ≡ exit_status self }
     {
         self as u8
     }

@@ -4,7 +4,7 @@ ghost use Rattle.std.specs.Prelude.{IfOk, string_bytes};
 ghost use Rattle.sb_trace.specs.Run.{RunBy};
 ghost use Rattle.sb_trace.specs.Step.{Steps};
 ghost use Rattle.sb_load.specs.Loading.{IsLoadable};
-ghost use Rattle.skybridge.specs.Runs.{RunsTo};
+ghost use Rattle.skybridge.specs.Runs.{LoadRunsTo};
 ghost use Rattle.skybridge.specs.Output.{IsReport, IsOutput};
 ghost use Rattle.skybridge.specs.Answer.{Reports, ReportsBundle};
 ghost use Rattle.sb_bundle.specs.Limits.{IsBundle};
@@ -46,7 +46,7 @@ fn run(alloc: Global, plain: &mut Plain, schedule: &[u8]) -> Result<Lines, Alloc
 /// The lines of the plain machine's run on the bundle's schedule, and its last state.
 pub fn whole_run(alloc: Global, loaded: &Loaded) -> Result<(Lines, EndState), AllocError>
     requires { IsLoadable loaded.now }
-    ensures { IfOk result (λ run. RunsTo loaded.now run.0 run.1) }
+    ensures { IfOk result (λ run. LoadRunsTo loaded.now run.0 run.1) }
 {
     let mut plain = Plain::new(alloc, loaded)?;
     let lines = run(alloc, &mut plain, loaded.bundle().schedule.items())?;
