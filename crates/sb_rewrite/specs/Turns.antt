@@ -57,7 +57,7 @@ abbrev pub next_place : RewrittenText → Insn → ℕ → Form → Placement
 next_place old insn at form = record { insn = insn; at = at; slot = area_address + length old.area; form = form }
 
 -- an instruction of a text with what the table of forms puts in its place, and the slot that comes next
-abbrev pub place_by_table : List ℕ → Output → TextInsn → Placement
+abbrev pub place_by_table : List ℕ → RewrittenText → TextInsn → Placement
 place_by_table text old text_insn = place text text_insn.at (area_address + length old.area) text_insn.insn
 
 -- one more instruction starts

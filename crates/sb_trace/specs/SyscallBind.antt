@@ -82,4 +82,4 @@ bind_outcome state core thread next None = binding_outcome state core thread nex
 
 -- bind of a thread: it gets a view of the server, or it is refused
 abbrev pub bind_of_thread : State → ℕ → Thread → Regs → Outcome
-bind_of_thread state number thread next = bind_outcome state number thread next (refusal_of_bind state thread (rdi next))
+bind_of_thread state core thread next = bind_outcome state core thread next (refusal_of_bind state thread (rdi next))

@@ -42,4 +42,4 @@ protect_outcome state core next process page mode =
 
 -- protect of a thread, in the process that its view shows: the page is in RDI, the mode in RSI
 abbrev pub protect_of_thread : State → ℕ → Thread → Regs → Outcome
-protect_of_thread state number thread next = protect_outcome state number next (process_now thread) (rdi next) (rsi next)
+protect_of_thread state core thread next = protect_outcome state core next (process_now thread) (rdi next) (rsi next)

@@ -69,6 +69,6 @@ register_outcome state core next process None = syscall_acceptance (with_server 
 
 -- register of a thread: the process that its view shows becomes a server, or it is refused
 abbrev pub register_of_thread : State → ℕ → Thread → Regs → Outcome
-register_of_thread state number thread next =
-    register_outcome state number next (process_now thread)
+register_of_thread state core thread next =
+    register_outcome state core next (process_now thread)
     (refusal_of_register state thread.view (process_now thread) (rdi next) (rsi next))
