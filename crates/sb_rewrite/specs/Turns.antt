@@ -9,9 +9,8 @@ use Rattle.sb_rewrite.specs.declared.refusal.RewriteRefusal.TheVariants.{Undecod
 use Rattle.sb_rewrite.specs.declared.target.Jump.{Jump}
 use Rattle.sb_rewrite.specs.Listing.{text_address, IsUndecodedAt}
 use Rattle.sb_rewrite.specs.Target.{direct_target}
-use Rattle.sb_abi.specs.declared.space.TheConstants.{TEXT_ADDRESS, WINDOW_PAGES}
-use Rattle.sb_memory.specs.declared.page.TheConstants.{PAGE_SIZE}
-use Rattle.sb_forms.specs.Places.{IsPermitted}
+use Rattle.sb_abi.specs.declared.space.TheConstants.{TEXT_ADDRESS}
+use Rattle.sb_forms.specs.Places.{IsPermitted, text_end}
 use Rattle.sb_forms.specs.declared.answer.Form.{Form}
 use Rattle.sb_forms.specs.declared.answer.Form.TheVariants as form
 use Rattle.sb_rewrite.specs.Placing.{Placement, area_address}
@@ -36,7 +35,7 @@ DecodesFirst text rest (Err refusal) =
 pub record IsTextInsn (text_insn : TextInsn) : Type 0 where
   pub valid : IsValid text_insn.insn
   pub bytes : text_insn.bytes.now ≡ spelling text_insn.insn
-  pub here : text_insn.at ≤ 0x600000
+  pub here : text_insn.at ≤ text_end
 
 -- ---- what stands in its place
 
@@ -85,7 +84,7 @@ Puts old new place (Err Memory) = Unit {0}
 
 -- an address that a text can have
 abbrev pub is_in_text : ℕ → Bool
-is_in_text address = nat_le TEXT_ADDRESS address && nat_lt address (TEXT_ADDRESS + WINDOW_PAGES * PAGE_SIZE)
+is_in_text address = nat_le TEXT_ADDRESS address && nat_lt address text_end
 
 -- there is a target, and it is neither such an address nor in the trampoline
 abbrev pub IsFar : Option ℕ → Type 0
