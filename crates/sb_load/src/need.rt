@@ -1,7 +1,8 @@
 //! How many frames a bundle takes.
 
-ghost use Rattle.std.specs.Prelude.{◌≡◌, ◌*◌, ◌≤◌, length, sum_by};
+ghost use Rattle.std.specs.Prelude.{◌≡◌, ◌+◌, ◌*◌, ◌≤◌, length, sum_by};
 ghost use Rattle.std.specs.List.{AllByRecursion};
+ghost use Rattle.sb_abi.specs.declared.frames.TheConstants.{PROCESS_FRAMES};
 ghost use Rattle.sb_abi.specs.declared.space.TheConstants.{MAX_PROCESSES, WINDOW_BYTES, WINDOW_PAGES};
 ghost use Rattle.sb_bundle.specs.Limits.{IsBundle, IsImage};
 ghost use Rattle.sb_load.specs.Need.{page_count, process_need, area_need, need_of};
@@ -24,7 +25,7 @@ fn pages_of(bytes: &[u8]) -> u32
 fn process_need(image: &Image) -> u32
     requires { IsImage image.now }
     ensures value { result ≡ process_need image.now }
-    ensures bound { result ≤ 1548 }
+    ensures bound { result ≤ PROCESS_FRAMES + 3 * WINDOW_PAGES }
 {
     PROCESS_FRAMES
         + pages_of(image.text.items())
@@ -36,7 +37,7 @@ fn processes_need(images: &[Image]) -> u32
     requires images { AllByRecursion IsImage images.now }
     requires count { length images.now ≤ MAX_PROCESSES }
     ensures value { result ≡ sum_by process_need images.now }
-    ensures bound { result ≤ 1548 * length images.now }
+    ensures bound { result ≤ (PROCESS_FRAMES + 3 * WINDOW_PAGES) * length images.now }
 {
     let mut need = 0;
     for image in images {

@@ -10,7 +10,7 @@ use Rattle.sb_rewrite.specs.declared.target.Jump.{Jump}
 use Rattle.sb_rewrite.specs.Listing.{text_address, IsUndecodedAt}
 use Rattle.sb_rewrite.specs.Target.{direct_target}
 use Rattle.sb_abi.specs.declared.space.TheConstants.{TEXT_ADDRESS}
-use Rattle.sb_forms.specs.Places.{text_end, IsPermitted}
+use Rattle.sb_forms.specs.Places.{text_end, IsPermitted, text_end}
 use Rattle.sb_forms.specs.declared.answer.Form.{Form}
 use Rattle.sb_forms.specs.declared.answer.Form.TheVariants as form
 use Rattle.sb_rewrite.specs.Placing.{Placement, area_address, place}
@@ -35,7 +35,7 @@ DecodesFirst text rest (Err refusal) =
 pub record IsTextInsn (text_insn : TextInsn) : Type 0 where
   pub valid : IsValid text_insn.insn
   pub bytes : text_insn.bytes.now ≡ spelling text_insn.insn
-  pub here : text_insn.at ≤ 0x600000
+  pub here : text_insn.at ≤ text_end
 
 -- ---- what stands in its place
 

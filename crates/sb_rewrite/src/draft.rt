@@ -5,6 +5,7 @@ ghost use Rattle.sb_insn.specs.Spelling.{spelling};
 ghost use Rattle.sb_forms.specs.Pieces.{jump_insn};
 ghost use Rattle.sb_forms.specs.Answers.{HasRoom, FitsSlot};
 ghost use Rattle.sb_forms.specs.Answers.{area_end};
+ghost use Rattle.sb_forms.specs.Places.{text_end};
 ghost use Rattle.sb_rewrite.specs.Placing.{area_address};
 ghost use Rattle.sb_rewrite.specs.RewrittenText.{IsOrdered};
 ghost use Rattle.sb_rewrite.specs.Turns.{IsTextInsn, started, keep, moved, in_place, next_place, with_start, Puts, IsFirstLeft};
@@ -37,6 +38,7 @@ pub struct Draft {
 
 impl Model for Draft {
     ghost use Rattle.std.specs.Prelude.{◌≤◌, length};
+    ghost use Rattle.sb_rewrite.specs.declared.draft.TheConstants.{AREA_SIZE};
     ghost use Rattle.sb_rewrite.specs.RewrittenText.{RewrittenText};
 
     ghost Value = { RewrittenText };
@@ -49,13 +51,13 @@ impl Model for Draft {
       moves = draft.moves.items;
     } };
 
-    ghost invariant = { λ draft. length draft.area.items ≤ 0x10000 };
+    ghost invariant = { λ draft. length draft.area.items ≤ AREA_SIZE };
 }
 
 /// Puts the jump to a slot into a text, and NOPs for the further bytes of the instruction.
 fn put_jump(text: &mut Vec<u8>, from: u64, to: u64, length: usize) -> Result<(), AllocError>
-    requires from { from ≤ 0x600000 }
-    requires to { to ≤ 0x11000 }
+    requires from { from ≤ text_end }
+    requires to { to ≤ area_end }
     requires room { 5 ≤ length }
     ensures { IfOk result (λ done. text.new.items
         ≡ text.old.items ++ (spelling (jump_insn from to) ++ replicate (length - 5) 0x90)) }

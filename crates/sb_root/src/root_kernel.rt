@@ -1,6 +1,8 @@
 //! The root kernel.
 
 ghost use Rattle.std.specs.Prelude.{ℕ, ◌≡◌, ◌≢◌, ◌↔◌, ◌+◌, ◌<◌, ◌≤◌, None, Some, false, IsTrue, IsErr, IfOk, IfErr, length};
+ghost use Rattle.sb_abi.specs.declared.frames.TheConstants.{KEPT_FRAMES, MIN_FRAMES, MAX_FRAMES, VIEW_FRAMES};
+ghost use Rattle.sb_abi.specs.declared.space.TheConstants.{WINDOW_THREADS, MAX_VIEWS};
 ghost use Rattle.sb_memory.specs.Physical.{HasAllFrames, HasSize, frame_count};
 ghost use Rattle.sb_memory.specs.Changes.{SameOutside};
 ghost use Rattle.sb_memory.specs.Reading.{with_bytes};
@@ -56,13 +58,13 @@ pub struct RootKernel {
 impl RootKernel {
     /// Builds the base EPT in its fixed frames.
     pub fn new(memory: &mut Memory) -> RootKernel
-        requires least { 513 ≤ frame_count memory.old }
-        requires most { frame_count memory.old ≤ 8192 }
+        requires least { MIN_FRAMES ≤ frame_count memory.old }
+        requires most { frame_count memory.old ≤ MAX_FRAMES }
         ensures empty { result ≡ no_threads }
         ensures stands { Stands result memory.new }
-        ensures booked { (book : Book) → length book + 512 ≡ frame_count memory.new → IsBooked result book memory.new }
+        ensures booked { (book : Book) → length book + KEPT_FRAMES ≡ frame_count memory.new → IsBooked result book memory.new }
         ensures base { IsFirstBase memory.new }
-        ensures rights { (page : ℕ) → 512 ≤ page → page < 8192 → rights_in memory.new page ≡ 0 }
+        ensures rights { (page : ℕ) → KEPT_FRAMES ≤ page → page < MAX_FRAMES → rights_in memory.new page ≡ 0 }
         ensures same { SameOutside base_frames memory.old memory.new }
     {
         BASE.put_upper(memory);
@@ -79,7 +81,7 @@ impl RootKernel {
     /// 1 read, 3 read and write, and 4 execute.
     pub fn expose(&mut self, memory: &mut Memory, frame: Frame, rights: u8)
         requires stands { Stands self.old memory.old }
-        requires from { 512 ≤ frame.0 }
+        requires from { KEPT_FRAMES ≤ frame.0 }
         requires inside { frame.0 < frame_count memory.old }
         requires rights { IsTrue (is_rights rights) }
         ensures root { self.new ≡ self.old }
@@ -108,7 +110,7 @@ impl RootKernel {
     ) -> Result<(), NoFrames>
         requires stands { Stands self.old memory.old }
         requires booked { IsBooked self.old book.old memory.old }
-        requires thread { thread < 32 }
+        requires thread { thread < WINDOW_THREADS }
         requires none { eptp_list_frame self.old thread ≡ None }
         ensures refused { IsErr result ↔ (free_count book.old ≡ 0) }
         ensures cause { IfErr result (λ refusal. refusal ≡ no_frames 1 (free_count book.old)) }
@@ -149,13 +151,13 @@ impl RootKernel {
     ) -> Result<u16, NoFrames>
         requires stands { Stands self.old memory.old }
         requires booked { IsBooked self.old book.old memory.old }
-        requires thread { thread < 32 }
+        requires thread { thread < WINDOW_THREADS }
         requires list { eptp_list_frame self.old thread ≢ None }
         requires room { HasFreeIndex self.old thread }
         requires home { IsRootFrame home_root.0 }
         requires target { IsRootFrame target_root.0 }
-        ensures refused { IsErr result ↔ (free_count book.old < 6) }
-        ensures cause { IfErr result (λ refusal. refusal ≡ no_frames 6 (free_count book.old)) }
+        ensures refused { IsErr result ↔ (free_count book.old < VIEW_FRAMES) }
+        ensures cause { IfErr result (λ refusal. refusal ≡ no_frames VIEW_FRAMES (free_count book.old)) }
         ensures unchanged { IfErr result (λ _. (self.new ≡ self.old) × (book.new ≡ book.old) × (memory.new ≡ memory.old)) }
         ensures added { IfOk result (λ index. (view : View)
             × IsAddedView self.old self.new book.old book.new memory.old memory.new thread home_root target_root words.now
@@ -181,7 +183,7 @@ impl RootKernel {
     /// Sets an entry of a thread's list to 0. The frames of the view stay taken, and are kept until the index is used again.
     pub fn clear_entry(&mut self, memory: &mut Memory, thread: u8, index: u16)
         requires stands { Stands self.old memory.old }
-        requires thread { thread < 32 }
+        requires thread { thread < WINDOW_THREADS }
         requires list { eptp_list_frame self.old thread ≢ None }
         requires set { IsSet self.old thread index }
         ensures root { (view : View) → view_of self.old thread index ≡ Some view
@@ -207,7 +209,7 @@ impl RootKernel {
 
     /// Whether a thread has a list.
     pub fn has_list(&self, thread: u8) -> bool
-        requires thread { thread < 32 }
+        requires thread { thread < WINDOW_THREADS }
         ensures { (result ≡ false) ↔ (eptp_list_frame self.now thread ≡ None) }
     {
         self.lists[usize::from(thread)].is_some()
@@ -215,7 +217,7 @@ impl RootKernel {
 
     /// The frame of a thread's list.
     pub fn list_frame(&self, thread: u8) -> Frame
-        requires thread { thread < 32 }
+        requires thread { thread < WINDOW_THREADS }
         requires list { eptp_list_frame self.now thread ≢ None }
         ensures { eptp_list_frame self.now thread ≡ Some result }
     {
@@ -224,7 +226,7 @@ impl RootKernel {
 
     /// The lowest index of a thread whose list entry is not set.
     fn free_index(&self, thread: u8) -> u16
-        requires thread { thread < 32 }
+        requires thread { thread < WINDOW_THREADS }
         requires room { HasFreeIndex self.now thread }
         ensures { IsLowestFree self.now thread result }
     {
@@ -237,8 +239,8 @@ impl RootKernel {
 
     /// Whether the entry of a thread's list is set.
     pub fn is_set(&self, thread: u8, index: u16) -> bool
-        requires thread { thread < 32 }
-        requires index { index < 16 }
+        requires thread { thread < WINDOW_THREADS }
+        requires index { index < MAX_VIEWS }
         ensures { result ≡ is_listed (view_of self.now thread index) }
     {
         match self.views[usize::from(thread)][usize::from(index)] {
@@ -249,9 +251,9 @@ impl RootKernel {
 
     /// Puts a view at an index of a thread, and its entry into the list.
     fn put_view(&mut self, memory: &mut Memory, thread: u8, index: u16, view: View)
-        requires thread { thread < 32 }
+        requires thread { thread < WINDOW_THREADS }
         requires list { eptp_list_frame self.old thread ≢ None }
-        requires index { index < 16 }
+        requires index { index < MAX_VIEWS }
         requires inside { (list : Frame) → eptp_list_frame self.old thread ≡ Some list → list.0 < frame_count memory.old }
         ensures root { self.new ≡ with_view self.old thread index view }
         ensures entry { SetsEntry self.old memory.old memory.new thread index (entry_of_view view) }
@@ -264,9 +266,9 @@ impl RootKernel {
 
 /// Puts zeros into the base's tables for all but the first 2 MiB.
 fn clear_shared(memory: &mut Memory)
-    requires least { 513 ≤ frame_count memory.old }
+    requires least { MIN_FRAMES ≤ frame_count memory.old }
     requires size { HasSize memory.old }
-    ensures zeros { (page : ℕ) → 512 ≤ page → page < 8192 → word_at memory.new.bytes (shared_place page) ≡ 0 }
+    ensures zeros { (page : ℕ) → KEPT_FRAMES ≤ page → page < MAX_FRAMES → word_at memory.new.bytes (shared_place page) ≡ 0 }
     ensures size { HasSize memory.new }
     ensures same { SameOutside shared_frames memory.old memory.new }
 {

@@ -12,6 +12,7 @@ ghost use Rattle.sb_sub.specs.Refusals.{pattern_refusal, heap_page_refusal};
 
 use crate::heap::{heap_address, heap_pattern, page_frame};
 use crate::process::Process;
+use crate::taking::DATA;
 use sb_abi::CallRefusal;
 use sb_calls::{EXECUTE_MODE, protect_refusal};
 use sb_memory::{Frame, Memory, PAGE_SIZE};
@@ -19,9 +20,6 @@ use sb_root::{RIGHT_EXECUTE, RIGHT_READ_WRITE, RootKernel};
 
 /// Present, user, and not writable: a lowest entry for code.
 const CODE: u64 = 5;
-
-/// Present, writable and user, and no fetch: a lowest entry for data.
-const DATA: u64 = 7 + (1 << 63);
 
 /// The first refusal of a change of mode, and a second value with it.
 fn refusal(

@@ -19,7 +19,7 @@ use sb_pagewalk::TableSet;
 use sb_root::{RIGHT_READ_WRITE, RootKernel};
 
 /// Present, writable and user, and no fetch: a lowest entry for data.
-const DATA: u64 = 7 + (1 << 63);
+pub const DATA: u64 = 7 + (1 << 63);
 
 /// The pages of a stack.
 const STACK: u32 = STACK_PAGES as u32;

@@ -173,7 +173,7 @@ abbrev pub CallChanges : State → ℕ → ℕ → ℕ → State → Type 0
 CallChanges old core number answer new =
     ((answer ≢ 0) × OnlyThreads old new)
     ⊎ ((answer ≡ 0) × (number ≡ call_number Register) × ((thread_at old core).view ≡ 0)
-      × AddsStacks old (thread_at old core).home new)
+    × AddsStacks old (thread_at old core).home new)
     ⊎ ((answer ≡ 0) × (number ≡ call_number Bind) × ((thread_at old core).view ≡ 0) × AddsView old core new)
     ⊎ ((answer ≡ 0) × (number ≡ call_number Protect) × ChangesMode old (process_now (thread_at old core)) new)
 
