@@ -138,7 +138,8 @@ last_word form.Imm size insn regs loaded = low_word size (imm_value insn.imm)
 last_word form.Relative size insn regs loaded = low_word size ((next_rip insn regs + imm_value insn.imm) % 2 ^ 64)
 last_word form.Nothing size insn regs loaded = omega arith
 
-address_word : (insn : Insn) (regs : Regs) → operand_address insn regs < 2 ^ 64
+-- an address is a word
+pub address_word : (insn : Insn) (regs : Regs) → operand_address insn regs < 2 ^ 64
 unfolding operand_address
 address_word insn regs = rest_word Quadword (base_value insn regs + disp_value insn.disp)
 
@@ -215,7 +216,8 @@ pop_words : (regs : Regs) → AreWords regs → AreWords (regs_after_pop regs)
 pop_words regs are =
     register_words Quadword RSP ((general regs RSP + 8) % 2 ^ 64) regs are (rest_word Quadword (general regs RSP + 8))
 
-either_number : (test : Bool) (first second : ℕ) → first < 2 ^ 64 → second < 2 ^ 64
+-- of two words, the one that a test chooses is a word
+pub either_number : (test : Bool) (first second : ℕ) → first < 2 ^ 64 → second < 2 ^ 64
     → (if test then first else second) < 2 ^ 64
 either_number true first second one two = one
 either_number false first second one two = two

@@ -89,7 +89,8 @@ known load process made within loadable is =
 
 -- ---- the grammar
 
-below_prop : (bound : ℕ) (numbers : List ℕ) → IsProp (AllBelow bound numbers)
+-- there is one proof at most that numbers are below a bound
+pub below_prop : (bound : ℕ) (numbers : List ℕ) → IsProp (AllBelow bound numbers)
 below_prop bound numbers = AllByRecursion-prop (λ n. n < bound) (λ n. le_prop) numbers
 
 image_prop : (image : Image) → IsProp (IsImage image)

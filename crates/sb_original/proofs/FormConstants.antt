@@ -25,6 +25,7 @@ use Rattle.sb_exec.specs.Address.{linear, operand_address}
 use Rattle.sb_exec.specs.WriteBack.{destination, compute_result}
 use Rattle.sb_exec.specs.Actions.{action_of}
 use Rattle.sb_exec.specs.Rows.{after_action, row_of}
+use Rattle.sb_exec.proofs.RowWords.{address_word}
 use Rattle.sb_forms.specs.declared.helper.Helper.{Helper}
 use Rattle.sb_forms.specs.declared.slots.Site.{Site}
 use Rattle.sb_insn.specs.Rex.{with_r_b}
@@ -43,7 +44,7 @@ use Rattle.sb_original.specs.Slot.{Slotted, saved}
 use Rattle.sb_original.proofs.Saves.{save_done_first, save_done_second, staged_done, staged_then, address_saves, constant_saves}
 use Rattle.sb_original.specs.Original.{Save, Stage, insns_of, Before, staged, FormLaw}
 use Rattle.sb_original.proofs.Fields.{with_b_0, with_b, helper_not_0}
-use Rattle.sb_original.proofs.Memory.{memory_place, memory_mod, address_below}
+use Rattle.sb_original.proofs.Memory.{memory_place, memory_mod}
 use Rattle.sb_original.proofs.Classes.{number_shown}
 use Rattle.sb_original.proofs.Helpers.{first_unnamed, helpers_differ}
 use Rattle.sb_original.proofs.Pieces.{save_does}
@@ -183,7 +184,7 @@ memory_stays : (numbers : List ℕ) (name : Mnemonic) (insn : Insn) (old other :
 unfolding destination
 memory_stays numbers name insn old other at helper memory is =
     let there = memory_place insn old (memory_mod insn.modrm memory) in
-    let reduced : general other (number_of at) % 2 ^ 64 ≡ operand_address insn old = omega (arith, is, address_below insn old) in
+    let reduced : general other (number_of at) % 2 ^ 64 ≡ operand_address insn old = omega (arith, is, address_word insn old) in
     record {
       place = memory_at name insn at helper other ∙ ap (λ (n : ℕ). Memory (linear n)) reduced ∙ sym there;
       shown = subst (λ (place : Location). IsShown (hides numbers) place) (sym there) tt;

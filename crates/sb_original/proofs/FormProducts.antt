@@ -9,7 +9,7 @@ use Rattle.sb_original.proofs.Chains.{before_append, before_rip}
 use Rattle.sb_original.proofs.Pieces.{save_does}
 use Rattle.sb_original.proofs.Helpers.{second_unnamed, first_unnamed, helpers_differ}
 use Rattle.sb_original.proofs.Classes.{number_shown}
-use Rattle.sb_original.proofs.Memory.{memory_place, memory_mod, address_below}
+use Rattle.sb_original.proofs.Memory.{memory_place, memory_mod}
 use Rattle.sb_original.proofs.Fields.{with_b}
 use Rattle.sb_original.proofs.Saves.{save_done_first, save_done_second, staged_done, staged_then, address_saves, constant_saves}
 use Rattle.sb_original.specs.Work.{IsEntered}
@@ -68,6 +68,7 @@ use Rattle.sb_insn.specs.declared.opcode_map.Mnemonic.TheVariants as mnemonic
 use Rattle.sb_insn.specs.declared.opcode_map.OperandForm.TheVariants as form
 use Rattle.sb_alu.specs.declared.operation.Operation.TheVariants as operation
 use Rattle.sb_exec.specs.declared.action.MemoryUse.TheVariants as memory_use
+use Rattle.sb_exec.proofs.RowWords.{address_word}
 
 -- ---- main
 
@@ -426,7 +427,7 @@ product_both_slot bus Holds insn instruction value helper second site start stat
     let address_stays : general ready.regs (number_of helper) ≡ operand_address insn old =
     loads.others (number_of helper) (same_at helper second differ) ∙ at.loaded in
     let reduced : general ready.regs (number_of helper) % 2 ^ 64 ≡ operand_address insn old =
-    omega (arith, address_stays, address_below insn old) in
+    omega (arith, address_stays, address_word insn old) in
     let there = memory_place insn old (memory_mod insn.modrm memory) in
     let mains : IsProductMain numbers insn main second value old ready.regs = record {
       own = work_action insn instruction value work;

@@ -1,5 +1,5 @@
 -- What a loaded bundle starts from is sound.
-use Rattle.std.proofs.Common.{◌≡◌, ℕ, ◌+◌, ◌-◌, ◌<◌, ◌≤◌, ◌^◌, List, [], ◌∷◌, Ok, length, map, refl, ap, sym, ◌∙◌, subst, arith}
+use Rattle.std.proofs.Common.{◌≡◌, ℕ, ◌+◌, ◌-◌, ◌≤◌, ◌^◌, List, [], ◌∷◌, Ok, length, map, refl, ap, sym, ◌∙◌, subst, arith}
 use Rattle.std.proofs.lemmas.List.{length-map}
 use Rattle.std.proofs.Math.Logic.{∥∥₁_elim}
 use Rattle.std.proofs.Math.Bridge.{le_prop}
@@ -17,6 +17,7 @@ use Rattle.sb_trace.specs.Laws.{IsImageSound, IsEntrySound}
 use Rattle.sb_load.specs.Loading.{Load, AreRewritten, IsLoadable}
 use Rattle.sb_load.specs.FirstState.{image_of, images_of, images_loaded, entry_of}
 use Rattle.sb_load.proofs.Sizes.{small_area}
+use Rattle.sb_load.proofs.Known.{below_prop}
 use Rattle.sb_plain.specs.Start.{HasSoundStart, LoadsHaveSoundStarts}
 
 -- ---- images
@@ -83,9 +84,6 @@ sound_start load loadable =
     }
 
 -- ---- of what only its type says to be loadable
-
-below_prop : (bound : ℕ) (numbers : List ℕ) → IsProp (AllBelow bound numbers)
-below_prop bound numbers = AllByRecursion-prop (λ n. n < bound) (λ n. le_prop) numbers
 
 image_prop : (image : ProcessImage) → IsProp (IsImageSound image)
 image_prop image = hlevel (below_prop, le_prop)

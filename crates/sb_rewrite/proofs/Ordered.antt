@@ -13,8 +13,9 @@ use Rattle.sb_rewrite.specs.Listing.{text_address}
 use Rattle.sb_rewrite.specs.Placing.{Placement, slot_bytes, is_after_0f, places_from, places, area_address}
 use Rattle.sb_rewrite.specs.RewrittenText.{rewritten_text, moves_of, moves_by, IsOrdered}
 use Rattle.sb_rewrite.specs.Rewriting.{ArePlaces}
-use Rattle.sb_rewrite.proofs.OneListing.{some_spelling, rises}
+use Rattle.sb_rewrite.proofs.OneListing.{rises}
 use Rattle.sb_rewrite.proofs.Placed.{starts_placed}
+use Rattle.sb_decode.proofs.Exact.{some_spelling}
 
 -- each number is behind the one before, and the first is no less than this
 Rising : ℕ → List ℕ → Type 0

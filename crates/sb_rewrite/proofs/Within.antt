@@ -7,8 +7,8 @@ use Rattle.sb_rewrite.specs.Listing.{text_address, spelled_bytes, starts_from}
 use Rattle.sb_rewrite.specs.Placing.{Placement, places, area_address}
 use Rattle.sb_rewrite.specs.RewrittenText.{RewrittenText, starts_of, IsBetween}
 use Rattle.sb_rewrite.specs.Rewriting.{StartsStandInText}
-use Rattle.sb_rewrite.proofs.OneListing.{some_spelling}
 use Rattle.sb_rewrite.proofs.Placed.{starts_placed}
+use Rattle.sb_decode.proofs.Exact.{some_spelling}
 
 -- instructions that stand one after another start before the end of the last one
 starts_between : (least end at : ℕ) (insns : List Insn) → least ≤ at → at + length (spelled_bytes insns) ≤ end

@@ -21,7 +21,8 @@ use Rattle.sb_state.proofs.PagePlaces.{placed_first}
 
 -- ---- bytes that are put one after another into one page
 
-abbrev placed_from : PageName → ℕ → List ℕ → List ByteToPut
+-- bytes that are to be put into a page from a place on
+abbrev pub placed_from : PageName → ℕ → List ℕ → List ByteToPut
 placed_from name offset [] = []
 placed_from name offset (byte ∷ bytes) =
     record { name = name; offset = offset; value = byte } ∷ placed_from name (suc offset) bytes
@@ -32,7 +33,7 @@ unfolding with_contents
 found_given state name page bytes found = rw (found_same state.pages name bytes, found) refl
 
 -- byte by byte, or all at once
-puts_sets : (bytes : List ℕ) (state : State) (name : PageName) (page : Page) (offset : ℕ) → find_page state.pages name ≡ Some page
+pub puts_sets : (bytes : List ℕ) (state : State) (name : PageName) (page : Page) (offset : ℕ) → find_page state.pages name ≡ Some page
     → put_all state (placed_from name offset bytes) ≡ with_contents state name (sets (contents state name) offset bytes)
 unfolding put_byte
 puts_sets [] state name page offset found = sym (contents_own state name)

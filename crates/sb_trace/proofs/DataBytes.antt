@@ -32,6 +32,7 @@ use Rattle.sb_state.proofs.Modes.{mode_same, mode_other}
 use Rattle.sb_state.proofs.Start.{record_page, EachPage, found_each, each_both, each_from}
 use Rattle.sb_trace.proofs.Beginning.{found_name, first_pages}
 use Rattle.sb_trace.proofs.CodeSound.{HaveBytes}
+use Rattle.sb_trace.proofs.PoolWords.{bytes_by}
 
 -- ---- lists of bytes
 
@@ -104,10 +105,6 @@ HasBytes page = is_code_name page.name ≡ false → AreBytes page.bytes
 -- the bytes of the page of a name
 abbrev NamedBytes : List Page → PageName → Type 0
 NamedBytes pages name = AreBytes (bytes_of (find_page pages name))
-
-bytes_by : (found : Option Page) → ((page : Page) → found ≡ Some page → AreBytes page.bytes) → AreBytes (bytes_of found)
-bytes_by None all = tt
-bytes_by (Some page) all = all page refl
 
 bytes_at : (pages : List Page) (name : PageName) → is_code_name name ≡ false → HaveBytes pages → NamedBytes pages name
 bytes_at pages name loads all = bytes_by (find_page pages name) (λ page. all name page loads)

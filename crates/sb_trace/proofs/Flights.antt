@@ -2,8 +2,9 @@
 use Rattle.std.proofs.Common.{◌≡◌, ◌≢◌, ◌∙◌, sym, ap, subst, ℕ, zero, suc, Bool, true, false, List, [], ◌∷◌, ◌==◌, ◌&&◌, ◌^◌, ◌<◌, ◌≤◌, refl, inl, inr, slice_set, arith}
 use Rattle.std.specs.Prelude.{Option, Some, None, if◌then◌else◌, slice_get, unwrap_or, not}
 use Rattle.std.specs.Option.{option_map}
-use Rattle.std.proofs.lemmas.Bool.{cases_eq, and_parts}
+use Rattle.std.proofs.lemmas.Bool.{cases_eq, and_parts, eqb-false, not-true}
 use Rattle.sb_exec.specs.Fetching.{Stands, fetch_of}
+use Rattle.sb_exec.proofs.RowWords.{either_number}
 use Rattle.sb_scan.specs.Pattern.{pattern}
 use Rattle.sb_trace.specs.declared.event.Event.{Event}
 use Rattle.sb_state.specs.declared.end_kind.EndKind.{EndKind}
@@ -28,7 +29,7 @@ use Rattle.sb_trace.proofs.Threads.{running_there, thread_other, flight_other, b
 use Rattle.sb_trace.proofs.Kernel.{Did, did_call}
 use Rattle.sb_trace.proofs.Steps.{instruction_claims, did_next, steps_change}
 use Rattle.sb_trace.proofs.InFlight.{flight_of, StandsAtCall, IsUndecided, follows_of, decided_of, flight_away, listed_early, listed_on, listed_first, deciding_phase}
-use Rattle.sb_trace.proofs.Phases.{other_number, some_if, Saw, saw, Decides, decides, loads_no_more, decides_no_more, stays_undecided}
+use Rattle.sb_trace.proofs.Phases.{some_if, Saw, saw, Decides, decides, loads_no_more, decides_no_more, stays_undecided}
 use Rattle.sb_trace.proofs.Deciding.{IsDecidedView, IsBehindCall, call_behind, decided_sees}
 use Rattle.sb_trace.proofs.PoolWords.{pool_below}
 use Rattle.sb_trace.proofs.Fetchable.{one_pattern}
@@ -67,10 +68,6 @@ record IsCalled (thread : Thread) (binding : Binding) : Type 0 where
   away : ecx thread.regs ≢ 0
   bound : binding_with thread.bindings (ecx thread.regs) ≡ Some binding
 
-not_test : (test : Bool) → not test ≡ true → test ≡ false
-not_test true is = absurd cc
-not_test false is = refl
-
 is_called : (thread : Thread) (binding : Binding) → called_binding thread ≡ Some binding → IsCalled thread binding
 is_called thread binding =
     some_if (IsCalled thread binding) ((eax thread.regs == 0) && not (ecx thread.regs == 0))
@@ -79,7 +76,7 @@ is_called thread binding =
     let parts = and_parts (eax thread.regs == 0) (not (ecx thread.regs == 0)) test in
     record {
       leaf = number (eax thread.regs) 0 parts.0;
-      away = other_number (ecx thread.regs) 0 (not_test (ecx thread.regs == 0) parts.1);
+      away = eqb-false (ecx thread.regs) 0 (not-true (ecx thread.regs == 0) parts.1);
       bound = is;
     })
     (λ test is. absurd cc)
@@ -153,7 +150,7 @@ mask_after phase pool mask = if phase == 2 then pool else mask
 
 loads_by : (test : Bool) (phase pool mask : ℕ) → (phase == 2) ≡ test → phase ≡ 2 → (if test then pool else mask) ≡ pool
 loads_by true phase pool mask is two = refl
-loads_by false phase pool mask is two = absurd (other_number phase 2 is two)
+loads_by false phase pool mask is two = absurd (eqb-false phase 2 is two)
 
 keeps_by : (test : Bool) (phase pool mask : ℕ) → (phase == 2) ≡ test → phase ≢ 2 → (if test then pool else mask) ≡ mask
 keeps_by true phase pool mask is other = absurd (other (number phase 2 is))
@@ -202,10 +199,6 @@ pub key_means : (thread : Thread) (index : ℕ)
 key_means thread index binding bound fits = fits_by (binding_with thread.bindings index) (rsi thread.regs) binding bound fits
 
 -- ---- the mask
-
-loaded_word : (test : Bool) (pool mask : ℕ) → pool < 2 ^ 64 → mask < 2 ^ 64 → (if test then pool else mask) < 2 ^ 64
-loaded_word true pool mask first second = first
-loaded_word false pool mask first second = second
 
 -- behind the decision the mask is right whatever the phase
 mask_stays : (decided : Decision) (phase next mask : ℕ) → IsMask (Some decided) phase mask → IsMask (Some decided) next mask
@@ -277,7 +270,7 @@ next_sound thread index phase pool mask None fits (Some next) away word flies me
     undecided_flies thread index next (mask_after phase pool mask) flies.running
     (undecided_next thread index phase pool mask next fits (decided_of thread (flight_of index phase mask None) away flies) means
     none is)
-    (loaded_word (phase == 2) pool mask word flies.word)
+    (either_number (phase == 2) pool mask word flies.word)
 next_sound thread index phase pool mask (Some decided) fits (Some next) away word flies means none is =
     decided_next thread index phase pool mask next decided flies is
 
@@ -295,7 +288,7 @@ first_decided state core index phase mask pool next fits decided word flies at b
       binding = flies.binding;
       bound = ap (λ bindings. binding_with bindings index) behind.bindings ∙ flies.bound;
       phase = listed_first decided phase (mask_after phase pool mask) next (decides_at decided phase fits pool mask at) is;
-      word = loaded_word (phase == 2) pool mask word flies.word;
+      word = either_number (phase == 2) pool mask word flies.word;
       mask = mask_first decided phase next pool mask fits at flies.mask;
       stage = view_first decided (thread_at (kernel_call state core).1 core) index next (mask_after phase pool mask)
           flies.binding behind.view;

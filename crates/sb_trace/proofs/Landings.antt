@@ -1,6 +1,6 @@
 -- A run without its landing lines is a run of the machine that calls in one step.
 use Rattle.std.proofs.Common.{◌≡◌, ◌∙◌, sym, ap, subst, ℕ, zero, suc, ◌+◌, ◌/◌, ◌%◌, ◌^◌, Bool, true, false, List, [], ◌∷◌, ◌==◌, refl, inl, inr, ◌⊎◌, Result, Ok, Err}
-use Rattle.std.specs.Prelude.{Option, Some, None, if◌then◌else◌, map, slice_get, unwrap_or}
+use Rattle.std.specs.Prelude.{Option, Some, None, if◌then◌else◌, map, slice_get}
 use Rattle.std.specs.Option.{option_and_then}
 use Rattle.sb_memory.specs.declared.address.Access.{Access}
 use Rattle.sb_insn.specs.declared.insn.Insn.{Insn}
@@ -27,7 +27,7 @@ use Rattle.sb_state.specs.declared.state.Binding.{Binding}
 use Rattle.sb_state.specs.declared.state.Decision.{Decision}
 use Rattle.sb_state.specs.declared.state.Flight.{Flight}
 use Rattle.sb_state.specs.declared.state.Thread.{Thread}
-use Rattle.sb_state.specs.State.{State, contents, with_contents, thread_at, no_thread, with_regs, with_end, with_view, flight_at, with_flight, process_at, registration_at}
+use Rattle.sb_state.specs.State.{State, contents, with_contents, thread_at, with_regs, with_end, with_view, flight_at, with_flight, process_at, registration_at}
 use Rattle.sb_state.specs.PageWords.{with_word}
 use Rattle.sb_state.specs.Windows.{process_shown, process_of_view, page_for, process_now}
 use Rattle.sb_state.specs.PlainMemory.{ByteToPut, bytes_to_put, with_byte_to_put, put_byte, put_all, plain, plain_byte, plain_stored}
@@ -59,6 +59,7 @@ use Rattle.sb_trace.proofs.Trampoline.{switch_stands}
 use Rattle.sb_trace.proofs.InFlight.{flight_of, StandsAtCall, IsDecidedSound, decided_of, flight_away}
 use Rattle.sb_trace.proofs.Flights.{mask_after}
 use Rattle.sb_trace.proofs.SoundRuns.{steps_keep_sound}
+use Rattle.sb_trace.proofs.Threads.{running_by}
 
 -- ---- the kernel does the same without flights
 
@@ -347,18 +348,13 @@ out_alike state core outcome running (fetched, fetches, follows) =
 
 -- ---- in flight
 
-there_by : (found : Option Thread) → (unwrap_or found no_thread).state ≡ Running → found ≡ Some (unwrap_or found no_thread)
-unfolding no_thread
-there_by None running = absurd cc
-there_by (Some thread) running = refl
-
 -- a running thread's view shows a process
 view_shown : (state : State) (core : ℕ) → (thread_at state core).state ≡ Running → (view : HasView (thread_at state core))
     → process_shown state.threads core (thread_at state core).view ≡ Some view.0
 unfolding process_shown thread_at
 view_shown state core running view =
     ap (λ found. option_and_then (process_of_view (thread_at state core).view) found)
-    (there_by (slice_get state.threads core) running) ∙ view.1
+    (running_by (slice_get state.threads core) running) ∙ view.1
 
 -- at the VMFUNC the kernel's call is one step
 switch_once : (state : State) (core index : ℕ) → IsSound state → (thread_at state core).state ≡ Running

@@ -49,6 +49,7 @@ use Rattle.sb_state.specs.Windows.{page_for, page_by_name, process_now, name_at,
 use Rattle.sb_state.proofs.Cases.{claim_if}
 use Rattle.sb_state.proofs.Indices.{indices_are_free}
 use Rattle.sb_state.proofs.Threads.{thread_set}
+use Rattle.sb_state.proofs.Places.{below_by}
 use Rattle.sb_trace.specs.declared.event.Event.{Event}
 use Rattle.sb_trace.specs.declared.event.Event.TheVariants as line
 use Rattle.sb_trace.specs.Home.{Outcome, fault_outcome, state_at_home, home_address}
@@ -461,17 +462,10 @@ bind_words state core next None is has new =
 
 -- ---- the address of the pattern
 
-place_by : (test : Bool) (rest : Option ℕ) (count place : ℕ) → ((one : ℕ) → rest ≡ Some one → one < count)
-    → (if test then Some 0 else option_map suc rest) ≡ Some place → place < suc count
-place_by true rest count place within is = let same : 0 ≡ place = cc in omega (arith, same)
-place_by false None count place within is = absurd cc
-place_by false (Some one) count place within is =
-    let same : suc one ≡ place = cc in let below = within one refl in omega (arith, same, below)
-
 place_within : (bytes : List ℕ) (place : ℕ) → first_pattern bytes ≡ Some place → place < length bytes
 place_within [] place is = absurd cc
 place_within (byte ∷ bytes) place is =
-    place_by (begins_pattern (byte ∷ bytes)) (first_pattern bytes) (length bytes) place (place_within bytes) is
+    below_by (begins_pattern (byte ∷ bytes)) (first_pattern bytes) (length bytes) place (place_within bytes) is
 
 around_within : (before behind : List ℕ) (found : Option Page) (place : ℕ) → length before ≤ 4096 → length behind ≤ 4096
     → ((page : Page) → found ≡ Some page → length page.bytes ≡ 4096)
