@@ -1,5 +1,5 @@
 use Rattle.sb_root.proofs.TablesRead.{base_reads, set_reads, view_reads}
-use Rattle.sb_root.proofs.law.walks_read_tables.Goals as goal
+use Rattle.sb_root.proofs.laws.walks_read_tables.Goals as goal
 
 pub returns-clause-base : goal.returns-clause-base
 returns-clause-base c = base_reads

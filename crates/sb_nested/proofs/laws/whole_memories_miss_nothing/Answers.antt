@@ -1,6 +1,6 @@
 use Rattle.sb_walks.proofs.Whole.{ept_whole, nested_whole}
 use Rattle.sb_nested.proofs.NoGaps.{byte_no_gap}
-use Rattle.sb_nested.proofs.law.whole_memories_miss_nothing.Goals as goal
+use Rattle.sb_nested.proofs.laws.whole_memories_miss_nothing.Goals as goal
 
 pub returns-clause-ept : goal.returns-clause-ept
 returns-clause-ept c = λ memory eptp at access all root. ept_whole memory all eptp root at access

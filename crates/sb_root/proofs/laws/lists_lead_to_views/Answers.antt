@@ -1,5 +1,5 @@
 use Rattle.sb_root.proofs.Between.{set_switched, free_switched, set_pointer, set_inside}
-use Rattle.sb_root.proofs.law.lists_lead_to_views.Goals as goal
+use Rattle.sb_root.proofs.laws.lists_lead_to_views.Goals as goal
 
 pub returns-clause-set : goal.returns-clause-set
 returns-clause-set c = set_switched

@@ -14,12 +14,13 @@ ghost use Rattle.sb_nested.specs.Store.{bytes_stored, memory_stored};
 ghost use Rattle.sb_walks.specs.Entry.{frame_in};
 ghost use Rattle.sb_walks.specs.Ept.{ept_walk};
 ghost use Rattle.sb_walks.specs.Gaps.{NoGap, ept_gap, nested_gap};
-ghost use Rattle.sb_walks.specs.Nested.{Mapped, mapped_answer, translation, translation_reads};
+ghost use Rattle.sb_walks.specs.Nested.{MemoryBehindEpt, memory_behind, translation, translation_reads};
 
 /// A nested walk reads at most 24 words: five for each of four entries of the guest, and four for the last address.
 #[tactic(auto, using(crate::proofs::Count::reads_at_most_24))]
 pub fn at_most_24_words()
-    ensures { (memory : Mapped) (cr3 linear : ℕ) (access : Access) → length (translation_reads memory cr3 linear access) ≤ 24 }
+    ensures { (memory : MemoryBehindEpt) (cr3 linear : ℕ) (access : Access)
+        → length (translation_reads memory cr3 linear access) ≤ 24 }
 {}
 
 /// A store of whatever size is done byte by byte, from the lowest address up, each where its address leads for a write; none is
@@ -35,6 +36,6 @@ pub fn stores_change_what_they_reach()
 /// Behind an EPT pointer to a table in a memory that has all its frames, no walk and no byte is refused for a missing frame.
 pub fn whole_memories_miss_nothing()
     ensures ept { (memory : Physical) (eptp at : ℕ) (access : Access) → HasAllFrames memory → frame_in eptp < frame_count memory → NoGap ept_gap (ept_walk memory eptp at access) }
-    ensures translation { (memory : Physical) (eptp cr3 linear : ℕ) (access : Access) → HasAllFrames memory → frame_in eptp < frame_count memory → NoGap nested_gap (translation (mapped_answer memory eptp) cr3 linear access) }
+    ensures translation { (memory : Physical) (eptp cr3 linear : ℕ) (access : Access) → HasAllFrames memory → frame_in eptp < frame_count memory → NoGap nested_gap (translation (memory_behind memory eptp) cr3 linear access) }
     ensures byte { (core : View) (address : ℕ) (access : Access) (frame : Frame) → HasAllFrames core.physical → frame_in core.eptp < frame_count core.physical → view_byte core address access ≢ Err (Missing frame) }
 {}

@@ -1,5 +1,5 @@
 use Rattle.sb_nested.proofs.Reached.{stored_bytes, stored_elsewhere, stored_within}
-use Rattle.sb_nested.proofs.law.stores_change_what_they_reach.Goals as goal
+use Rattle.sb_nested.proofs.laws.stores_change_what_they_reach.Goals as goal
 
 pub returns-clause-bytes : goal.returns-clause-bytes
 returns-clause-bytes c = stored_bytes

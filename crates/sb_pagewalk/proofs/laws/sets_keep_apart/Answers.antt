@@ -1,5 +1,5 @@
 use Rattle.sb_pagewalk.proofs.Untouched.{tables_stay, walks_stay}
-use Rattle.sb_pagewalk.proofs.law.sets_keep_apart.Goals as goal
+use Rattle.sb_pagewalk.proofs.laws.sets_keep_apart.Goals as goal
 
 pub returns-clause-tables : goal.returns-clause-tables
 returns-clause-tables c = tables_stay

@@ -1,5 +1,5 @@
 use Rattle.sb_memory.proofs.Frames.{frame_outside, word_outside}
-use Rattle.sb_memory.proofs.law.frames_hold_bytes.Goals as goal
+use Rattle.sb_memory.proofs.laws.frames_hold_bytes.Goals as goal
 
 pub returns-clause-outside : goal.returns-clause-outside
 returns-clause-outside c = frame_outside

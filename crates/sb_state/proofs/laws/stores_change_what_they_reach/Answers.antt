@@ -1,5 +1,5 @@
 use Rattle.sb_state.proofs.Stored.{stored_there, stored_elsewhere}
-use Rattle.sb_state.proofs.law.stores_change_what_they_reach.Goals as goal
+use Rattle.sb_state.proofs.laws.stores_change_what_they_reach.Goals as goal
 
 pub returns-clause-bytes : goal.returns-clause-bytes
 returns-clause-bytes c = stored_there

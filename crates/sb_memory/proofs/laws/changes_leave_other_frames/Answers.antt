@@ -1,5 +1,5 @@
 use Rattle.sb_memory.proofs.Frames.{bytes_within, cleared_within, word_within}
-use Rattle.sb_memory.proofs.law.changes_leave_other_frames.Goals as goal
+use Rattle.sb_memory.proofs.laws.changes_leave_other_frames.Goals as goal
 
 pub returns-clause-word : goal.returns-clause-word
 returns-clause-word c = word_within

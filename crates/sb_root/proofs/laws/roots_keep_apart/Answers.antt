@@ -1,7 +1,7 @@
 use Rattle.sb_root.proofs.BaseAnswers.{rights_stay}
 use Rattle.sb_root.proofs.Kept.{stands_kept, views_kept}
 use Rattle.sb_root.proofs.Between.{booked_kept, booked_beside}
-use Rattle.sb_root.proofs.law.roots_keep_apart.Goals as goal
+use Rattle.sb_root.proofs.laws.roots_keep_apart.Goals as goal
 
 pub returns-clause-stands : goal.returns-clause-stands
 returns-clause-stands c = stands_kept
