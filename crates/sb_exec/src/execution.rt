@@ -13,7 +13,7 @@ use sb_bus::{Bus, BusStop};
 use sb_insn::{Insn, Op, Regs};
 
 /// Loads a number, 0 where nothing is loaded.
-fn loaded<B: Bus>(load: Load, bus: &mut B) -> Result<u64, BusStop>
+fn make_load<B: Bus>(load: Load, bus: &mut B) -> Result<u64, BusStop>
     ensures answer { result ≡ row_load_answer B.interface load (B.meaning bus.old) }
     ensures same { B.meaning bus.new ≡ B.meaning bus.old }
     ensures account { B.account bus.new ≡ row_load_account B.interface load (B.meaning bus.old) (B.account bus.old) }
@@ -27,7 +27,7 @@ fn loaded<B: Bus>(load: Load, bus: &mut B) -> Result<u64, BusStop>
 }
 
 /// Stores a number, if one is stored.
-fn stored<B: Bus>(store: Store, value: u64, bus: &mut B) -> Result<(), BusStop>
+fn make_store<B: Bus>(store: Store, value: u64, bus: &mut B) -> Result<(), BusStop>
     ensures answer { result ≡ row_store_answer B.interface store (B.meaning bus.old) }
     ensures meaning { B.meaning bus.new ≡ row_store_meaning B.interface store value (B.meaning bus.old) }
     ensures account { B.account bus.new ≡ row_store_account B.interface store value (B.meaning bus.old) (B.account bus.old) }
