@@ -6,7 +6,7 @@ ghost use Rattle.sb_memory.specs.Accounts.{account_after_words};
 ghost use Rattle.sb_memory.specs.Physical.{frame_count};
 ghost use Rattle.sb_walks.specs.Entry.{frame_in};
 ghost use Rattle.sb_walks.specs.Ept.{is_eptp};
-ghost use Rattle.sb_walks.specs.Nested.{mapped_answer, translation, translation_reads};
+ghost use Rattle.sb_walks.specs.Nested.{memory_behind, translation, translation_reads};
 
 use crate::tables::TablesBehindEpt;
 use sb_eptwalk::ept_walk;
@@ -31,12 +31,12 @@ pub fn translate<P: Phys>(
 ) -> Result<PhysAddr, NestedStop>
     requires eptp { IsTrue (is_eptp eptp) }
     requires root { frame_in eptp < frame_count (P.meaning phys.old) }
-    ensures answer { result ≡ translation (mapped_answer (P.meaning phys.old) eptp) cr3 at.0 access }
+    ensures answer { result ≡ translation (memory_behind (P.meaning phys.old) eptp) cr3 at.0 access }
     ensures inside { IfOk result (λ place. place.0 < PAGE_SIZE * frame_count (P.meaning phys.old)) }
     ensures same { P.meaning phys.new ≡ P.meaning phys.old }
     ensures account { P.account phys.new
         ≡ account_after_words P.rule (P.meaning phys.old)
-        (translation_reads (mapped_answer (P.meaning phys.old) eptp) cr3 at.0 access) (P.account phys.old) }
+        (translation_reads (memory_behind (P.meaning phys.old) eptp) cr3 at.0 access) (P.account phys.old) }
     ensures kept { P.kept phys.new ≡ P.kept phys.old }
 {
     match walk(&mut TablesBehindEpt { phys, eptp }, cr3, at, access) {

@@ -5,7 +5,7 @@ use Rattle.sb_memory.specs.declared.address.Access.{Access}
 use Rattle.sb_bus.specs.declared.stop.BusStop.{BusStop}
 use Rattle.sb_state.specs.declared.page.PageName.{PageName}
 use Rattle.sb_state.specs.declared.page.Page.{Page}
-use Rattle.sb_state.specs.declared.page.Seen.{Seen}
+use Rattle.sb_state.specs.declared.page.SeenPage.{SeenPage}
 use Rattle.sb_state.specs.PageName.{permits}
 use Rattle.sb_state.specs.State.{State, find_page}
 use Rattle.sb_state.specs.Windows.{page_for}
@@ -25,12 +25,12 @@ permits_by : (test : Bool) (name found : PageName) (stop other : BusStop)
 permits_by true name found stop other is = is
 permits_by false name found stop other is = cc
 
-seen_by : (seen : Option Seen) (address other : ℕ) (how : Access) (name : PageName)
+seen_by : (seen : Option SeenPage) (address other : ℕ) (how : Access) (name : PageName)
     → name_if_permitted seen address how ≡ Ok name → name_if_permitted seen other how ≡ Ok name
 seen_by None address other how name is = cc
 seen_by (Some page) address other how name is = permits_by (permits page.mode how) page.name name _ _ is
 
-canonical_by : (test : Bool) (seen : Option Seen) (address other : ℕ) (how : Access) (name : PageName) (stop again : BusStop)
+canonical_by : (test : Bool) (seen : Option SeenPage) (address other : ℕ) (how : Access) (name : PageName) (stop again : BusStop)
     → (if test then name_if_permitted seen address how else Err stop) ≡ Ok name
     → (if test then name_if_permitted seen other how else Err again) ≡ Ok name
 canonical_by true seen address other how name stop again is = seen_by seen address other how name is

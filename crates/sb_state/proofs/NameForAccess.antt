@@ -6,7 +6,7 @@ use Rattle.sb_memory.specs.Outcome.{and_then}
 use Rattle.sb_bus.specs.declared.stop.BusStop.{BusStop}
 use Rattle.sb_state.specs.declared.page.PageName.{PageName}
 use Rattle.sb_state.specs.declared.page.Page.{Page}
-use Rattle.sb_state.specs.declared.page.Seen.{Seen}
+use Rattle.sb_state.specs.declared.page.SeenPage.{SeenPage}
 use Rattle.sb_state.specs.PageName.{permits}
 use Rattle.sb_state.specs.State.{State, find_page, contents}
 use Rattle.sb_state.specs.Windows.{page_for}
@@ -22,12 +22,12 @@ permitted_by : (test : Bool) (state : State) (name : PageName) (stop : BusStop) 
 permitted_by true state name stop address = refl
 permitted_by false state name stop address = refl
 
-seen_by : (state : State) (seen : Option Seen) (address : ℕ) (how : Access)
+seen_by : (state : State) (seen : Option SeenPage) (address : ℕ) (how : Access)
     → byte_seen state seen address how ≡ and_then (name_if_permitted seen address how) (byte_of state address)
 seen_by state None address how = refl
 seen_by state (Some page) address how = permitted_by (permits page.mode how) state page.name _ address
 
-canonical_by : (test : Bool) (state : State) (seen : Option Seen) (stop : BusStop) (address : ℕ) (how : Access)
+canonical_by : (test : Bool) (state : State) (seen : Option SeenPage) (stop : BusStop) (address : ℕ) (how : Access)
     → (if test then byte_seen state seen address how else Err stop)
     ≡ and_then (if test then name_if_permitted seen address how else Err stop) (byte_of state address)
 canonical_by true state seen stop address how = seen_by state seen address how

@@ -6,7 +6,7 @@ use Rattle.sb_memory.specs.Outcome.{and_then, done}
 use Rattle.sb_bus.specs.declared.stop.BusStop.{BusStop}
 use Rattle.sb_bus.specs.Access.{bytes_from, byte_for, store_answer}
 use Rattle.sb_state.specs.declared.page.PageName.{PageName}
-use Rattle.sb_state.specs.declared.page.Seen.{Seen}
+use Rattle.sb_state.specs.declared.page.SeenPage.{SeenPage}
 use Rattle.sb_state.specs.PageName.{permits}
 use Rattle.sb_state.specs.State.{State}
 use Rattle.sb_state.specs.Windows.{page_for}
@@ -85,7 +85,7 @@ store_answered thread view state address (suc count) =
 abbrev byte_to_put : PagePlace → ℕ → ByteToPut
 byte_to_put place value = record { name = place.name; offset = place.offset; value = value }
 
-permitted_by : (test : Bool) (page : Seen) (address value : ℕ) (stop : BusStop) (place : PagePlace) (others : List ByteToPut)
+permitted_by : (test : Bool) (page : SeenPage) (address value : ℕ) (stop : BusStop) (place : PagePlace) (others : List ByteToPut)
     → and_then (if test then Ok page.name else Err stop) (page_place address) ≡ Ok place
     → with_byte_to_put (Some page) address value others ≡ byte_to_put place value ∷ others
 permitted_by true page address value stop place others is =
@@ -93,13 +93,13 @@ permitted_by true page address value stop place others is =
     ap (λ (one : PagePlace). byte_to_put one value ∷ others) same
 permitted_by false page address value stop place others is = cc
 
-seen_by : (seen : Option Seen) (address value : ℕ) (place : PagePlace) (others : List ByteToPut)
+seen_by : (seen : Option SeenPage) (address value : ℕ) (place : PagePlace) (others : List ByteToPut)
     → and_then (name_if_permitted seen address Write) (page_place address) ≡ Ok place
     → with_byte_to_put seen address value others ≡ byte_to_put place value ∷ others
 seen_by None address value place others is = cc
 seen_by (Some page) address value place others is = permitted_by (permits page.mode Write) page address value _ place others is
 
-canonical_by : (test : Bool) (seen : Option Seen) (address value : ℕ) (stop : BusStop) (place : PagePlace)
+canonical_by : (test : Bool) (seen : Option SeenPage) (address value : ℕ) (stop : BusStop) (place : PagePlace)
     (others : List ByteToPut)
     → and_then (if test then name_if_permitted seen address Write else Err stop) (page_place address) ≡ Ok place
     → with_byte_to_put seen address value others ≡ byte_to_put place value ∷ others

@@ -6,13 +6,13 @@ use Rattle.sb_bus.specs.declared.stop.FaultKind.TheVariants.{Canon, Memory}
 use Rattle.sb_state.specs.declared.page.PageName.{PageName}
 use Rattle.std.specs.Borrow.{Bor}
 use Rattle.sb_state.specs.declared.page.Page.{Page}
-use Rattle.sb_state.specs.declared.page.Seen.{Seen}
+use Rattle.sb_state.specs.declared.page.SeenPage.{SeenPage}
 use Rattle.sb_state.specs.PageName.{permits}
 use Rattle.sb_state.specs.State.{State}
 use Rattle.sb_state.specs.Windows.{page_for}
 use Rattle.sb_state.specs.PlainMemory.{is_canonical, fault_at}
 
-abbrev pub name_if_permitted : Option Seen → ℕ → Access → Result PageName BusStop
+abbrev pub name_if_permitted : Option SeenPage → ℕ → Access → Result PageName BusStop
 name_if_permitted None address how = Err (fault_at Memory address)
 name_if_permitted (Some page) address how = if permits page.mode how then Ok page.name else Err (fault_at Memory address)
 

@@ -45,7 +45,7 @@ pub use bus::PlainBus;
 pub use end_kind::EndKind;
 pub use heap_pattern::last_two;
 pub use laws::stores_change_what_they_reach;
-pub use page::{Mode, Page, PageBytes, PageName, Seen};
+pub use page::{Mode, Page, PageBytes, PageName, SeenPage};
 pub use page_words::put_words;
 pub use pages::{PAGE_SIZE, Pages, zero_bytes};
 pub use plain_state::PlainState;

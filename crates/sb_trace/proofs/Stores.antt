@@ -15,7 +15,7 @@ use Rattle.sb_exec.specs.Execution.{execution_of}
 use Rattle.sb_exec.proofs.Simulation.{rows_keep}
 use Rattle.sb_state.specs.declared.page.PageName.{PageName}
 use Rattle.sb_state.specs.declared.page.Page.{Page}
-use Rattle.sb_state.specs.declared.page.Seen.{Seen}
+use Rattle.sb_state.specs.declared.page.SeenPage.{SeenPage}
 use Rattle.sb_state.specs.PageName.{same_name, mode_of, permits}
 use Rattle.sb_state.specs.State.{State, find_page, with_page_bytes, contents, with_contents, bytes_of}
 use Rattle.sb_state.specs.Windows.{page_for, page_by_name, page_and_mode, name_at, process_shown}
@@ -151,7 +151,7 @@ all_keep state (byte ∷ others) small =
     (put_keeps state byte.name byte.offset byte.value small.0)
     (all_keep (put_byte state byte.name byte.offset byte.value) others small.1)
 
-placed_small : (page : Option Seen) (address value : ℕ) (others : List ByteToPut) → value < 256 → PutBytes others
+placed_small : (page : Option SeenPage) (address value : ℕ) (others : List ByteToPut) → value < 256 → PutBytes others
     → PutBytes (with_byte_to_put page address value others)
 placed_small None address value others below small = small
 placed_small (Some page) address value others below small = (below, small)
@@ -223,12 +223,12 @@ if_done true byte stop all given = all refl
 if_done false byte stop all given = absurd given
 
 -- a page with another name, or none
-abbrev IsOther : Option Seen → PageName → Type 0
+abbrev IsOther : Option SeenPage → PageName → Type 0
 IsOther None name = Unit {0}
 IsOther (Some page) name = page.name ≢ name
 
-other_seen : (state : State) (name : PageName) (address : ℕ) (page : Option Seen) (canonical : Bool)
-    → ((found : Seen) → page ≡ Some found → permits found.mode Write ≡ true → found.name ≢ name)
+other_seen : (state : State) (name : PageName) (address : ℕ) (page : Option SeenPage) (canonical : Bool)
+    → ((found : SeenPage) → page ≡ Some found → permits found.mode Write ≡ true → found.name ≢ name)
     → IsDone (if canonical then byte_seen state page address Write else Err (fault_at Canon address)) → IsOther page name
 other_seen state name address None canonical closed given = tt
 other_seen state name address (Some found) true closed given = if_done (permits found.mode Write) _ _ (closed found refl) given
@@ -246,7 +246,7 @@ abbrev AllOther : List ByteToPut → PageName → Type 0
 AllOther [] name = Unit {0}
 AllOther (byte ∷ bytes) name = (byte.name ≢ name) × AllOther bytes name
 
-other_placed : (page : Option Seen) (address value : ℕ) (others : List ByteToPut) (name : PageName) → IsOther page name
+other_placed : (page : Option SeenPage) (address value : ℕ) (others : List ByteToPut) (name : PageName) → IsOther page name
     → AllOther others name
     → AllOther (with_byte_to_put page address value others) name
 other_placed None address value others name one all = all

@@ -32,7 +32,7 @@ use Rattle.sb_trace.specs.declared.event.Event.TheVariants.{
 use Rattle.sb_state.specs.declared.page.PageName.{PageName}
 use Rattle.sb_state.specs.declared.page.PageName.TheVariants.{Heap, Pool}
 use Rattle.sb_state.specs.declared.page.Page.{Page}
-use Rattle.sb_state.specs.declared.page.Seen.{Seen}
+use Rattle.sb_state.specs.declared.page.SeenPage.{SeenPage}
 use Rattle.sb_state.specs.PageName.{permits}
 use Rattle.sb_state.specs.declared.state.Binding.{Binding}
 use Rattle.sb_state.specs.declared.state.Registration.{Registration}
@@ -79,7 +79,7 @@ OnlyThreads old new = OnlyPages old old.pages new
 -- no page that the thread may write in the view has this name
 abbrev pub IsClosed : State → ℕ → ℕ → PageName → Type 0
 IsClosed state thread view name =
-    (page : ℕ) (seen : Seen) → page_for state thread view page ≡ Some seen → permits seen.mode Write ≡ true → seen.name ≢ name
+    (page : ℕ) (seen : SeenPage) → page_for state thread view page ≡ Some seen → permits seen.mode Write ≡ true → seen.name ≢ name
 
 -- a page but for its bytes, of which it says how many
 pub record Shape : Type 0 where

@@ -28,5 +28,5 @@ pub use report::report_text;
 pub use sb_abi::VMFUNC_PHASE;
 pub use sb_state::{
     Binding, Bindings, Decision, EndKind, Flight, Mode, Page, PageBytes, PageName, Registration,
-    Seen, Thread,
+    SeenPage, Thread,
 };
