@@ -10,14 +10,14 @@ use Rattle.sb_memory.specs.declared.address.PhysAddr.{PhysAddr}
 use Rattle.sb_walks.specs.Entry.{frame_in}
 use Rattle.sb_walks.specs.Ept.{ept_walk}
 use Rattle.sb_walks.specs.Gaps.{NoGap, ept_gap, nested_gap}
-use Rattle.sb_walks.specs.Nested.{Mapped, mapped_answer, translation, translation_reads}
+use Rattle.sb_walks.specs.Nested.{MemoryBehindEpt, memory_behind, translation, translation_reads}
 use Rattle.sb_bus.specs.declared.stop.BusStop.TheVariants.{Missing}
 use Rattle.sb_nested.specs.View.{View, place_of, view_byte}
 use Rattle.sb_nested.specs.Store.{bytes_stored, memory_stored}
 
 -- a nested walk reads at most 24 words
 abbrev pub ReadsAtMost24 : Type 0
-ReadsAtMost24 = (memory : Mapped) (cr3 linear : ℕ) (access : Access) → length (translation_reads memory cr3 linear access) ≤ 24
+ReadsAtMost24 = (memory : MemoryBehindEpt) (cr3 linear : ℕ) (access : Access) → length (translation_reads memory cr3 linear access) ≤ 24
 
 -- ---- stores
 
@@ -53,7 +53,7 @@ EptMissesNothing = (memory : Physical) (eptp at : ℕ) (access : Access) → Has
 -- nor is a nested walk
 abbrev pub TranslationMissesNothing : Type 0
 TranslationMissesNothing = (memory : Physical) (eptp cr3 linear : ℕ) (access : Access) → HasAllFrames memory
-    → frame_in eptp < frame_count memory → NoGap nested_gap (translation (mapped_answer memory eptp) cr3 linear access)
+    → frame_in eptp < frame_count memory → NoGap nested_gap (translation (memory_behind memory eptp) cr3 linear access)
 
 -- nor is a byte
 abbrev pub BytesMissNothing : Type 0
