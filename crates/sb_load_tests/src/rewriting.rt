@@ -8,7 +8,7 @@ use std::test::Fail;
 #[test]
 fn lists_instructions_or_says_where_none_stands(rt: HostRuntime) -> Result<(), Fail> {
     #[rattlefmt::skip]
-    let rows: [(&str, &[u8], Result<&[u64], ListRefusal>); 6] = [
+    let rows: [(&str, &[u8], Result<&[u32], ListRefusal>); 6] = [
         ("no byte", &[], Ok(&[])),
         ("three instructions", &[0xBF, 7, 0, 0, 0, 0x31, 0xC0, 0x0F, 5], Ok(&[0x40_0000, 0x40_0005, 0x40_0007])),
         ("the first byte", &[0xCC], Err(ListRefusal::Undecoded { at: 0x40_0000 })),

@@ -8,6 +8,7 @@ ghost use Rattle.sb_plain.specs.Start.{image_of, images_loaded, first_state};
 
 use crate::plain::Plain;
 use sb_bundle::Image;
+use sb_list::Listed;
 use sb_load::Loaded;
 use sb_rewrite::Rewritten;
 use sb_state::{PlainState, Process, no_thread};
@@ -25,7 +26,8 @@ fn start_process(alloc: Global, image: &Image, made: &Rewritten) -> Result<Proce
     requires { IsStrictlyIncreasing made.now.starts }
     ensures { IfOk result (λ process. process ≡ start_process (image_of image.now made.now)) }
 {
-    Ok(Process::new(made.starts().copied(alloc)?, image.heap_pages))
+    let starts = Listed::new(Vec::from_slice(alloc, made.starts().items())?);
+    Ok(Process::new(starts, image.heap_pages))
 }
 
 /// The processes at the start, by their numbers.

@@ -16,5 +16,6 @@ pub mod Placed
 pub mod Reading
 pub mod Refused
 pub mod Remembered
+pub mod StartBits
 pub mod Unmovable
 pub mod Within

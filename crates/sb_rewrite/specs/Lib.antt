@@ -1,3 +1,4 @@
+pub mod StartBits
 pub mod Listing
 pub mod Target
 pub mod Refusals

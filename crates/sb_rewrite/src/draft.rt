@@ -6,14 +6,15 @@ ghost use Rattle.sb_forms.specs.Pieces.{jump_insn};
 ghost use Rattle.sb_forms.specs.Answers.{HasRoom, FitsSlot};
 ghost use Rattle.sb_forms.specs.Answers.{area_end};
 ghost use Rattle.sb_forms.specs.Places.{text_end};
+ghost use Rattle.sb_rewrite.specs.Listing.{text_address};
 ghost use Rattle.sb_rewrite.specs.Placing.{area_address};
 ghost use Rattle.sb_rewrite.specs.RewrittenText.{IsOrdered};
 ghost use Rattle.sb_rewrite.specs.Turns.{IsTextInsn, started, keep, moved, in_place, next_place, with_start, Puts, IsFirstLeft};
 
 use crate::edit::{Edit, Move};
-use crate::listing::Starts;
 use crate::refusal::RewriteRefusal;
 use crate::rewritten::Rewritten;
+use crate::starts::Starts;
 use crate::text_insn::TextInsn;
 use sb_abi::{AREA_ADDRESS, AREA_PAGES, TEXT_ADDRESS};
 use sb_forms::{Code, Form, jump_code};
@@ -31,7 +32,7 @@ pub struct Draft {
     text: Vec<u8>,
     area: Vec<u8>,
     /// The starts of the instructions so far.
-    starts: Vec<u64>,
+    starts: Starts,
     edits: Vec<Edit>,
     moves: Vec<Move>,
 }
@@ -46,7 +47,7 @@ impl Model for Draft {
     ghost view = { λ draft. record {
       text = draft.text.items;
       area = draft.area.items;
-      starts = draft.starts.items;
+      starts = draft.starts;
       edits = draft.edits.items;
       moves = draft.moves.items;
     } };
@@ -77,29 +78,29 @@ fn put_nops(text: &mut Vec<u8>, count: usize) -> Result<(), AllocError>
 }
 
 impl Draft {
-    /// Nothing is made yet.
-    pub fn new(alloc: Global) -> Draft
-        ensures { result ≡ started }
+    /// Nothing is made yet, with room for what is made of a text with so many bytes.
+    pub fn with_room(alloc: Global, size: usize) -> Result<Draft, AllocError>
+        ensures { IfOk result (λ draft. draft ≡ started) }
     {
-        Draft {
-            text: Vec::new(alloc),
+        Ok(Draft {
+            text: Vec::with_capacity(alloc, size)?,
             area: Vec::new(alloc),
-            starts: Vec::new(alloc),
+            starts: Starts::with_room(alloc, size)?,
             edits: Vec::new(alloc),
             moves: Vec::new(alloc),
-        }
+        })
     }
 
     /// One more instruction starts at this address.
     pub fn start(&mut self, at: u64) -> Result<(), AllocError>
+        requires { text_address ≤ at }
         ensures { IfOk result (λ done. self.new ≡ with_start self.old at) }
     {
-        self.starts.push(at)?;
-        Ok(())
+        self.starts.push(at)
     }
 
     /// The starts of the instructions so far, in order.
-    pub fn starts(&self) -> &[u64]
+    pub fn starts(&self) -> &Starts
         ensures { result.now ≡ self.now.starts }
     {
         &self.starts
@@ -206,12 +207,6 @@ impl Draft {
         requires { IsOrdered self }
         ensures { result ≡ self }
     {
-        Rewritten::new(
-            self.text,
-            self.area,
-            Starts::new(self.starts),
-            self.edits,
-            self.moves,
-        )
+        Rewritten::new(self.text, self.area, self.starts, self.edits, self.moves)
     }
 }

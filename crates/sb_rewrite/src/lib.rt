@@ -20,13 +20,15 @@ mod listing;
 mod refusal;
 mod rewriting;
 mod rewritten;
+mod starts;
 mod target;
 mod text_insn;
 
 pub use draft::AREA_SIZE;
 pub use edit::{Edit, Edits};
-pub use listing::{Listing, Starts, list, one_listing};
+pub use listing::{Listing, list, one_listing};
 pub use refusal::{ListRefusal, RewriteRefusal};
 pub use rewriting::{one_rewriting, rewrite, rewriting_keeps_length, starts_stand_in_text};
 pub use rewritten::Rewritten;
 pub use sb_abi::{AREA_ADDRESS, TEXT_ADDRESS};
+pub use starts::Starts;

@@ -4,14 +4,11 @@ ghost use Rattle.std.specs.Prelude.{◌≡◌, ◌↔◌, IsTrue, IfOk, Contains
 ghost use Rattle.sb_rewrite.specs.Listing.{Lists, OneListing, OnePlace, ListedApart, StartsRise};
 
 use crate::refusal::ListRefusal;
+use crate::starts::Starts;
 use sb_abi::TEXT_ADDRESS;
 use sb_decode::decode;
-use sb_list::Listed;
 use std::alloc::{AllocError, Global};
 use std::marker::Model;
-
-/// Addresses at which instructions start, in order.
-pub type Starts = Listed<u64>;
 
 /// A text's instructions: to contracts, the list of their starts.
 #[derive(Debug, Drop)]
@@ -42,7 +39,7 @@ impl Listing {
     pub fn is_start(&self, at: u64) -> bool
         ensures { IsTrue result ↔ Contains self.now at }
     {
-        self.starts.items().binary_search(&at).is_ok()
+        self.starts.contains(at)
     }
 
     /// Gives the starts back.
@@ -67,11 +64,12 @@ impl Listing {
 /// # Errors
 ///
 /// `Undecoded` exactly where whole instructions spell a beginning of the text, and behind it something is left with which
-/// no whole instruction begins; `Memory` where memory ran out, in place of any answer.
+/// no whole instruction begins; `Memory` where memory ran out, in place of any answer, and where the text goes on behind the
+/// addresses of 32 bits.
 pub fn list(alloc: Global, text: &[u8]) -> Result<Listing, ListRefusal>
     ensures { Lists text.now result }
 {
-    let mut starts = Vec::new(alloc);
+    let mut starts = Starts::with_room(alloc, text.len())?;
     let mut rest = text;
     while !rest.is_empty() {
         let at = TEXT_ADDRESS + (text.len() - rest.len()) as u64;
@@ -83,9 +81,7 @@ pub fn list(alloc: Global, text: &[u8]) -> Result<Listing, ListRefusal>
             Err(_) => return Err(ListRefusal::Undecoded { at }),
         }
     }
-    Ok(Listing {
-        starts: Starts::new(starts),
-    })
+    Ok(Listing { starts })
 }
 
 /// A law, which does nothing when it is called: a text has one listing, or one place where it has none.

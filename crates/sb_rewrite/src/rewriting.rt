@@ -103,7 +103,7 @@ fn put_all(alloc: Global, text: &[u8]) -> Result<Draft, RewriteRefusal>
     requires { length text.now ≤ 2097152 }
     ensures { PutsAll text.now result }
 {
-    let mut draft = Draft::new(alloc);
+    let mut draft = Draft::with_room(alloc, text.len())?;
     let mut jumps = Vec::new(alloc);
     let mut rest = text;
     while !rest.is_empty() {

@@ -4,7 +4,7 @@ ghost use Rattle.std.specs.Prelude.{◌≡◌, ◌↔◌, IsTrue, Contains, List
 ghost use Rattle.sb_rewrite.specs.RewrittenText.{IsOrdered, IsMoved, IsInPlace, IsMovedTo, IsOriginal, text_from_parts};
 
 use crate::edit::{Edit, Edits, Move};
-use crate::listing::Starts;
+use crate::starts::Starts;
 use std::marker::Model;
 
 /// A text that was rewritten, and its rewrite area: to contracts, bytes and lists.
@@ -92,7 +92,7 @@ impl Rewritten {
     pub fn is_start(&self, at: u64) -> bool
         ensures { IsTrue result ↔ Contains self.now.starts at }
     {
-        self.starts.items().binary_search(&at).is_ok()
+        self.starts.contains(at)
     }
 
     /// Whether the instruction that starts at the address was moved.

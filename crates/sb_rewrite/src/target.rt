@@ -1,13 +1,13 @@
 //! Where a direct jump or call may lead.
 
 ghost use Rattle.std.specs.Prelude.{◌≡◌, ◌↔◌, IsTrue};
-ghost use Rattle.std.specs.List.Sorted.{IsStrictlyIncreasing};
 ghost use Rattle.sb_forms.specs.Places.{IsInTrampoline};
 ghost use Rattle.sb_rewrite.specs.Target.{IsBadTarget};
 ghost use Rattle.sb_rewrite.specs.Turns.{is_in_text, Remembers, ChecksJumps};
 
 use crate::listing::Listing;
 use crate::refusal::RewriteRefusal;
+use crate::starts::Starts;
 use crate::text_insn::TextInsn;
 use sb_abi::{TEXT_ADDRESS, TRAMPOLINE_ADDRESS, WINDOW_PAGES};
 use sb_memory::PAGE_SIZE;
@@ -71,12 +71,11 @@ pub(crate) fn remember_jump(
 }
 
 /// Refuses a jump that leads to no start.
-pub(crate) fn check_jumps(jumps: &[Jump], starts: &[u64]) -> Result<(), RewriteRefusal>
-    requires { IsStrictlyIncreasing starts.now }
+pub(crate) fn check_jumps(jumps: &[Jump], starts: &Starts) -> Result<(), RewriteRefusal>
     ensures { ChecksJumps jumps.now starts.now result }
 {
     for jump in jumps {
-        if starts.binary_search(&jump.target).is_err() {
+        if !starts.contains(jump.target) {
             return Err(RewriteRefusal::BadTarget { at: jump.at });
         }
     }

@@ -11,7 +11,7 @@ use std::marker::Model;
 /// A process: where the instructions of its text start, the number of its heap pages, and what it told as a server.
 #[derive(Debug, Drop)]
 pub struct Process {
-    starts: Listed<u64>,
+    starts: Listed<u32>,
     pub heap_pages: u32,
     pub registration: Option<Registration>,
 }
@@ -33,7 +33,7 @@ impl Model for Process {
 
 impl Process {
     /// A process that is no server yet.
-    pub fn new(starts: Listed<u64>, heap_pages: u32) -> Process
+    pub fn new(starts: Listed<u32>, heap_pages: u32) -> Process
         requires { IsStrictlyIncreasing starts }
         ensures { result ≡ record { starts = starts; heap_pages = heap_pages; registration = None } }
     {
@@ -48,6 +48,9 @@ impl Process {
     pub fn is_start(&self, at: u64) -> bool
         ensures { result ≡ is_listed self.now.starts at }
     {
-        self.starts.items().binary_search(&at).is_ok()
+        self.starts
+            .items()
+            .binary_search_by_key(&at, |start| u64::from(*start))
+            .is_ok()
     }
 }

@@ -1,17 +1,14 @@
 -- Each turn lists one more instruction; the loop ends at the text's end or where none is decoded.
-use Rattle.std.proofs.Common.{◌≡◌, ◌+◌, ◌-◌, ◌<◌, [], ◌∷◌, ◌++◌, length, rules}
+use Rattle.std.proofs.Common.{◌≡◌, ◌<◌, length, rules}
 use Rattle.sb_rewrite.proofs.Listed.{none_listed, one_more, all_listed, stuck_there}
 use Rattle.sb_rewrite.proofs.OneListing.{rising_starts}
 use Rattle.sb_rewrite.proofs.listing.list.Goals as goal
 
 pub loop-rest-init : goal.loop-rest-init
-loop-rest-init c = none_listed _ _ c.new-starts.ensures.items
+loop-rest-init c = none_listed _ _ c.in_ok-starts.ensures
 
 pub loop-rest-preserved : goal.loop-rest-preserved
-loop-rest-preserved c =
-    let items : c.push.new.self.items
-    ≡ c.loop-rest.starts.items ++ (0x400000 + (length c.args.text.now - length c.loop-rest.rest.now)) ∷ [] = search rules in
-    rw items (one_more _ _ _ _ _ c.loop-rest.invariant c.in-Ok.ensures.answer)
+loop-rest-preserved c = rw c.in_ok-push.ensures (one_more _ _ _ _ _ c.loop-rest.invariant c.in-Ok.ensures.answer)
 
 pub returns-in-Err : goal.returns-in-Err
 returns-in-Err c =
@@ -21,4 +18,4 @@ returns-in-Err c =
 pub invariant_of-result : goal.invariant_of-result
 invariant_of-result c =
     let none : length c.loop-rest.rest.now ≡ 0 = search rules in
-    rw c.new.ensures (rising_starts _ _ (all_listed _ _ _ c.loop-rest.invariant none))
+    rising_starts _ _ (all_listed _ _ _ c.loop-rest.invariant none)

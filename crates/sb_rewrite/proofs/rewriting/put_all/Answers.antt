@@ -3,12 +3,12 @@ use Rattle.std.proofs.Common.{◌≡◌, ◌<◌, Err, length, subst, rules}
 use Rattle.std.proofs.lemmas.Result.{err_from_is_err_and}
 use Rattle.sb_forms.proofs.Where.{not_in_jumps}
 use Rattle.sb_rewrite.specs.Turns.{ChecksJumps}
-use Rattle.sb_rewrite.proofs.Putting.{nothing_put, form_asks_here, one_put, rising_so_far, all_put}
+use Rattle.sb_rewrite.proofs.Putting.{nothing_put, form_asks_here, one_put, all_put}
 use Rattle.sb_rewrite.proofs.Refused.{front_refused, jump_refused, put_refused, check_refused}
 use Rattle.sb_rewrite.proofs.rewriting.put_all.Goals as goal
 
 pub loop-rest-init : goal.loop-rest-init
-loop-rest-init c = rw c.new-draft.ensures (nothing_put _ _ c.new-jumps.ensures.items)
+loop-rest-init c = rw c.in_ok-draft.ensures (nothing_put _ _ c.new-jumps.ensures.items)
 
 pub returns-in_err-text_insn : goal.returns-in_err-text_insn
 returns-in_err-text_insn c =
@@ -44,11 +44,6 @@ pub loop-rest-preserved : goal.loop-rest-preserved
 loop-rest-preserved c =
     let remembered = c.in_ok-remember_jump.ensures in
     one_put _ _ _ _ _ _ _ c.loop-rest.invariant c.in_ok-text_insn.ensures remembered.0 remembered.1 c.in_ok-put_text_insn.ensures
-
-pub check_jumps-requires : goal.check_jumps-requires
-check_jumps-requires c =
-    let none : length c.loop-rest.rest.now ≡ 0 = search rules in
-    rw c.starts.ensures (rising_so_far _ _ _ _ c.loop-rest.invariant none)
 
 pub returns-in_err-check_jumps : goal.returns-in_err-check_jumps
 returns-in_err-check_jumps c =
