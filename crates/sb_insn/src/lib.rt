@@ -14,6 +14,7 @@
 //! executor: `instruction_of` says which instruction an `Insn` is, and each valid one is in them (`valid_is_in_maps`).
 #![tactic(auto)]
 
+mod cells;
 mod fields;
 mod insn;
 mod lookup;
