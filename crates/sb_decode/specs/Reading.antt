@@ -1,8 +1,10 @@
 -- Reading from left to right: a reader gives a field and the bytes behind it, or says why it cannot.
-use Rattle.std.specs.Prelude.{◌≡◌, List, ℕ, Result, Ok, Err}
+use Rattle.std.specs.Prelude.{◌≡◌, List, ℕ, Option, Result, Ok, Err}
 use Rattle.std.specs.Borrow.{Bor}
 use Rattle.sb_insn.specs.declared.opcode_map.Cell.{Cell}
+use Rattle.sb_insn.specs.declared.opcode_map.ImmRule.{ImmRule}
 use Rattle.sb_insn.specs.OpcodeMap.{cell_of}
+use Rattle.sb_insn.specs.Fields.{rule_of}
 use Rattle.sb_decode.specs.declared.lead.Lead.{Lead}
 use Rattle.sb_decode.specs.declared.fault.DecodeFault.{DecodeFault}
 
@@ -19,6 +21,12 @@ Gives (Err fault) read = read ≡ Err fault
 abbrev pub GivesLead : Result ((Lead × Cell) × Bor (List ℕ)) DecodeFault → Read Lead → Type 0
 GivesLead (Ok got) read = (read ≡ Ok (got.0.0, got.1.now)) × (got.0.1 ≡ cell_of got.0.0.op)
 GivesLead (Err fault) read = read ≡ Err fault
+
+-- a function that returned a ModRM field behind an opcode, with the immediate that the opcode wants behind it, and a slice
+-- gave what is read
+abbrev pub GivesModRm : Cell → Result ((Option ℕ × ImmRule) × Bor (List ℕ)) DecodeFault → Read (Option ℕ) → Type 0
+GivesModRm cell (Ok got) read = (read ≡ Ok (got.0.0, got.1.now)) × (got.0.1 ≡ rule_of cell got.0.0)
+GivesModRm cell (Err fault) read = read ≡ Err fault
 
 -- go on with what was read
 infixl 10 ◌>>=◌

@@ -1,40 +1,45 @@
 //! The fields behind the opcode: each function gives one, and the bytes behind it.
 
 ghost use Rattle.std.specs.Prelude.{◌≡◌};
-ghost use Rattle.sb_decode.specs.Reading.{Gives};
-ghost use Rattle.sb_decode.specs.FieldReaders.{is_alone, modrm_at, sib_at, disp_at, imm_at};
+ghost use Rattle.sb_decode.specs.Reading.{Gives, GivesModRm};
+ghost use Rattle.sb_decode.specs.FieldReaders.{modrm_byte, modrm_at, sib_at, disp_at, imm_at};
 
 use crate::fault::DecodeFault;
 use crate::lead::Lead;
 use crate::number::{number_8, number_32, number_64};
-use sb_insn::{Cell, Disp, DispKind, Imm, ImmKind, permits_modrm, wants_sib};
+use sb_insn::{Cell, Disp, DispKind, Imm, ImmKind, ImmRule, permitted_rule, wants_sib};
 
-/// Whether an opcode has no ModRM byte.
+/// A ModRM byte that the opcode permits, and which immediate it wants behind the byte.
 #[inline(always)]
-fn is_alone(cell: Cell) -> bool
-    ensures { result ≡ is_alone cell }
+fn modrm_byte(
+    cell: Cell,
+    lead: Lead,
+    bytes: &[u8],
+) -> Result<((Option<u8>, ImmRule), &[u8]), DecodeFault>
+    ensures { GivesModRm cell result (modrm_byte cell lead.lock lead.rex bytes.now) }
 {
-    matches!(cell, Cell::NoModRm(_))
-}
-
-/// ModRM, where the opcode has it.
-#[inline(always)]
-#[tactic(auto, unfolding(crate::specs::FieldReaders::modrm_at))]
-pub fn modrm(cell: Cell, lead: Lead, bytes: &[u8]) -> Result<(Option<u8>, &[u8]), DecodeFault>
-    ensures { Gives result (modrm_at cell lead.lock lead.rex bytes.now) }
-{
-    if is_alone(cell) {
-        return Ok((None, bytes));
-    }
     match bytes {
         [] => Err(DecodeFault::Short),
-        [byte, rest @ ..] => {
-            if permits_modrm(cell, lead.lock, lead.rex, *byte) {
-                Ok((Some(*byte), rest))
-            } else {
-                Err(DecodeFault::Undecoded)
-            }
-        }
+        [byte, rest @ ..] => match permitted_rule(cell, lead.lock, lead.rex, *byte) {
+            Some(rule) => Ok(((Some(*byte), rule), rest)),
+            None => Err(DecodeFault::Undecoded),
+        },
+    }
+}
+
+/// ModRM, where the opcode has it, and which immediate the opcode wants behind it.
+#[inline(always)]
+#[tactic(auto, unfolding(crate::specs::FieldReaders::modrm_at))]
+pub fn modrm(
+    cell: Cell,
+    lead: Lead,
+    bytes: &[u8],
+) -> Result<((Option<u8>, ImmRule), &[u8]), DecodeFault>
+    ensures { GivesModRm cell result (modrm_at cell lead.lock lead.rex bytes.now) }
+{
+    match cell {
+        Cell::NoModRm(opcode) => Ok(((None, opcode.imm), bytes)),
+        Cell::Absent | Cell::ModRm(_) | Cell::Extended(..) => modrm_byte(cell, lead, bytes),
     }
 }
 

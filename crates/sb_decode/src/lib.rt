@@ -22,7 +22,7 @@ ghost use Rattle.sb_decode.specs.InsnReader.{parts_at, from_parts};
 ghost use Rattle.sb_decode.specs.Decode.{Decodes, NoneBeginsAnother, OneBegins, SpelledApart, OneAnswer};
 
 pub use fault::DecodeFault;
-use sb_insn::{Insn, disp_kind, imm_kind};
+use sb_insn::{Insn, disp_kind, imm_kind_of};
 
 /// The instruction with which the bytes begin, and its length in bytes (SDM volume 2, chapter 2).
 ///
@@ -32,6 +32,7 @@ use sb_insn::{Insn, disp_kind, imm_kind};
 ///
 /// `Short` where no instruction begins the bytes, and one begins some longer input that begins with all of them;
 /// `Undecoded` where none does, however the bytes go on.
+#[inline(always)]
 pub fn decode(bytes: &[u8]) -> Result<(Insn, usize), DecodeFault>
     ensures answer { Decodes bytes.now result }
     // What loops over instructions need: a length within the bytes and not 0, and Short near the end alone.
@@ -59,10 +60,10 @@ fn insn(bytes: &[u8]) -> Result<(Insn, &[u8]), DecodeFault>
     ensures { Gives result (from_parts (parts_at bytes.now)) }
 {
     let ((lead, cell), rest) = lead::read(bytes)?;
-    let (modrm, rest) = fields::modrm(cell, lead, rest)?;
+    let ((modrm, rule), rest) = fields::modrm(cell, lead, rest)?;
     let (sib, rest) = fields::sib(modrm, rest)?;
     let (disp, rest) = fields::disp(disp_kind(modrm, sib), rest)?;
-    let (imm, rest) = fields::imm(imm_kind(cell, modrm, lead.rex), rest)?;
+    let (imm, rest) = fields::imm(imm_kind_of(rule, lead.rex), rest)?;
     let insn = Insn {
         lock: lead.lock,
         rex: lead.rex,

@@ -177,6 +177,11 @@ abbrev pub rule_of : Cell → Option ℕ → ImmRule
 rule_of cell None = alone_rule cell
 rule_of cell (Some modrm) = operand_rule (modrm_opcode cell (reg_field modrm))
 
+-- which immediate the opcode wants behind this ModRM byte, if the opcode permits the byte behind these prefixes
+abbrev pub permitted_rule : Cell → Bool → Option ℕ → ℕ → Option ImmRule
+permitted_rule cell lock rex modrm =
+    if is_modrm_field cell lock rex (Some modrm) then Some (rule_of cell (Some modrm)) else None
+
 abbrev pub imm_kind_of : ImmRule → Option ℕ → ImmKind
 imm_kind_of imm_rule.None rex = imm_kind.None
 imm_kind_of imm_rule.I8 rex = imm_kind.I8

@@ -29,6 +29,7 @@ ghost use Rattle.sb_insn.specs.Fields.{
   modrm_disp,
   disp_kind_of,
   rule_of,
+  permitted_rule,
   is_wide,
   imm_kind_of,
 };
@@ -330,12 +331,38 @@ fn is_wide(rex: Option<u8>) -> bool
     rex_w(rex) == 1
 }
 
+/// Which immediate the opcode wants behind this ModRM byte; `None` where the opcode does not permit the byte behind these
+/// prefixes.
+#[inline(always)]
+pub fn permitted_rule(cell: Cell, lock: bool, rex: Option<u8>, modrm: u8) -> Option<ImmRule>
+    ensures { result ≡ permitted_rule cell lock rex modrm }
+{
+    match modrm_opcode(cell, reg_field(modrm)) {
+        None => None,
+        Some(opcode) => {
+            if permits(&opcode, lock, rex, modrm) {
+                Some(opcode.imm)
+            } else {
+                None
+            }
+        }
+    }
+}
+
 /// Which immediate stands behind these fields.
 #[inline(always)]
 pub fn imm_kind(cell: Cell, modrm: Option<u8>, rex: Option<u8>) -> ImmKind
     ensures { result ≡ imm_kind_of (rule_of cell modrm) rex }
 {
-    match rule_of(cell, modrm) {
+    imm_kind_of(rule_of(cell, modrm), rex)
+}
+
+/// Which immediate an opcode that wants this one has behind this REX field.
+#[inline(always)]
+pub fn imm_kind_of(rule: ImmRule, rex: Option<u8>) -> ImmKind
+    ensures { result ≡ imm_kind_of rule rex }
+{
+    match rule {
         ImmRule::None => ImmKind::None,
         ImmRule::I8 => ImmKind::I8,
         ImmRule::I32 => ImmKind::I32,

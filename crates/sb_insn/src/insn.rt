@@ -112,6 +112,7 @@ impl Disp {
     }
 
     /// How many bytes it has. The bound is what the sum over the fields needs.
+    #[inline(always)]
     fn length(&self) -> usize
         ensures value { result ≡ length (disp_bytes self.now) }
         ensures bound { result ≤ 8 }
@@ -139,6 +140,7 @@ impl Imm {
     }
 
     /// The number, sign-extended to 64 bits; 0 where there is none.
+    #[inline(always)]
     pub fn value(self) -> u64
         ensures { result ≡ imm_value self }
     {
@@ -151,6 +153,7 @@ impl Imm {
     }
 
     /// How many bytes it has.
+    #[inline(always)]
     fn length(&self) -> usize
         ensures value { result ≡ length (imm_bytes self.now) }
         ensures bound { result ≤ 8 }
@@ -166,6 +169,7 @@ impl Imm {
 
 impl Op {
     /// How many bytes it has.
+    #[inline(always)]
     fn length(&self) -> usize
         ensures value { result ≡ length (op_bytes self.now) }
         ensures bound { result ≤ 8 }
@@ -180,6 +184,7 @@ impl Op {
 }
 
 /// How many bytes a field has that is one byte, if it stands.
+#[inline(always)]
 fn byte_count(field: Option<u8>) -> usize
     ensures value { result ≡ length (option_to_list field) }
     ensures bound { result ≤ 1 }
@@ -247,6 +252,7 @@ impl Insn {
     }
 
     /// Whether it is JMP, Jcc or CALL with a distance (SDM volume 2), by its opcode alone.
+    #[inline(always)]
     pub fn is_direct(&self) -> bool
         ensures { result ≡ is_direct self.now }
     {
@@ -258,6 +264,7 @@ impl Insn {
 
     /// Where it leads from an address if it is a direct jump or call (SDM volume 2: JMP, Jcc, CALL): its distance from
     /// the next instruction, modulo 2^64. None for all other instructions.
+    #[inline(always)]
     #[tactic(auto, unfolding(crate::specs::Branch::direct_target))]
     pub fn direct_target(&self, at: u64) -> Option<u64>
         ensures { result ≡ direct_target self.now at }
@@ -270,6 +277,7 @@ impl Insn {
     }
 
     /// How many bytes its spelling has; 13 at most where it is valid.
+    #[inline(always)]
     #[tactic(auto, using(crate::proofs::Longest::spelling_13))]
     pub fn length(&self) -> usize
         ensures value { result ≡ length (spelling self.now) }
@@ -279,6 +287,7 @@ impl Insn {
     }
 
     /// The sum over the fields, which the proof of `length` bounds for valid instructions alone.
+    #[inline(always)]
     fn field_lengths(&self) -> usize
         ensures value { result ≡ length (spelling self.now) }
         ensures bound { result ≤ 28 }

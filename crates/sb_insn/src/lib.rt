@@ -4,8 +4,8 @@
 //! opcode; and the grammar over them (`specs/`), of which the decoder, the encoder and the executor speak. Not inside:
 //! reading bytes (`sb_decode`) and what an instruction does (`sb_exec`).
 //!
-//! For the decoder alone: `Cell`, `Group`, `RexRule`, `DispKind`, `ImmKind`, `cell_of`, `is_rex`, `permits_modrm`,
-//! `wants_sib`, `disp_kind` and `imm_kind`. For the encoders: `ByteSink` and `spell_into`. For the rewriter: REX with other
+//! For the decoder alone: `Cell`, `Group`, `RexRule`, `DispKind`, `ImmKind`, `cell_of`, `is_rex`, `permitted_rule`,
+//! `wants_sib`, `disp_kind` and `imm_kind_of`. For the encoders: `ByteSink` and `spell_into`. For the rewriter: REX with other
 //! bits (`with_r_b`, `with_x_b_exchanged`), and the numbers of the registers that the fields name.
 //!
 //! The grammar goes field by field in the order LOCK, REX, opcode, ModRM, SIB, displacement, immediate (SDM volume 2,
@@ -14,6 +14,7 @@
 //! executor: `instruction_of` says which instruction an `Insn` is, and each valid one is in them (`valid_is_in_maps`).
 #![tactic(auto)]
 
+mod cells;
 mod fields;
 mod insn;
 mod lookup;
@@ -25,8 +26,8 @@ mod rex;
 mod spell;
 
 pub use fields::{
-    base, disp_kind, has_memory, imm_kind, index, is_from_next, is_rex, mod_field, permits_modrm,
-    reg_field, rex_b, rex_r, rex_w, rex_x, rm_field, scale, wants_sib,
+    base, disp_kind, has_memory, imm_kind_of, index, is_from_next, is_rex, mod_field,
+    permitted_rule, reg_field, rex_b, rex_r, rex_w, rex_x, rm_field, scale, wants_sib,
 };
 pub use insn::{Disp, DispKind, Imm, ImmKind, Insn, Op};
 pub use lookup::{instruction_of, modrm_opcode_of, valid_is_in_maps};

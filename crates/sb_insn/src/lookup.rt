@@ -1,12 +1,23 @@
 //! Which instruction of the opcode maps an `Insn` is.
 
 ghost use Rattle.std.specs.Prelude.{◌≡◌};
-ghost use Rattle.sb_insn.specs.Lookup.{named_instruction, instruction_of, modrm_opcode_of, ValidInMaps};
+ghost use Rattle.sb_insn.specs.Lookup.{named_instruction, instruction_of, modrm_opcode_in, modrm_opcode_of, ValidInMaps};
 
 use crate::fields::reg_field;
 use crate::insn::Insn;
 use crate::opcode_map::{Cell, Instruction, ModRmOpcode};
 use crate::opcodes::{cell_of, modrm_opcode};
+
+/// What a cell says of this ModRM field.
+#[inline(always)]
+fn modrm_opcode_in(cell: Cell, modrm: Option<u8>) -> Option<ModRmOpcode>
+    ensures { result ≡ modrm_opcode_in cell modrm }
+{
+    match modrm {
+        None => None,
+        Some(modrm) => modrm_opcode(cell, reg_field(modrm)),
+    }
+}
 
 /// What the opcode maps say of its ModRM byte; `None` where no ModRM byte stands, or where its opcode has none or its
 /// group has no such reg field.
@@ -16,13 +27,11 @@ use crate::opcodes::{cell_of, modrm_opcode};
 pub fn modrm_opcode_of(insn: &Insn) -> Option<ModRmOpcode>
     ensures { result ≡ modrm_opcode_of insn.now }
 {
-    match insn.modrm {
-        None => None,
-        Some(modrm) => modrm_opcode(cell_of(insn.op), reg_field(modrm)),
-    }
+    modrm_opcode_in(cell_of(insn.op), insn.modrm)
 }
 
 /// The instruction of an opcode, if there is one.
+#[inline(always)]
 fn named_instruction(opcode: Option<ModRmOpcode>) -> Option<Instruction>
     ensures { result ≡ named_instruction opcode }
 {
@@ -36,15 +45,17 @@ fn named_instruction(opcode: Option<ModRmOpcode>) -> Option<Instruction>
 /// has no such reg field.
 ///
 /// It looks at the opcode, and at the reg field of ModRM where the opcode is of a group; the rest may be invalid.
-#[tactic(auto, unfolding(crate::specs::Lookup::instruction_of, crate::specs::Lookup::modrm_opcode_of))]
+#[inline(always)]
+#[tactic(auto, unfolding(crate::specs::Lookup::instruction_of))]
 pub fn instruction_of(insn: &Insn) -> Option<Instruction>
     ensures { result ≡ instruction_of insn.now }
 {
-    match cell_of(insn.op) {
+    let cell = cell_of(insn.op);
+    match cell {
         Cell::Absent => None,
         Cell::NoModRm(opcode) => Some(opcode.instruction),
         Cell::ModRm(opcode) => Some(opcode.instruction),
-        Cell::Extended(..) => named_instruction(modrm_opcode_of(insn)),
+        Cell::Extended(..) => named_instruction(modrm_opcode_in(cell, insn.modrm)),
     }
 }
 

@@ -92,6 +92,7 @@ impl Draft {
     }
 
     /// One more instruction starts at this address.
+    #[inline(always)]
     pub fn start(&mut self, at: u64) -> Result<(), AllocError>
         requires { text_address ≤ at }
         ensures { IfOk result (λ done. self.new ≡ with_start self.old at) }
@@ -165,6 +166,7 @@ impl Draft {
     }
 
     /// Puts an instruction itself.
+    #[inline(always)]
     pub fn keep(&mut self, text_insn: &TextInsn) -> Result<(), RewriteRefusal>
         requires { IsTextInsn text_insn.now }
         ensures { Puts self.old self.new (next_place self.old text_insn.now.insn text_insn.now.at keep) result }

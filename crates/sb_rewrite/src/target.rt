@@ -22,6 +22,7 @@ pub(crate) struct Jump {
 }
 
 /// Whether the address is in the trampoline page, to which any text may jump.
+#[inline(always)]
 fn is_in_trampoline(target: u64) -> bool
     ensures { IsTrue result ↔ IsInTrampoline target }
 {
@@ -39,6 +40,7 @@ pub(crate) fn is_bad_target(listing: &Listing, target: Option<u64>) -> bool
 }
 
 /// Whether it is an address that a text can have.
+#[inline(always)]
 fn is_in_text(address: u64) -> bool
     ensures { result ≡ is_in_text address }
 {
@@ -50,6 +52,7 @@ fn is_in_text(address: u64) -> bool
 /// # Errors
 ///
 /// `BadTarget` where one leads neither there nor into the trampoline page.
+#[inline(always)]
 pub(crate) fn remember_jump(
     jumps: &mut Vec<Jump>,
     text_insn: &TextInsn,

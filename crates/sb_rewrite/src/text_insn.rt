@@ -25,6 +25,7 @@ pub struct TextInsn<'a> {
 /// # Errors
 ///
 /// `Undecoded` where no whole instruction begins the rest.
+#[inline(always)]
 pub fn decode_first<'a>(text: &[u8], rest: &'a [u8]) -> Result<TextInsn<'a>, RewriteRefusal>
     requires { length rest.now ≤ length text.now }
     ensures { DecodesFirst text.now rest.now result }
