@@ -36,6 +36,12 @@ cmpxchg_result size place old source regs =
     (with_flags (difference_outcome size (register_value size RAX regs) old).flags regs)
     else cmpxchg_unequal size place old (with_flags (difference_outcome size (register_value size RAX regs) old).flags regs)
 
+-- The number that rm gets: CMPXCHG gives it the one that it held where that is not the accumulator.
+abbrev pub number_for_rm : Exchange → Size → ℕ → ℕ → ℕ → ℕ
+number_for_rm exchange.Xchg size old source accumulator = source
+number_for_rm exchange.Xadd size old source accumulator = sum_of size old source
+number_for_rm exchange.Cmpxchg size old source accumulator = if accumulator == old then source else old
+
 -- what an exchange leaves
 unfoldable pub exchange_of : Exchange → Size → ℕ → Location → ℕ → ℕ → Regs → RowResult
 exchange_of exchange.Xchg size number place old source regs = xchg_result size number place old source regs
