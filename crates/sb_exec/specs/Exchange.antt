@@ -5,11 +5,11 @@ use Rattle.sb_insn.specs.declared.insn.Insn.{Insn}
 use Rattle.sb_insn.specs.declared.registers.Regs.{Regs}
 use Rattle.sb_insn.specs.declared.registers.TheConstants.{RAX}
 use Rattle.sb_alu.specs.declared.size.Size.{Size}
+use Rattle.sb_exec.specs.Row.{RowResult}
 use Rattle.sb_exec.specs.declared.action.Exchange.{Exchange}
 use Rattle.sb_exec.specs.declared.action.Exchange.TheVariants as exchange
 use Rattle.sb_exec.specs.declared.action.Location.{Location}
 use Rattle.sb_exec.specs.declared.action.Location.TheVariants.{Register, Memory}
-use Rattle.sb_exec.specs.declared.action.RowResult.{RowResult}
 use Rattle.sb_exec.specs.Operand.{reg_number, register_value, with_register}
 use Rattle.sb_exec.specs.Address.{rm_location}
 use Rattle.sb_alu.specs.Arithmetic.{sum_outcome, difference_outcome, sum_of}

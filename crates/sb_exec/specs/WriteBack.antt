@@ -10,10 +10,10 @@ use Rattle.sb_insn.specs.Branch.{imm_value}
 use Rattle.sb_alu.specs.declared.size.Size.{Size}
 use Rattle.sb_alu.specs.declared.size.Size.TheVariants.{Byte}
 use Rattle.sb_alu.specs.declared.operation.Operation.{Operation}
+use Rattle.sb_exec.specs.Row.{RowResult}
 use Rattle.sb_exec.specs.declared.action.Location.{Location}
 use Rattle.sb_exec.specs.declared.action.Location.TheVariants.{Register, Memory}
 use Rattle.sb_alu.specs.declared.operation.OperationOutcome.{OperationOutcome}
-use Rattle.sb_exec.specs.declared.action.RowResult.{RowResult}
 use Rattle.sb_alu.specs.Size.{low}
 use Rattle.sb_exec.specs.Operand.{reg_number, opcode_number, operand_value, register_value, with_register, next_rip}
 use Rattle.sb_exec.specs.Address.{rm_location}
