@@ -4,11 +4,12 @@ ghost use Rattle.std.specs.Prelude.{◌≡◌, Some, IfOk, length};
 ghost use Rattle.sb_state.specs.State.{find_page};
 ghost use Rattle.sb_state.specs.Windows.{page_by_name};
 ghost use Rattle.sb_state.specs.PlainMemory.{is_canonical};
-ghost use Rattle.sb_state.specs.Reach.{reached, reached_as, name_only};
+ghost use Rattle.sb_state.specs.Places.{place_of};
+ghost use Rattle.sb_state.specs.Reach.{reached, reached_as, name_only, known_name};
 
 use crate::address_space::{mode_of, name_at, permits};
 use crate::page::{Page, PageName};
-use crate::pages::Pages;
+use crate::pages::{Known, Pages};
 use crate::plain_state::PlainState;
 use sb_bus::{BusStop, FaultKind};
 use sb_memory::{Access, Linear};
@@ -20,25 +21,50 @@ fn is_canonical(at: Linear) -> bool
     at.0 < 1 << 47 || at.0 >= !0 << 47
 }
 
-/// The page of a name, if an access to it is permitted.
+/// The page of a name, if an access to it is permitted, with its place.
 fn reach_named(
     pages: &Pages,
     name: PageName,
     at: Linear,
     access: Access,
-) -> Result<(PageName, &Page), BusStop>
-    ensures name { name_only result ≡ reached_as (page_by_name pages.now.pages name) at.0 access }
-    ensures page { IfOk result (λ found. find_page pages.now.pages found.0 ≡ Some found.1.now) }
+) -> Result<(Known, &Page), BusStop>
+    ensures name { known_name result ≡ reached_as (page_by_name pages.now.pages name) at.0 access }
+    ensures place { IfOk result (λ found. place_of pages.now.pages found.0.name ≡ Some found.0.place) }
+    ensures page { IfOk result (λ found. find_page pages.now.pages found.0.name ≡ Some found.1.now) }
     ensures size { IfOk result (λ found. length found.1.now.bytes ≡ 4096) }
 {
-    match pages.find(name) {
-        Some(page) if permits(mode_of(name, page.executable), access) => Ok((name, page)),
+    match pages.find_placed(name) {
+        Some((place, page)) if permits(mode_of(name, page.executable), access) => {
+            Ok((Known { name, place }, page))
+        }
         _ => Err(BusStop::Fault(FaultKind::Memory, at)),
     }
 }
 
-/// The page that an access in a view of a thread reaches, with its name.
+/// The page that an access in a view of a thread reaches, with its name and its place.
 #[tactic(auto, unfolding(crate::specs::Windows::page_for, crate::specs::Reach::reached))]
+pub fn reach_known(
+    state: &PlainState,
+    thread: u32,
+    view: u32,
+    at: Linear,
+    access: Access,
+) -> Result<(Known, &Page), BusStop>
+    ensures name { known_name result ≡ reached thread view state.now at.0 access }
+    ensures place { IfOk result (λ found. place_of state.now.pages found.0.name ≡ Some found.0.place) }
+    ensures page { IfOk result (λ found. find_page state.now.pages found.0.name ≡ Some found.1.now) }
+    ensures size { IfOk result (λ found. length found.1.now.bytes ≡ 4096) }
+{
+    if !is_canonical(at) {
+        return Err(BusStop::Fault(FaultKind::Canon, at));
+    }
+    match name_at(&state.threads, thread, view, at.0 / 4096) {
+        Some(name) => reach_named(&state.pages, name, at, access),
+        None => Err(BusStop::Fault(FaultKind::Memory, at)),
+    }
+}
+
+/// The page that an access in a view of a thread reaches, with its name.
 pub fn reach(
     state: &PlainState,
     thread: u32,
@@ -50,11 +76,6 @@ pub fn reach(
     ensures page { IfOk result (λ found. find_page state.now.pages found.0 ≡ Some found.1.now) }
     ensures size { IfOk result (λ found. length found.1.now.bytes ≡ 4096) }
 {
-    if !is_canonical(at) {
-        return Err(BusStop::Fault(FaultKind::Canon, at));
-    }
-    match name_at(&state.threads, thread, view, at.0 / 4096) {
-        Some(name) => reach_named(&state.pages, name, at, access),
-        None => Err(BusStop::Fault(FaultKind::Memory, at)),
-    }
+    let (known, page) = reach_known(state, thread, view, at, access)?;
+    Ok((known.name, page))
 }
