@@ -97,9 +97,10 @@ fn condition(number: u8, flags: &Flags) -> bool
 pub fn set_after_jcc(number: u8, insn: &Insn, regs: &mut Regs)
     ensures { regs.new ≡ regs_after_jcc number insn.now regs.old }
 {
-    regs.rip = if condition(number, &regs.flags) {
+    let rip = if condition(number, &regs.flags) {
         target_of(OperandForm::Relative, insn, regs, 0)
     } else {
         next_rip(insn, regs)
     };
+    regs.rip = rip;
 }
