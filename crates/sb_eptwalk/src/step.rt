@@ -38,6 +38,8 @@ fn step<P: Phys>(
 
 /// The physical address of a guest-physical one for an access, from the table to which an EPT pointer leads.
 ///
+/// # Errors
+///
 /// `TooWide` comes exactly where the address has more than 48 bits. Then, at each level from 4 to 1, the first that applies
 /// of: `Missing`, the memory does not have the frame of the table; `NotPresent`, the entry permits nothing; `Misconfigured`,
 /// write without read, or at level 1 another memory type than 6; `Large`, at level 3 or 2; `Outside`, the next frame lies past

@@ -68,8 +68,12 @@ fn execute_row<B: Bus>(insn: &Insn, regs: &mut Regs, bus: &mut B) -> Result<Effe
 
 /// Executes a valid instruction.
 ///
-/// `Err` is the first byte that fails, of the first access that fails. It, and each effect but `Next`, leave registers
-/// and memory as they were: SYSCALL, VMFUNC and UD2 are the caller's to do, from RIP at the instruction itself.
+/// Each effect but `Next` leaves registers and memory as they were: SYSCALL, VMFUNC and UD2 are the caller's to do, from
+/// RIP at the instruction itself.
+///
+/// # Errors
+///
+/// The first byte that fails, of the first access that fails. It leaves registers and memory as they were.
 #[tactic(auto, using(crate::proofs::Laws::execute_laws))]
 pub fn execute<B: Bus>(insn: &Insn, regs: &mut Regs, bus: &mut B) -> Result<Effect, BusStop>
     requires { IsValid insn.now }

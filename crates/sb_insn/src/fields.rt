@@ -16,7 +16,7 @@ ghost use Rattle.sb_insn.specs.Fields.{
   is_rex,
   permits_rex,
   permits_rm,
-  permits,
+  modrm_opcode_permits,
   is_register,
   has_memory,
   is_from_next,
@@ -213,9 +213,9 @@ fn permits_rm(rule: RmRule, modrm: u8) -> bool
 
 /// Whether an opcode with these operands permits this ModRM byte behind these prefixes.
 #[inline(always)]
-#[tactic(auto, unfolding(crate::specs::Fields::permits))]
-fn permits(opcode: &ModRmOpcode, lock: bool, rex: Option<u8>, modrm: u8) -> bool
-    ensures { result ≡ permits opcode.now lock rex modrm }
+#[tactic(auto, unfolding(crate::specs::Fields::modrm_opcode_permits))]
+fn modrm_opcode_permits(opcode: &ModRmOpcode, lock: bool, rex: Option<u8>, modrm: u8) -> bool
+    ensures { result ≡ modrm_opcode_permits opcode.now lock rex modrm }
 {
     (!lock || (opcode.lock && !is_register(modrm)))
         && (permits_rm(opcode.rm, modrm) && !(rex.is_none() && needs_rex(opcode, modrm)))
@@ -228,7 +228,7 @@ pub fn permits_modrm(cell: Cell, lock: bool, rex: Option<u8>, modrm: u8) -> bool
 {
     match modrm_opcode(cell, reg_field(modrm)) {
         None => false,
-        Some(opcode) => permits(&opcode, lock, rex, modrm),
+        Some(opcode) => modrm_opcode_permits(&opcode, lock, rex, modrm),
     }
 }
 

@@ -17,7 +17,7 @@ use Rattle.sb_exec.specs.Interface.{Interface}
 use Rattle.sb_exec.specs.Size.{size_bytes}
 use Rattle.sb_exec.specs.Row.{RowResult, Row, MemoryAccess, Loads, LoadsForWrite, Stores, load_accesses, store_accesses, accesses}
 use Rattle.sb_exec.specs.Execution.{Run, run, run_on, execution_of, execution_by, effect_after, registers_after}
-use Rattle.sb_exec.specs.Simulation.{told, IsAt, IsRowAt, AgreeAt, StoresKeepAt}
+use Rattle.sb_exec.specs.Simulation.{named_answer, IsAt, IsRowAt, AgreeAt, StoresKeepAt}
 use Rattle.sb_exec.proofs.Simulation.{SameRun, run_agrees_at}
 use Rattle.sb_original.specs.Words.{Words}
 use Rattle.sb_original.specs.Original.{SameAccesses}
@@ -77,8 +77,8 @@ run_alike left right Holds IsOutside naming beside accesses words first second a
 -- ---- the rows
 
 ends_by : (naming : BusStop → BusStop) (row other : Row) (regs other_regs : Regs) (answer : Result ℕ BusStop)
-    → EndAlike row other regs other_regs (effect_after other.effect answer) (registers_after row regs (told naming answer))
-    (registers_after other other_regs answer)
+    → EndAlike row other regs other_regs (effect_after other.effect answer)
+    (registers_after row regs (named_answer naming answer)) (registers_after other other_regs answer)
 ends_by naming row other regs other_regs (Ok loaded) = inl (loaded, refl, refl)
 ends_by naming row other regs other_regs (Err stop) = inr ((stop, refl), refl, refl)
 
@@ -88,7 +88,7 @@ by_runs : {M A N B : Type 0} (Holds : Words → M → N → Type 0) (naming : Bu
     → MainStep Holds naming words row other regs other_regs (execution_by row regs two) (execution_by other other_regs one)
 by_runs Holds naming words row other regs other_regs one two effect same = record {
   answer = ap (λ a. effect_after row.effect a) same.answer ∙ effect_told naming row.effect one.answer
-      ∙ ap (λ e. told naming (effect_after e one.answer)) (sym effect);
+      ∙ ap (λ e. named_answer naming (effect_after e one.answer)) (sym effect);
   holds = same.related;
   ends = subst
       (λ a. EndAlike row other regs other_regs (effect_after other.effect one.answer) (registers_after row regs a)
@@ -98,9 +98,9 @@ by_runs Holds naming words row other regs other_regs one two effect same = recor
 -- ---- where the rewritten row is stopped: a stop does not depend on what was loaded, and changes no memory
 
 bytes_stopped : (naming : BusStop → BusStop) (byte byte' : Result ℕ BusStop) (others others' : Result (List ℕ) BusStop)
-    → done byte' ≡ told naming (done byte) → done others' ≡ told naming (done others)
+    → done byte' ≡ named_answer naming (done byte) → done others' ≡ named_answer naming (done others)
     → done (and_then byte' (λ lowest. and_then others' (λ more. Ok (lowest ∷ more))))
-    ≡ told naming (done (and_then byte (λ lowest. and_then others (λ more. Ok (lowest ∷ more)))))
+    ≡ named_answer naming (done (and_then byte (λ lowest. and_then others (λ more. Ok (lowest ∷ more)))))
 bytes_stopped naming (Ok lowest) (Ok lowest') (Ok more) (Ok more') one two = refl
 bytes_stopped naming (Ok lowest) (Ok lowest') (Ok more) (Err stop') one two = absurd cc
 bytes_stopped naming (Ok lowest) (Ok lowest') (Err stop) (Ok more') one two = absurd cc
@@ -110,8 +110,8 @@ bytes_stopped naming (Err stop) (Ok lowest') others others' one two = absurd cc
 bytes_stopped naming (Err stop) (Err stop') others others' one two = one
 
 all_stopped : (naming : BusStop → BusStop) (byte byte' : ℕ → Result ℕ BusStop)
-    → ((address : ℕ) → done (byte' address) ≡ told naming (done (byte address))) → (address count : ℕ)
-    → done (bytes_from byte' address count) ≡ told naming (done (bytes_from byte address count))
+    → ((address : ℕ) → done (byte' address) ≡ named_answer naming (done (byte address))) → (address count : ℕ)
+    → done (bytes_from byte' address count) ≡ named_answer naming (done (bytes_from byte address count))
 unfolding bytes_from
 all_stopped naming byte byte' given address zero = refl
 all_stopped naming byte byte' given address (suc count) =
@@ -123,22 +123,23 @@ number_done (Ok all) = refl
 number_done (Err stop) = refl
 
 loads_stopped : (naming : BusStop → BusStop) (byte byte' : ℕ → Result ℕ BusStop)
-    → ((address : ℕ) → done (byte' address) ≡ told naming (done (byte address))) → (address count : ℕ)
-    → done (loaded_from byte' address count) ≡ told naming (done (loaded_from byte address count))
+    → ((address : ℕ) → done (byte' address) ≡ named_answer naming (done (byte address))) → (address count : ℕ)
+    → done (loaded_from byte' address count) ≡ named_answer naming (done (loaded_from byte address count))
 unfolding loaded_from
 loads_stopped naming byte byte' given address count =
     number_done (bytes_from byte' address count)
-    ∙ (all_stopped naming byte byte' given address count ∙ ap (told naming) (sym (number_done (bytes_from byte address count))))
+    ∙ (all_stopped naming byte byte' given address count
+    ∙ ap (named_answer naming) (sym (number_done (bytes_from byte address count))))
 
 stores_stopped : (naming : BusStop → BusStop) (byte byte' : ℕ → Result ℕ BusStop)
-    → ((address : ℕ) → done (byte' address) ≡ told naming (done (byte address))) → (address count : ℕ)
-    → store_answer byte' address count ≡ told naming (store_answer byte address count)
+    → ((address : ℕ) → done (byte' address) ≡ named_answer naming (done (byte address))) → (address count : ℕ)
+    → store_answer byte' address count ≡ named_answer naming (store_answer byte address count)
 unfolding store_answer
 stores_stopped naming byte byte' given address count = all_stopped naming byte byte' given address count
 
 write_stopped : (naming : BusStop → BusStop) (write write' read read' : Result ℕ BusStop)
-    → done write' ≡ told naming (done write) → done read' ≡ told naming (done read)
-    → done (and_then write' (λ _. read')) ≡ told naming (done (and_then write (λ _. read)))
+    → done write' ≡ named_answer naming (done write) → done read' ≡ named_answer naming (done read)
+    → done (and_then write' (λ _. read')) ≡ named_answer naming (done (and_then write (λ _. read)))
 write_stopped naming (Ok value) (Ok value') read read' one two = two
 write_stopped naming (Ok value) (Err stop') read read' one two = absurd cc
 write_stopped naming (Err stop) (Ok value') read read' one two = absurd cc
@@ -147,7 +148,7 @@ write_stopped naming (Err stop) (Err stop') read read' one two = one
 -- both runs are stopped alike, and leave the memories
 record StoppedRun {M A N B : Type 0} (naming : BusStop
     → BusStop) (first : M) (second : N) (one : Run M A) (two : Run N B) : Type 0 where
-  answer : two.answer ≡ told naming one.answer
+  answer : two.answer ≡ named_answer naming one.answer
   left : one.meaning ≡ first
   right : two.meaning ≡ second
 
@@ -161,7 +162,7 @@ clash value stopped = let is = stopped.1 in cc
 last_stopped : {M A N B : Type 0} (naming : BusStop
     → BusStop) (one two : Result (Unit {0}) BusStop) (first first' : M) (second second' : N) (account : A) (other : B)
     (loaded loaded' : ℕ)
-    → two ≡ told naming one
+    → two ≡ named_answer naming one
     → StopsAlike naming first second
     (run_on (λ (meaning : M) (account : A) (loaded : ℕ). record { answer = Ok loaded; meaning = meaning; account = account })
     (and_then one (λ _. Ok loaded)) (where_stored one first' first) account)
@@ -195,7 +196,7 @@ as_answer (Err stop) = Err stop
 -- the load is the first access
 first_stopped : {M A N B : Type 0} (naming : BusStop → BusStop) (next : M → A → ℕ → Run M A) (next' : N → B → ℕ
     → Run N B) (one two : Result ℕ BusStop) (first : M) (second : N) (account : A) (other : B)
-    → done two ≡ told naming (done one)
+    → done two ≡ named_answer naming (done one)
     → ((loaded loaded' : ℕ) → StopsAlike naming first second (next first account loaded) (next' second other loaded'))
     → StopsAlike naming first second (run_on next one first account) (run_on next' two second other)
 first_stopped naming next next' (Ok loaded) (Ok loaded') first second account other equal given stopped =

@@ -35,6 +35,8 @@ fn step<T: Tables>(
 
 /// The guest-physical address of a linear one for a user-mode access, from the table to which CR3 leads.
 ///
+/// # Errors
+///
 /// `NonCanonical` comes exactly where bits 63 to 47 are not all the same. Then, at each level from 4 to 1, the first that
 /// applies of: `Table`, the entry cannot be read; `NotPresent`; `Large`, at level 3 or 2; `Denied`.
 #[tactic(auto, unfolding(sb_walks::specs::Guest::guest_walk, sb_walks::specs::Guest::walk_reads))]

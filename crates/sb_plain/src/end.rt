@@ -11,7 +11,7 @@ use std::alloc::{AllocError, Global};
 
 /// The flight of the thread with this number, where it is in flight.
 #[tactic(auto, unfolding(sb_state::specs::State::flight_at))]
-fn flight_of(state: &PlainState, number: usize) -> Option<Flight>
+fn flight_at(state: &PlainState, number: usize) -> Option<Flight>
     ensures { result ≡ flight_at state.now number }
 {
     state.flights.get(number).copied().unwrap_or(None)
@@ -35,12 +35,12 @@ fn thread_ends(alloc: Global, state: &PlainState) -> Result<ThreadEnds, AllocErr
 {
     let mut ends = Vec::new(alloc);
     for (number, thread) in state.threads.iter().enumerate() {
-        ends.push(thread_end(thread, flight_of(state, number)))?;
+        ends.push(thread_end(thread, flight_at(state, number)))?;
     }
     Ok(ThreadEnds::new(ends))
 }
 
-fn end_state(alloc: Global, state: &PlainState) -> Result<EndState, AllocError>
+fn end_of(alloc: Global, state: &PlainState) -> Result<EndState, AllocError>
     ensures { IfOk result (λ end. end ≡ end_of state.now) }
 {
     Ok(EndState {
@@ -55,6 +55,6 @@ impl Plain {
     pub fn end(&self, alloc: Global) -> Result<EndState, AllocError>
         ensures { IfOk result (λ end. end ≡ end_of self.now) }
     {
-        end_state(alloc, &self.state)
+        end_of(alloc, &self.state)
     }
 }

@@ -5,10 +5,10 @@
 
 ghost use Rattle.std.specs.Prelude.{◌≡◌};
 ghost use Rattle.sb_state.specs.State.{thread_at};
-ghost use Rattle.sb_trace.specs.Flight.{is_key, bound_pool, with_mask, decided_at, phase_after, next_flight, phase_outcome, landing_step, called_binding, vmfunc_outcome};
+ghost use Rattle.sb_trace.specs.Flight.{is_key, bound_pool, with_mask, decision_at_phase, phase_after, next_flight, phase_outcome, landing_step, called_binding, vmfunc_outcome};
 
 use crate::call::kernel_call;
-use crate::pool::pool_word;
+use crate::server::pool_word;
 use sb_insn::registers::RSI;
 use sb_state::{Binding, Decision, Flight, PlainState, Thread, eax, ecx};
 use sb_trace::{Event, VMFUNC_PHASE};
@@ -24,7 +24,7 @@ fn is_key(binding: Option<Binding>, word: u64) -> bool
     }
 }
 
-// The pool word of the binding's server.
+/// The pool word of the binding's server.
 fn bound_pool(state: &PlainState, binding: Option<Binding>) -> u64
     ensures { result ≡ bound_pool state.now binding }
 {
@@ -36,7 +36,7 @@ fn bound_pool(state: &PlainState, binding: Option<Binding>) -> u64
 
 // ---- a phase
 
-// Phase 2 loads the mask.
+/// Phase 2 loads the mask.
 fn with_mask(pool: u64, flight: Flight) -> Flight
     ensures { result ≡ with_mask pool flight }
 {
@@ -44,11 +44,11 @@ fn with_mask(pool: u64, flight: Flight) -> Flight
     Flight { mask, ..flight }
 }
 
-// Whether this phase decides the call, and how: phase 0 compares the key, phase 2 tests the mask that it loads, and
-// phase 8 takes a stack where the pool word is still the mask.
-#[tactic(auto, unfolding(sb_trace::specs::Flight::decided_at))]
-fn decided_at(phase: u8, key_fits: bool, pool: u64, mask: u64) -> Option<Decision>
-    ensures { result ≡ decided_at phase key_fits pool mask }
+/// Whether this phase decides the call, and how: phase 0 compares the key, phase 2 tests the mask that it loads, and
+/// phase 8 takes a stack where the pool word is still the mask.
+#[tactic(auto, unfolding(sb_trace::specs::Flight::decision_at_phase))]
+fn decision_at_phase(phase: u8, key_fits: bool, pool: u64, mask: u64) -> Option<Decision>
+    ensures { result ≡ decision_at_phase phase key_fits pool mask }
 {
     match phase {
         0 if !key_fits => Some(Decision::WrongKey),
@@ -58,7 +58,7 @@ fn decided_at(phase: u8, key_fits: bool, pool: u64, mask: u64) -> Option<Decisio
     }
 }
 
-// The phase behind this one; `None` where the landing ends.
+/// The phase behind this one; `None` where the landing ends.
 #[tactic(auto, unfolding(sb_trace::specs::Flight::phase_after))]
 fn phase_after(phase: u8, decided: Option<Decision>, mask: u64) -> Option<u8>
     ensures { result ≡ phase_after phase decided mask }
@@ -73,7 +73,7 @@ fn phase_after(phase: u8, decided: Option<Decision>, mask: u64) -> Option<u8>
     }
 }
 
-// The flight behind its phase.
+/// The flight behind its phase.
 fn next_flight(flight: Flight) -> Option<Flight>
     ensures { result ≡ next_flight flight }
 {
@@ -81,8 +81,13 @@ fn next_flight(flight: Flight) -> Option<Flight>
     Some(Flight { phase, ..flight })
 }
 
-// A phase that decides the call does the kernel's call; each other one lands.
-fn phase_step(state: &mut PlainState, core: u8, flight: Flight, decided: Option<Decision>) -> Event
+/// A phase that decides the call does the kernel's call; each other one lands.
+fn phase_outcome(
+    state: &mut PlainState,
+    core: u8,
+    flight: Flight,
+    decided: Option<Decision>,
+) -> Event
     ensures { (result, state.new) ≡ phase_outcome state.old core flight decided }
 {
     if decided.is_none() {
@@ -105,13 +110,13 @@ pub fn landing_step(state: &mut PlainState, core: u8, flight: Flight) -> Event
     let key = thread.regs.general[RSI];
     let binding = thread.bindings.find(u32::from(flight.index));
     let pool = bound_pool(state, binding);
-    let decided = decided_at(flight.phase, is_key(binding, key), pool, flight.mask);
-    phase_step(state, core, with_mask(pool, flight), decided)
+    let decided = decision_at_phase(flight.phase, is_key(binding, key), pool, flight.mask);
+    phase_outcome(state, core, with_mask(pool, flight), decided)
 }
 
 // ---- the VMFUNC
 
-// The binding into which VMFUNC leads: leaf 0, and its index.
+/// The binding into which VMFUNC leads: leaf 0, and its index.
 fn called_binding(thread: &Thread) -> Option<Binding>
     ensures { result ≡ called_binding thread.now }
 {

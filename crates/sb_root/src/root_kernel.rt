@@ -95,7 +95,11 @@ impl RootKernel {
         memory.set_word(table.word(u64::from(frame.0 % 512)), leaf(frame, rights));
     }
 
-    /// Gives a thread a list of 512 zeros. `NoFrames` comes exactly where no frame is free, and then all is as before.
+    /// Gives a thread a list of 512 zeros.
+    ///
+    /// # Errors
+    ///
+    /// `NoFrames` comes exactly where no frame is free, and then all is as before.
     pub fn add_list(
         &mut self,
         memory: &mut Memory,
@@ -127,8 +131,11 @@ impl RootKernel {
 
     /// Adds a view to the list of a thread, at its lowest free index. In the view the page of the thread's CR3, `home_root`,
     /// leads to `target_root`; guest-physical 1000 is the home trampoline page, or the server's; 2000 is a record page with
-    /// these words, and 3000 a scratch page of zeros. `NoFrames` comes exactly where fewer than 6 frames are free, and then all
-    /// is as before.
+    /// these words, and 3000 a scratch page of zeros.
+    ///
+    /// # Errors
+    ///
+    /// `NoFrames` comes exactly where fewer than 6 frames are free, and then all is as before.
     pub fn add_view(
         &mut self,
         memory: &mut Memory,

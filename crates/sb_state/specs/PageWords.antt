@@ -3,7 +3,7 @@ use Rattle.std.specs.Prelude.{ℕ, List, replicate}
 use lib.Seq.{sets}
 use Rattle.byteorder.specs.Endian.{little_from, little_bytes}
 use Rattle.sb_memory.specs.Words.{word_at, put_word}
-pub use Rattle.sb_memory.specs.Words.{words_put}
+pub use Rattle.sb_memory.specs.Words.{put_words}
 use Rattle.sb_state.specs.declared.page.PageName.{PageName}
 use Rattle.sb_state.specs.State.{State, contents, with_contents}
 

@@ -7,7 +7,7 @@ use Rattle.sb_state.specs.declared.page.PageName.{PageName}
 use Rattle.sb_state.specs.declared.page.PageName.TheVariants.{Text, Area, Data, Heap, Pool, ServerStack, Save, Stack, Buffer, Record, Scratch, HomeTrampoline, ServerTrampoline}
 use Rattle.sb_state.specs.PageName.{mode_of}
 use Rattle.sb_state.specs.declared.page.Page.{Page}
-use Rattle.sb_state.specs.declared.page.Seen.{Seen}
+use Rattle.sb_state.specs.declared.page.SeenPage.{SeenPage}
 use Rattle.sb_state.specs.declared.state.Thread.{Thread}
 use Rattle.sb_state.specs.declared.state.Binding.{Binding}
 use Rattle.sb_state.specs.State.{State, find_page}
@@ -85,15 +85,15 @@ name_at threads thread view page process =
 
 -- ---- what is seen
 
-abbrev pub page_and_mode : PageName → Page → Seen
+abbrev pub page_and_mode : PageName → Page → SeenPage
 page_and_mode name page = record { name = name; mode = mode_of name page.executable }
 
 -- the page of this name, if it is there
-abbrev pub page_by_name : List Page → PageName → Option Seen
+abbrev pub page_by_name : List Page → PageName → Option SeenPage
 page_by_name pages name = option_map (page_and_mode name) (find_page pages name)
 
 -- The page that a thread sees at a page number in a view, and how it may be accessed: the table of plain memory.
-unfoldable pub page_for : State → ℕ → ℕ → ℕ → Option Seen
+unfoldable pub page_for : State → ℕ → ℕ → ℕ → Option SeenPage
 page_for state thread view page =
     option_and_then (page_by_name state.pages)
     (option_and_then (name_at state.threads thread view page) (process_shown state.threads thread view))

@@ -36,7 +36,7 @@ pub fn process_shown(threads: &[Thread], thread: u32, view: u32) -> Option<u32>
 }
 
 /// Whether a view shows this process.
-fn shows(threads: &[Thread], thread: u32, view: u32, process: u32) -> bool
+fn shows_process(threads: &[Thread], thread: u32, view: u32, process: u32) -> bool
     ensures { result ≡ is_process (process_shown threads.now thread view) process }
 {
     match process_shown(threads, thread, view) {
@@ -51,7 +51,7 @@ fn stack_name(threads: &[Thread], process: u32, page: u32) -> Option<PageName>
     ensures { result ≡ stack_name threads.now process page }
 {
     let (thread, number) = (page / 8, page % 8);
-    if !shows(threads, thread, 0, process) {
+    if !shows_process(threads, thread, 0, process) {
         return None;
     }
     match number {
@@ -67,7 +67,9 @@ fn buffer_name(threads: &[Thread], process: u32, page: u32) -> Option<PageName>
     ensures { result ≡ buffer_name threads.now process page }
 {
     let (thread, index) = (page / 64, page / 4 % 16);
-    if shows(threads, thread, 0, process) || shows(threads, thread, index, process) {
+    if shows_process(threads, thread, 0, process)
+        || shows_process(threads, thread, index, process)
+    {
         Some(PageName::Buffer(thread, index, page % 4))
     } else {
         None
@@ -90,7 +92,7 @@ fn special_name(thread: u32, view: u32, process: u32, page: u64) -> Option<PageN
 
 /// The name at a page number, where the view of the thread shows this process.
 #[tactic(auto, unfolding(crate::specs::Windows::name_at))]
-fn name_in(threads: &[Thread], thread: u32, view: u32, page: u64, process: u32) -> Option<PageName>
+fn name_at(threads: &[Thread], thread: u32, view: u32, page: u64, process: u32) -> Option<PageName>
     requires { page < 2 ^ 52 }
     ensures { result ≡ name_at threads.now thread view page process }
 {
@@ -107,11 +109,11 @@ fn name_in(threads: &[Thread], thread: u32, view: u32, page: u64, process: u32) 
 }
 
 /// The name at a page number in a view of a thread.
-pub fn name_at(threads: &[Thread], thread: u32, view: u32, page: u64) -> Option<PageName>
+pub fn name_for(threads: &[Thread], thread: u32, view: u32, page: u64) -> Option<PageName>
     requires { page < 2 ^ 52 }
     ensures { result ≡ option_and_then (name_at threads.now thread view page) (process_shown threads.now thread view) }
 {
-    name_in(
+    name_at(
         threads,
         thread,
         view,

@@ -2,7 +2,7 @@
 
 ghost use Rattle.std.specs.Prelude.{◌≡◌, ◌+◌, ◌*◌, ◌<◌, ◌≤◌, length};
 ghost use Rattle.sb_memory.specs.Words.{put_word, put_bytes};
-ghost use Rattle.sb_state.specs.PageWords.{words_put, number_at, put_number};
+ghost use Rattle.sb_state.specs.PageWords.{put_words, number_at, put_number};
 
 use crate::page::PageBytes;
 use byteorder::{ByteOrder, LittleEndian};
@@ -115,7 +115,7 @@ pub fn put_number(bytes: &mut PageBytes, place: usize, size: u8, number: u64)
 pub fn put_words(bytes: &mut PageBytes, place: usize, words: &[u64])
     requires size { length bytes.old ≡ 4096 }
     requires within { place + 8 * length words.now ≤ 4096 }
-    ensures put { bytes.new ≡ words_put bytes.old place words.now }
+    ensures put { bytes.new ≡ put_words bytes.old place words.now }
     ensures size { length bytes.new ≡ 4096 }
 {
     for (index, word) in words.iter().enumerate() {

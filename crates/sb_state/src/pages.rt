@@ -5,10 +5,10 @@ ghost use Rattle.std.specs.Option.{option_copied};
 ghost use Rattle.std.specs.HashMap.{get, spare};
 ghost use Rattle.sb_memory.specs.Words.{word_at, put_word};
 ghost use Rattle.sb_state.specs.State.{find_page, with_page_bytes, bytes_of, page_with, with_mode};
-ghost use Rattle.sb_state.specs.PageWords.{zeros, words_put, put_number};
+ghost use Rattle.sb_state.specs.PageWords.{zeros, put_words, put_number};
 ghost use Rattle.sb_state.specs.Places.{place_of, equal_names, IsIndex, IsNoted, AreWhole, AreBlank, AreKnown, known_at, KeepsKnown, Remembers};
-ghost use Rattle.sb_state.specs.Reach.{page_only};
-ghost use Rattle.sb_state.specs.Store.{with_pages, with_room, added};
+ghost use Rattle.sb_state.specs.NameForAccess.{page_only};
+ghost use Rattle.sb_state.specs.Store.{with_pages, with_room, with_added_page};
 
 use crate::page::{Page, PageBytes, PageName};
 use crate::page_words::{put_number, put_word, put_words};
@@ -225,7 +225,7 @@ impl Pages {
     pub fn add(&mut self, name: PageName, place: usize, words: &[u64])
         requires room { 0 < self.old.room }
         requires within { place + 8 * length words.now ≤ 4096 }
-        ensures { self.new ≡ added self.old (page_with name (words_put zeros place words.now)) }
+        ensures { self.new ≡ with_added_page self.old (page_with name (put_words zeros place words.now)) }
     {
         let mut bytes = self.blank.take_last();
         put_words(&mut bytes, place, words);

@@ -6,12 +6,12 @@ ghost use Rattle.sb_state.specs.PlainMemory.{plain_byte};
 
 use crate::page_words::number_at;
 use crate::plain_state::PlainState;
-use crate::translate::reach;
+use crate::translate::page_for_access;
 use sb_bus::BusStop;
 use sb_memory::{Access, Linear};
 
 /// The byte at an address, for an access.
-#[tactic(auto, using(crate::proofs::Reached::byte_reached, crate::proofs::Reached::byte_refused))]
+#[tactic(auto, using(crate::proofs::NameForAccess::byte_reached, crate::proofs::NameForAccess::byte_refused))]
 pub fn byte(
     state: &PlainState,
     thread: u32,
@@ -21,7 +21,7 @@ pub fn byte(
 ) -> Result<u8, BusStop>
     ensures { result ≡ plain_byte thread view state.now at.0 access }
 {
-    let (_, page) = reach(state, thread, view, at, access)?;
+    let (_, page) = page_for_access(state, thread, view, at, access)?;
     let offset = (at.0 % 4096) as usize;
     Ok(page.bytes.items().get(offset).copied().unwrap_or(0))
 }
@@ -41,7 +41,7 @@ fn load_in_page(
     requires within { at.0 % 4096 + size ≤ 4096 }
     ensures { result ≡ loaded_from (byte_for (plain_byte thread view state.now) access) at.0 size }
 {
-    let (_, page) = reach(state, thread, view, at, access)?;
+    let (_, page) = page_for_access(state, thread, view, at, access)?;
     Ok(number_at(page.bytes.items(), (at.0 % 4096) as usize, size))
 }
 

@@ -27,7 +27,7 @@ fn first_page(bytes: &[u8]) -> &[u8]
 
 /// A chunk of at most a page, filled up to a page.
 #[tactic(auto, using(crate::proofs::Filling::filled_more, crate::proofs::Filling::filled_whole))]
-fn filled_up(alloc: Global, filler: u8, chunk: &[u8]) -> Result<PageBytes, AllocError>
+fn page_padded(alloc: Global, filler: u8, chunk: &[u8]) -> Result<PageBytes, AllocError>
     requires { length chunk.now ≤ 4096 }
     ensures bytes { IfOk result (λ bytes. bytes ≡ page_padded filler chunk.now) }
     ensures size { IfOk result (λ bytes. length bytes ≡ 4096) }
@@ -40,7 +40,7 @@ fn filled_up(alloc: Global, filler: u8, chunk: &[u8]) -> Result<PageBytes, Alloc
 }
 
 /// One page of bytes that go over several pages, filled up where it is the last.
-pub fn page_bytes(
+pub fn page_of(
     alloc: Global,
     filler: u8,
     bytes: &[u8],
@@ -50,7 +50,7 @@ pub fn page_bytes(
     ensures bytes { IfOk result (λ bytes_of_page. bytes_of_page ≡ page_of filler bytes.now page) }
     ensures size { IfOk result (λ bytes_of_page. length bytes_of_page ≡ 4096) }
 {
-    filled_up(alloc, filler, first_page(&bytes[PAGE_SIZE * page..]))
+    page_padded(alloc, filler, first_page(&bytes[PAGE_SIZE * page..]))
 }
 
 /// The linear address of a thread's save page.

@@ -5,9 +5,9 @@ ghost use Rattle.sb_state.specs.State.{find_page};
 ghost use Rattle.sb_state.specs.Windows.{page_by_name};
 ghost use Rattle.sb_state.specs.PlainMemory.{is_canonical};
 ghost use Rattle.sb_state.specs.Places.{place_of};
-ghost use Rattle.sb_state.specs.Reach.{reached, reached_as, name_only, known_name};
+ghost use Rattle.sb_state.specs.NameForAccess.{name_for_access, name_if_permitted, name_only, known_name};
 
-use crate::address_space::{mode_of, name_at, permits};
+use crate::address_space::{mode_of, name_for, permits};
 use crate::page::{Page, PageName};
 use crate::pages::{Known, Pages};
 use crate::plain_state::PlainState;
@@ -22,13 +22,13 @@ fn is_canonical(at: Linear) -> bool
 }
 
 /// The page of a name, if an access to it is permitted, with its place.
-fn reach_named(
+fn page_if_permitted(
     pages: &Pages,
     name: PageName,
     at: Linear,
     access: Access,
 ) -> Result<(Known, &Page), BusStop>
-    ensures name { known_name result ≡ reached_as (page_by_name pages.now.pages name) at.0 access }
+    ensures name { known_name result ≡ name_if_permitted (page_by_name pages.now.pages name) at.0 access }
     ensures place { IfOk result (λ found. place_of pages.now.pages found.0.name ≡ Some found.0.place) }
     ensures page { IfOk result (λ found. find_page pages.now.pages found.0.name ≡ Some found.1.now) }
     ensures size { IfOk result (λ found. length found.1.now.bytes ≡ 4096) }
@@ -42,15 +42,15 @@ fn reach_named(
 }
 
 /// The page that an access in a view of a thread reaches, with its name and its place.
-#[tactic(auto, unfolding(crate::specs::Windows::page_for, crate::specs::Reach::reached))]
-pub fn reach_known(
+#[tactic(auto, unfolding(crate::specs::Windows::page_for, crate::specs::NameForAccess::name_for_access))]
+pub fn known_page_for_access(
     state: &PlainState,
     thread: u32,
     view: u32,
     at: Linear,
     access: Access,
 ) -> Result<(Known, &Page), BusStop>
-    ensures name { known_name result ≡ reached thread view state.now at.0 access }
+    ensures name { known_name result ≡ name_for_access thread view state.now at.0 access }
     ensures place { IfOk result (λ found. place_of state.now.pages found.0.name ≡ Some found.0.place) }
     ensures page { IfOk result (λ found. find_page state.now.pages found.0.name ≡ Some found.1.now) }
     ensures size { IfOk result (λ found. length found.1.now.bytes ≡ 4096) }
@@ -58,24 +58,24 @@ pub fn reach_known(
     if !is_canonical(at) {
         return Err(BusStop::Fault(FaultKind::Canon, at));
     }
-    match name_at(&state.threads, thread, view, at.0 / 4096) {
-        Some(name) => reach_named(&state.pages, name, at, access),
+    match name_for(&state.threads, thread, view, at.0 / 4096) {
+        Some(name) => page_if_permitted(&state.pages, name, at, access),
         None => Err(BusStop::Fault(FaultKind::Memory, at)),
     }
 }
 
 /// The page that an access in a view of a thread reaches, with its name.
-pub fn reach(
+pub fn page_for_access(
     state: &PlainState,
     thread: u32,
     view: u32,
     at: Linear,
     access: Access,
 ) -> Result<(PageName, &Page), BusStop>
-    ensures name { name_only result ≡ reached thread view state.now at.0 access }
+    ensures name { name_only result ≡ name_for_access thread view state.now at.0 access }
     ensures page { IfOk result (λ found. find_page state.now.pages found.0 ≡ Some found.1.now) }
     ensures size { IfOk result (λ found. length found.1.now.bytes ≡ 4096) }
 {
-    let (known, page) = reach_known(state, thread, view, at, access)?;
+    let (known, page) = known_page_for_access(state, thread, view, at, access)?;
     Ok((known.name, page))
 }

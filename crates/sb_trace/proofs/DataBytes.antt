@@ -7,7 +7,7 @@ use Rattle.std.specs.Int.{byte_at, bytes_low_first}
 use Rattle.std.proofs.lemmas.List.Edits.{sets}
 use Rattle.byteorder.specs.Endian.{little_bytes}
 use Rattle.sb_abi.specs.declared.space.TheConstants.{STACK_PAGES, BUFFER_PAGES}
-use Rattle.sb_memory.specs.Words.{put_word, words_put}
+use Rattle.sb_memory.specs.Words.{put_word, put_words}
 use Rattle.sb_tramp.specs.declared.record_words.RecordWords.{RecordWords}
 use Rattle.sb_tramp.specs.Record.{words_of}
 use Rattle.sb_trace.specs.declared.event.Event.{Event}
@@ -80,7 +80,7 @@ pub put_bytes : (bytes : List ℕ) (place word : ℕ) → AreBytes bytes → Are
 unfolding put_word
 put_bytes bytes place word all = sets_bytes (little_bytes 8 word) bytes place (low_bytes 0 8 word) all
 
-words_bytes : (words bytes : List ℕ) (place : ℕ) → AreBytes bytes → AreBytes (words_put bytes place words)
+words_bytes : (words bytes : List ℕ) (place : ℕ) → AreBytes bytes → AreBytes (put_words bytes place words)
 words_bytes [] bytes place all = all
 words_bytes (word ∷ words) bytes place all =
     words_bytes words (put_word bytes place word) (place + 8) (put_bytes bytes place word all)

@@ -14,7 +14,7 @@ use Rattle.sb_state.specs.State.{State, thread_at, flight_at}
 use Rattle.sb_state.specs.Registers.{eax, ecx, rsi}
 use Rattle.sb_trace.specs.Home.{Outcome}
 use Rattle.sb_trace.specs.KernelCall.{binding_with, pool_word, call_outcome, outcome_by_index, kernel_call, lowest_bit}
-use Rattle.sb_trace.specs.Flight.{flight_binding, is_key, bound_pool, decided_at, phase_outcome, landing_step}
+use Rattle.sb_trace.specs.Flight.{flight_binding, is_key, bound_pool, decision_at_phase, phase_outcome, landing_step}
 use Rattle.sb_trace.specs.Step.{GoesOn, StepsBy}
 use Rattle.sb_trace.specs.Sound.{IsFlightSound}
 use Rattle.sb_trace.specs.Laws.{IsLineOf, IsFlightLine, FlightLines, decision_at}
@@ -87,7 +87,7 @@ call_line state core index stands decided sees =
 -- ---- a step in flight
 
 landed_line : (state : State) (core index phase mask pool : ℕ) (before : Option Decision) (decided : Option Decision)
-    → decided_at phase (is_key (binding_with (thread_at state core).bindings index) (rsi (thread_at state core).regs))
+    → decision_at_phase phase (is_key (binding_with (thread_at state core).bindings index) (rsi (thread_at state core).regs))
     (bound_pool state (binding_with (thread_at state core).bindings index)) mask
     ≡ decided
     → IsDecidedSound (thread_at state core) (flight_of index phase mask before) before
@@ -98,7 +98,7 @@ landed_line state core index phase mask pool None (Some decided) is sound =
     call_line state core index sound.stands decided
     (decided_sees state (thread_at state core) index phase mask sound decided (decides phase _ _ mask decided is))
 landed_line state core index phase mask pool (Some one) (Some decided) is sound =
-    absurd (none_some (decided_at phase _ _ mask) decided (decides_no_more one phase _ _ mask mask sound) is)
+    absurd (none_some (decision_at_phase phase _ _ mask) decided (decides_no_more one phase _ _ mask mask sound) is)
 
 flown_line : (state : State) (core : ℕ) (flight : Flight) → flight.index ≢ 0
     → IsFlightSound (thread_at state core) (Some flight)

@@ -14,7 +14,7 @@ use Rattle.sb_tramp.proofs.Switches.{home_switches, server_switches}
 use Rattle.sb_state.specs.declared.page.PageName.{PageName}
 use Rattle.sb_state.specs.declared.page.PageName.TheVariants.{Text, Area, Heap, Pool, Save, Stack, Buffer, HomeTrampoline, ServerTrampoline}
 use Rattle.sb_state.specs.declared.page.Page.{Page}
-use Rattle.sb_state.specs.declared.page.Seen.{Seen}
+use Rattle.sb_state.specs.declared.page.SeenPage.{SeenPage}
 use Rattle.sb_state.specs.declared.state.Thread.{Thread}
 use Rattle.sb_state.specs.PageName.{mode_of, permits}
 use Rattle.sb_state.specs.State.{State, find_page, contents, bytes_of}
@@ -137,8 +137,8 @@ ok_by true found stop value is = (refl, is)
 ok_by false found stop value is = absurd cc
 
 -- a page that is seen, may be fetched, and has this byte
-record IsFetched (state : State) (found : Option Seen) (offset value : ℕ) : Type 0 where
-  one : Seen
+record IsFetched (state : State) (found : Option SeenPage) (offset value : ℕ) : Type 0 where
+  one : SeenPage
   there : found ≡ Some one
   permitted : permits one.mode Fetch ≡ true
   has : byte_in state one.name offset ≡ value
@@ -146,7 +146,7 @@ record IsFetched (state : State) (found : Option Seen) (offset value : ℕ) : Ty
 same_ok : (one other : ℕ) (first second : Result ℕ BusStop) → first ≡ Ok one → second ≡ Ok other → first ≡ second → one ≡ other
 same_ok one other first second is also same = cc
 
-fetched_seen : (state : State) (found : Option Seen) (address value : ℕ) → byte_seen state found address Fetch ≡ Ok value
+fetched_seen : (state : State) (found : Option SeenPage) (address value : ℕ) → byte_seen state found address Fetch ≡ Ok value
     → IsFetched state found (address % 4096) value
 fetched_seen state None address value is = absurd cc
 fetched_seen state (Some one) address value is =
@@ -170,7 +170,7 @@ fetched_at state thread view address value is =
 -- ---- its page, by name
 
 -- the name at the page number, and the page
-record IsNamed (pages : List Page) (found : Option PageName) (one : Seen) : Type 0 where
+record IsNamed (pages : List Page) (found : Option PageName) (one : SeenPage) : Type 0 where
   name : PageName
   page : Page
   named : found ≡ Some name
@@ -178,7 +178,7 @@ record IsNamed (pages : List Page) (found : Option PageName) (one : Seen) : Type
   called : one.name ≡ name
   mode : one.mode ≡ mode_of name page.executable
 
-named_by : (pages : List Page) (name : PageName) (found : Option Page) (one : Seen) → find_page pages name ≡ found
+named_by : (pages : List Page) (name : PageName) (found : Option Page) (one : SeenPage) → find_page pages name ≡ found
     → option_map (page_and_mode name) found ≡ Some one
     → IsNamed pages (Some name) one
 named_by pages name None one there is = absurd cc
@@ -189,17 +189,17 @@ named_by pages name (Some page) one there is =
       page = page;
       named = refl;
       there = there;
-      called = ap (λ (seen : Seen). seen.name) (sym same);
-      mode = ap (λ (seen : Seen). seen.mode) (sym same);
+      called = ap (λ (seen : SeenPage). seen.name) (sym same);
+      mode = ap (λ (seen : SeenPage). seen.mode) (sym same);
     }
 
-named_seen : (pages : List Page) (name : Option PageName) (one : Seen) → option_and_then (page_by_name pages) name ≡ Some one
+named_seen : (pages : List Page) (name : Option PageName) (one : SeenPage) → option_and_then (page_by_name pages) name ≡ Some one
     → IsNamed pages name one
 named_seen pages None one is = absurd cc
 named_seen pages (Some name) one is = named_by pages name (find_page pages name) one refl is
 
 -- where the view of the thread shows this process
-named_at : (state : State) (thread view page process : ℕ) (one : Seen)
+named_at : (state : State) (thread view page process : ℕ) (one : SeenPage)
     → process_shown state.threads thread view ≡ Some process → page_for state thread view page ≡ Some one
     → IsNamed state.pages (name_at state.threads thread view page process) one
 unfolding page_for
@@ -402,7 +402,7 @@ one_of_code pages process view address sound (inr (inr (inr page))) second third
 -- ---- in a view
 
 -- where a byte may be fetched the view shows a process
-shown_by_found : (state : State) (thread view page : ℕ) (one : Seen) (found : Option ℕ)
+shown_by_found : (state : State) (thread view page : ℕ) (one : SeenPage) (found : Option ℕ)
     → process_shown state.threads thread view ≡ found
     → page_for state thread view page ≡ Some one → (process : ℕ) × (process_shown state.threads thread view ≡ Some process)
 unfolding page_for

@@ -18,7 +18,7 @@ use Rattle.sb_state.specs.PlainMemory.{plain}
 use Rattle.sb_state.specs.Registers.{eax, ecx, rsi}
 use Rattle.sb_trace.specs.Home.{Outcome}
 use Rattle.sb_trace.specs.KernelCall.{binding_with, kernel_call}
-use Rattle.sb_trace.specs.Flight.{flight_binding, is_key, bound_pool, decided_at, phase_after, at_phase, next_flight, phase_outcome, landing_step, first_flight, called_binding, vmfunc_outcome_by, vmfunc_outcome}
+use Rattle.sb_trace.specs.Flight.{flight_binding, is_key, bound_pool, decision_at_phase, phase_after, at_phase, next_flight, phase_outcome, landing_step, first_flight, called_binding, vmfunc_outcome_by, vmfunc_outcome}
 use Rattle.sb_trace.specs.Step.{GoesOn, StepsBy, Steps}
 use Rattle.sb_trace.specs.Sound.{ArePagesSound, IsMask, IsThreadOfFlight, IsInFlight, IsFlightSound, IsSound}
 use Rattle.sb_state.proofs.Names.{number}
@@ -167,7 +167,7 @@ KeyMeans thread index fits = (binding : Binding) → binding_with thread.binding
 -- the phase behind one that did not decide
 undecided_next : (thread : Thread) (index phase pool mask next : ℕ) (fits : Bool)
     → IsUndecided thread (flight_of index phase mask None) → KeyMeans thread index fits
-    → decided_at phase fits pool mask ≡ None → phase_after phase None (mask_after phase pool mask) ≡ Some next
+    → decision_at_phase phase fits pool mask ≡ None → phase_after phase None (mask_after phase pool mask) ≡ Some next
     → IsUndecided thread (flight_of index next (mask_after phase pool mask) None)
 undecided_next thread index phase pool mask next fits undecided means none is =
     let seen = subst (Saw phase fits pool mask) none (saw phase fits pool mask) in
@@ -269,7 +269,7 @@ decided_next thread index phase pool mask next decided flies is =
 -- the phase behind one that decides nothing
 next_sound : (thread : Thread) (index phase pool mask : ℕ) (decided : Option Decision) (fits : Bool) (found : Option ℕ)
     → index ≢ 0 → pool < 2 ^ 64 → IsInFlight thread (flight_of index phase mask decided) → KeyMeans thread index fits
-    → decided_at phase fits pool mask ≡ None
+    → decision_at_phase phase fits pool mask ≡ None
     → phase_after phase decided (mask_after phase pool mask) ≡ found
     → IsFlightSound thread (option_map (at_phase (flight_of index phase (mask_after phase pool mask) decided)) found)
 next_sound thread index phase pool mask decided fits None away word flies means none is = tt
@@ -322,7 +322,7 @@ abbrev seen_key : State → ℕ → ℕ → Bool
 seen_key state core index = is_key (binding_with (thread_at state core).bindings index) (rsi (thread_at state core).regs)
 
 landed_sound : (state : State) (core index phase mask : ℕ) (decided : Option Decision) (found : Option Decision)
-    → decided_at phase (seen_key state core index) (seen_pool state core index) mask ≡ found
+    → decision_at_phase phase (seen_key state core index) (seen_pool state core index) mask ≡ found
     → flight_at state core ≡ Some (flight_of index phase mask decided) → index ≢ 0 → seen_pool state core index < 2 ^ 64
     → IsInFlight (thread_at state core) (flight_of index phase mask decided)
     → KeepsFlight core
@@ -350,7 +350,7 @@ landed_sound state core index phase mask None (Some found) is at away word flies
     (call_behind state core index undecided.stands found (running_there state core flies.running, flies.running)
     (decided_sees state (thread_at state core) index phase mask undecided found deciding)) refl)
 landed_sound state core index phase mask (Some decided) (Some found) is at away word flies =
-    absurd (none_some (decided_at phase (seen_key state core index) (seen_pool state core index) mask) found
+    absurd (none_some (decision_at_phase phase (seen_key state core index) (seen_pool state core index) mask) found
     (decides_no_more decided phase (seen_key state core index) (seen_pool state core index) mask mask
     (follows_of decided phase mask flies.phase flies.mask)) is)
 

@@ -4,7 +4,7 @@ use Rattle.std.specs.Prelude.{nat_le, Option, Some, None, if◌then◌else◌}
 use Rattle.std.proofs.lemmas.Bool.Decides.{Decides-eqb}
 use Rattle.sb_state.specs.declared.state.Decision.{Decision}
 use Rattle.sb_state.specs.declared.state.Decision.TheVariants as decision
-use Rattle.sb_trace.specs.Flight.{decided_at, is_wrong_key, is_entered, phase_after}
+use Rattle.sb_trace.specs.Flight.{decision_at_phase, is_wrong_key, is_entered, phase_after}
 use Rattle.sb_trace.proofs.InFlight.{FollowsDecision}
 use Rattle.sb_state.proofs.Names.{number}
 use Rattle.sb_state.proofs.Cases.{claim_if, same_some}
@@ -78,8 +78,8 @@ abbrev pub Saw : ℕ → Bool → ℕ → ℕ → Option Decision → Type 0
 Saw phase fits pool mask None = (phase ≡ 0 → fits ≡ true) × (phase ≡ 2 → pool ≢ 0)
 Saw phase fits pool mask (Some decided) = Decides phase fits pool mask decided
 
-pub saw : (phase : ℕ) (fits : Bool) (pool mask : ℕ) → Saw phase fits pool mask (decided_at phase fits pool mask)
-unfolding decided_at
+pub saw : (phase : ℕ) (fits : Bool) (pool mask : ℕ) → Saw phase fits pool mask (decision_at_phase phase fits pool mask)
+unfolding decision_at_phase
 saw phase fits pool mask =
     claim_if (Saw phase fits pool mask) (phase == 0) _ _
     (λ at. let zero_phase = number phase 0 at in
@@ -94,7 +94,8 @@ saw phase fits pool mask =
     (λ not_8. ((λ one. absurd (other_number phase 0 not_0 one)), (λ two. absurd (other_number phase 2 not_2 two))))))
 
 -- the decision of a phase is one of the three that it decides
-pub decides : (phase : ℕ) (fits : Bool) (pool mask : ℕ) (decided : Decision) → decided_at phase fits pool mask ≡ Some decided
+pub decides : (phase : ℕ) (fits : Bool) (pool mask : ℕ) (decided : Decision)
+    → decision_at_phase phase fits pool mask ≡ Some decided
     → Decides phase fits pool mask decided
 decides phase fits pool mask decided is = subst (Saw phase fits pool mask) is (saw phase fits pool mask)
 
@@ -125,9 +126,9 @@ none_where first phase fits pool mask other (Some second) follows seen =
     absurd (deciding second phase fits pool other seen apart.0 apart.1 apart.2)
 
 pub decides_no_more : (first : Decision) (phase : ℕ) (fits : Bool) (pool mask other : ℕ) → FollowsDecision first phase mask
-    → decided_at phase fits pool other ≡ None
+    → decision_at_phase phase fits pool other ≡ None
 decides_no_more first phase fits pool mask other follows =
-    none_where first phase fits pool mask other (decided_at phase fits pool other) follows (saw phase fits pool other)
+    none_where first phase fits pool mask other (decision_at_phase phase fits pool other) follows (saw phase fits pool other)
 
 -- a phase that follows a decision loads no mask
 pub loads_no_more : (decided : Decision) (phase mask : ℕ) → FollowsDecision decided phase mask → phase ≢ 2

@@ -12,7 +12,7 @@ use Rattle.sb_state.specs.declared.page.PageName.{PageName}
 use Rattle.sb_state.specs.declared.page.PageName.TheVariants.{HomeTrampoline, ServerTrampoline}
 use Rattle.sb_state.specs.declared.page.Mode.TheVariants as mode
 use Rattle.sb_state.specs.declared.page.Page.{Page}
-use Rattle.sb_state.specs.declared.page.Seen.{Seen}
+use Rattle.sb_state.specs.declared.page.SeenPage.{SeenPage}
 use Rattle.sb_state.specs.PageName.{mode_of}
 use Rattle.sb_state.specs.State.{State, contents, bytes_of}
 use Rattle.sb_state.specs.Windows.{name_at, process_shown, page_by_name, page_and_mode, page_for}
@@ -25,7 +25,7 @@ unfolding mode_of
 trampoline_mode true executable = refl
 trampoline_mode false executable = refl
 
-abbrev code_seen : PageName → Seen
+abbrev code_seen : PageName → SeenPage
 code_seen name = record { name = name; mode = mode.Fetch }
 
 trampoline_named : (state : State) (thread view process : ℕ)

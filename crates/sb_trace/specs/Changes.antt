@@ -11,7 +11,7 @@ use Rattle.sb_trace.specs.declared.event.Event.TheVariants.{Step as StepLine, Ex
 use Rattle.sb_state.specs.declared.page.PageName.{PageName}
 use Rattle.sb_state.specs.declared.page.PageName.TheVariants.{Heap, Pool}
 use Rattle.sb_state.specs.declared.page.Page.{Page}
-use Rattle.sb_state.specs.declared.page.Seen.{Seen}
+use Rattle.sb_state.specs.declared.page.SeenPage.{SeenPage}
 use Rattle.sb_state.specs.PageName.{permits}
 use Rattle.sb_state.specs.declared.state.Binding.{Binding}
 use Rattle.sb_state.specs.declared.state.Registration.{Registration}
@@ -28,12 +28,12 @@ use Rattle.sb_trace.specs.SyscallProtect.{heap_count}
 -- ---- threads
 
 -- Only this thread's registers, view, bindings, state and flight may change: the other threads stay, and its home stays.
-pub record OnlyThread (old : State) (number : ℕ) (new : State) : Type 0 where
+pub record OnlyThread (old : State) (core : ℕ) (new : State) : Type 0 where
   pub count : length new.threads ≡ length old.threads
   pub places : length new.flights ≡ length old.flights
-  pub threads : (other : ℕ) → other ≢ number → slice_get new.threads other ≡ slice_get old.threads other
-  pub flights : (other : ℕ) → other ≢ number → slice_get new.flights other ≡ slice_get old.flights other
-  pub home : (thread_at new number).home ≡ (thread_at old number).home
+  pub threads : (other : ℕ) → other ≢ core → slice_get new.threads other ≡ slice_get old.threads other
+  pub flights : (other : ℕ) → other ≢ core → slice_get new.flights other ≡ slice_get old.flights other
+  pub home : (thread_at new core).home ≡ (thread_at old core).home
 
 -- ---- all but threads
 
@@ -58,7 +58,7 @@ OnlyThreads old new = OnlyPages old old.pages new
 -- no page that the thread may write in the view has this name
 abbrev pub IsClosed : State → ℕ → ℕ → PageName → Type 0
 IsClosed state thread view name =
-    (page : ℕ) (seen : Seen) → page_for state thread view page ≡ Some seen → permits seen.mode Write ≡ true → seen.name ≢ name
+    (page : ℕ) (seen : SeenPage) → page_for state thread view page ≡ Some seen → permits seen.mode Write ≡ true → seen.name ≢ name
 
 -- a page but for its bytes, of which it says how many
 pub record Shape : Type 0 where
@@ -93,12 +93,12 @@ abbrev pub with_first_word : State → PageName → ℕ → List Page
 with_first_word state name word = with_page_bytes state.pages name (put_word (contents state name) 0 word)
 
 -- The lowest server stack that was free is taken from the pool word, and the thread is in the view of the binding.
-pub record EntersServer (old : State) (number index slot : ℕ) (new : State) : Type 0 where
+pub record EntersServer (old : State) (core index slot : ℕ) (new : State) : Type 0 where
   pub server : ℕ
-  pub bound : server_of (thread_at old number).bindings index ≡ Some server
+  pub bound : server_of (thread_at old core).bindings index ≡ Some server
   pub some : pool_word old server ≢ 0
   pub lowest : slot ≡ lowest_bit (pool_word old server)
-  pub view : (thread_at new number).view ≡ index
+  pub view : (thread_at new core).view ≡ index
   pub only : OnlyPages old (with_first_word old (Pool server) (pool_word old server - 2 ^ slot)) new
 
 -- A process that was no server becomes one: the pages of its stacks are added, and its pool word says that all are free.
@@ -122,19 +122,19 @@ pub record AddsStacks (old : State) (process : ℕ) (new : State) : Type 0 where
 
 -- The thread gets a binding of the lowest free index, with the next key word, to a server that is not its home: the six pages of
 -- its view are added, which are its record and scratch page, and four buffer pages.
-pub record AddsView (old : State) (number : ℕ) (new : State) : Type 0 where
-  pub there : slice_get old.threads number ≡ Some (thread_at old number)
+pub record AddsView (old : State) (core : ℕ) (new : State) : Type 0 where
+  pub there : slice_get old.threads core ≡ Some (thread_at old core)
   pub binding : Binding
-  pub index : IsFreeIndex (thread_at old number).bindings binding.index
-  pub away : binding.server ≢ (thread_at old number).home
+  pub index : IsFreeIndex (thread_at old core).bindings binding.index
+  pub away : binding.server ≢ (thread_at old core).home
   pub registration : Registration
   pub registered : registration_at old binding.server ≡ Some registration
   pub key : old.keys ≡ binding.key ∷ new.keys
-  pub bindings : (thread_at new number).bindings ≡ (thread_at old number).bindings ++ binding ∷ []
+  pub bindings : (thread_at new core).bindings ≡ (thread_at old core).bindings ++ binding ∷ []
   pub room : BIND_FRAMES ≤ old.free
   pub pages : new.pages
       ≡ old.pages
-      ++ binding_pages number binding.index (server_words number (thread_at old number) binding registration.handler)
+      ++ binding_pages core binding.index (server_words core (thread_at old core) binding registration.handler)
   pub processes : new.processes ≡ old.processes
   pub free : new.free ≡ old.free - BIND_FRAMES
 

@@ -36,8 +36,8 @@ with_mask pool flight = record flight { mask = if flight.phase == 2 then pool el
 
 -- whether this phase decides the call, and how: phase 0 where the key is wrong, phase 2 where no stack is free, and phase 8
 -- where the pool word is still the mask, so that its exchange succeeds
-unfoldable pub decided_at : ℕ → Bool → ℕ → ℕ → Option Decision
-decided_at phase key_fits pool mask =
+unfoldable pub decision_at_phase : ℕ → Bool → ℕ → ℕ → Option Decision
+decision_at_phase phase key_fits pool mask =
     if phase == 0 then if key_fits then None else Some decision.WrongKey
     else if phase == 2 then if pool == 0 then Some decision.PoolEmpty else None
     else if phase == 8 then if pool == mask then Some decision.Entered else None
@@ -70,22 +70,22 @@ next_flight flight = option_map (at_phase flight) (phase_after flight.phase flig
 
 -- a phase that decides the call does the kernel's call; each other one lands
 abbrev pub phase_outcome : State → ℕ → Flight → Option Decision → Outcome
-phase_outcome state number flight None = (Landing flight.phase, with_flight state number (next_flight flight))
-phase_outcome state number flight (Some decided) = (
-  (kernel_call state number).0,
-  with_flight (kernel_call state number).1 number (next_flight (record flight { decided = Some decided })),
+phase_outcome state core flight None = (Landing flight.phase, with_flight state core (next_flight flight))
+phase_outcome state core flight (Some decided) = (
+  (kernel_call state core).0,
+  with_flight (kernel_call state core).1 core (next_flight (record flight { decided = Some decided })),
 )
 
 -- with the binding of the flight
 abbrev pub landing_step_by : State → ℕ → Thread → Flight → Option Binding → Outcome
-landing_step_by state number thread flight binding =
-    phase_outcome state number (with_mask (bound_pool state binding) flight)
-    (decided_at flight.phase (is_key binding (rsi thread.regs)) (bound_pool state binding) flight.mask)
+landing_step_by state core thread flight binding =
+    phase_outcome state core (with_mask (bound_pool state binding) flight)
+    (decision_at_phase flight.phase (is_key binding (rsi thread.regs)) (bound_pool state binding) flight.mask)
 
 -- a step of a thread in flight
 unfoldable pub landing_step : State → ℕ → Flight → Outcome
-landing_step state number flight =
-    landing_step_by state number (thread_at state number) flight (flight_binding (thread_at state number) flight)
+landing_step state core flight =
+    landing_step_by state core (thread_at state core) flight (flight_binding (thread_at state core) flight)
 
 -- ---- the VMFUNC
 
@@ -102,10 +102,10 @@ called_binding thread =
     if (eax thread.regs == 0) && not (ecx thread.regs == 0) then binding_with thread.bindings (ecx thread.regs) else None
 
 abbrev pub vmfunc_outcome_by : State → ℕ → Option Binding → Outcome
-vmfunc_outcome_by state number None = kernel_call state number
-vmfunc_outcome_by state number (Some binding) =
-    (Landing vmfunc_phase, with_flight state number (Some (first_flight binding.index)))
+vmfunc_outcome_by state core None = kernel_call state core
+vmfunc_outcome_by state core (Some binding) =
+    (Landing vmfunc_phase, with_flight state core (Some (first_flight binding.index)))
 
 -- VMFUNC with a landing: a flight begins where it leads into a server; else the kernel's call is done at once
 unfoldable pub vmfunc_outcome : State → ℕ → Outcome
-vmfunc_outcome state number = vmfunc_outcome_by state number (called_binding (thread_at state number))
+vmfunc_outcome state core = vmfunc_outcome_by state core (called_binding (thread_at state core))

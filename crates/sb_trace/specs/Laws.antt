@@ -13,7 +13,7 @@ use Rattle.sb_state.specs.declared.state.Flight.{Flight}
 use Rattle.sb_state.specs.declared.page.Page.{Page}
 use Rattle.sb_state.specs.State.{State, find_page, thread_at, flight_at}
 use Rattle.sb_state.specs.Registers.{rsi}
-use Rattle.sb_trace.specs.Flight.{flight_binding, is_key, bound_pool, decided_at}
+use Rattle.sb_trace.specs.Flight.{flight_binding, is_key, bound_pool, decision_at_phase}
 use Rattle.sb_state.specs.Windows.{process_shown}
 use Rattle.sb_state.specs.PlainMemory.{plain}
 use Rattle.sb_trace.specs.Start.{ProcessImage, ThreadEntry, start_state}
@@ -88,9 +88,9 @@ LandingsDrop =
 
 -- the decision of a flight's phase, if it decides
 abbrev pub decision_at : State → ℕ → Flight → Option Decision
-decision_at state number flight =
-    decided_at flight.phase (is_key (flight_binding (thread_at state number) flight) (rsi (thread_at state number).regs))
-    (bound_pool state (flight_binding (thread_at state number) flight)) flight.mask
+decision_at state core flight =
+    decision_at_phase flight.phase (is_key (flight_binding (thread_at state core) flight) (rsi (thread_at state core).regs))
+    (bound_pool state (flight_binding (thread_at state core) flight)) flight.mask
 
 -- the line of a decision
 abbrev pub IsLineOf : Decision → ℕ → Event → Type 0

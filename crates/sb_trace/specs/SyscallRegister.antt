@@ -62,5 +62,5 @@ with_server state process handler stacks = record (with_word state (Pool process
 
 -- register of a thread by its refusal: the handler is in RDI, the number of stacks in RSI
 abbrev pub register_outcome : State → ℕ → Regs → ℕ → Option CallRefusal → Outcome
-register_outcome state number next process (Some refusal) = syscall_refusal state number next refusal 0
-register_outcome state number next process None = syscall_acceptance (with_server state process (rdi next) (rsi next)) number next
+register_outcome state core next process (Some refusal) = syscall_refusal state core next refusal 0
+register_outcome state core next process None = syscall_acceptance (with_server state process (rdi next) (rsi next)) core next

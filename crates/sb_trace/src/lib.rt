@@ -27,5 +27,5 @@ pub use laws::{
 pub use report::report_text;
 pub use sb_state::{
     Binding, Bindings, Decision, EndKind, Flight, MAX_BINDINGS, Mode, Page, PageBytes, PageName,
-    Registration, Seen, Thread,
+    Registration, SeenPage, Thread,
 };

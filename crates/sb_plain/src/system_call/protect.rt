@@ -7,7 +7,7 @@ ghost use Rattle.sb_state.specs.Windows.{process_now};
 ghost use Rattle.sb_state.specs.Pattern.{heap_pattern};
 ghost use Rattle.sb_trace.specs.SyscallProtect.{heap_count, with_heap_mode, execute_mode_outcome, protect_outcome};
 
-use super::{accept, decline};
+use super::{accept, refuse};
 use sb_abi::CallRefusal;
 use sb_calls::{EXECUTE_MODE, protect_refusal};
 use sb_insn::Regs;
@@ -33,13 +33,13 @@ fn set_executable(state: &mut PlainState, process: u32, page: u32, executable: b
     state.pages.set_executable(name, executable);
 }
 
-// Executable only where the bytes of VMFUNC stand neither in the page nor across its borders with executable ones.
+/// Executable only where the bytes of VMFUNC stand neither in the page nor across its borders with executable ones.
 fn make_executable(state: &mut PlainState, core: u8, next: &Regs, process: u32, page: u32) -> Event
     requires { page + 1 < 2 ^ 32 }
     ensures { (result, state.new) ≡ execute_mode_outcome state.old core next.now process page (heap_pattern state.old process page) }
 {
     if let Some(address) = state.heap_pattern(process, page) {
-        return decline(state, core, next, CallRefusal::Pattern, address);
+        return refuse(state, core, next, CallRefusal::Pattern, address);
     }
     set_executable(state, process, page, true);
     accept(state, core, next)
@@ -54,7 +54,7 @@ pub fn protect(state: &mut PlainState, core: u8, next: &Regs) -> Event
     let process = process_now(state.thread(core));
     let (page, mode) = (next.general[RDI], next.general[RSI]);
     if let Some(refusal) = protect_refusal(heap_count(state, process), page, mode) {
-        return decline(state, core, next, refusal, 0);
+        return refuse(state, core, next, refusal, 0);
     }
     let page = page as u32;
     if mode == EXECUTE_MODE {

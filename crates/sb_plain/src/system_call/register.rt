@@ -6,10 +6,10 @@ ghost use Rattle.sb_state.specs.Registers.{rdi, rsi};
 ghost use Rattle.sb_state.specs.Windows.{process_now};
 ghost use Rattle.sb_state.specs.Start.{pages_from};
 ghost use Rattle.sb_trace.specs.SyscallRegister.{is_start, refusal_of_register, server_stack_page, with_registration, with_server, register_outcome};
-ghost use Rattle.sb_state.specs.Store.{added};
+ghost use Rattle.sb_state.specs.Store.{with_added_page};
 
-use super::{accept, decline};
-use crate::pool::{registration_of, set_pool_word};
+use super::{accept, refuse};
+use crate::server::{registration_at, set_pool_word};
 use sb_abi::{CallRefusal, EXIT_STUB, STACK_PAGES, TOP_WORD};
 use sb_calls::register_refusal;
 use sb_insn::Regs;
@@ -32,8 +32,8 @@ fn is_start(state: &PlainState, process: u32, address: u64) -> bool
     }
 }
 
-// Why the process that a view shows does not become a server.
-fn refusal_of(
+/// Why the process that a view shows does not become a server.
+fn refusal_of_register(
     state: &PlainState,
     view: u16,
     process: u32,
@@ -44,18 +44,18 @@ fn refusal_of(
     ensures stacks { result ≡ None → stacks ≤ 16 }
     ensures frames { result ≡ None → 4 * stacks ≤ state.now.free }
 {
-    let registered = registration_of(state, process as usize).is_some();
+    let registered = registration_at(state, process as usize).is_some();
     let start = is_start(state, process, handler);
     register_refusal(view, registered, start, stacks, state.free)
 }
 
 // ---- the server
 
-// A page of a server stack. The last page of a stack has the address of the exit stub in its top word.
+/// A page of a server stack. The last page of a stack has the address of the exit stub in its top word.
 #[tactic(auto, unfolding(sb_trace::specs::SyscallRegister::stack_bytes))]
 fn add_stack_page(pages: &mut Pages, process: u32, page: u32)
     requires { 0 < pages.old.room }
-    ensures { pages.new ≡ added pages.old (server_stack_page process page) }
+    ensures { pages.new ≡ with_added_page pages.old (server_stack_page process page) }
 {
     let name = PageName::ServerStack(process, page);
     if page % PAGES == PAGES - 1 {
@@ -74,7 +74,7 @@ fn add_stacks(pages: &mut Pages, process: u32, count: u32)
     }
 }
 
-// The stacks are there, and their frames are taken.
+/// The stacks are there, and their frames are taken.
 fn take_stacks(state: &mut PlainState, process: u32, pages: u32)
     requires { pages ≤ state.old.free }
     ensures { state.new ≡ record state.old { pages = state.old.pages ++ pages_from (server_stack_page process) 0 pages; free = state.old.free - pages } }
@@ -100,7 +100,7 @@ fn set_registration(state: &mut PlainState, process: u32, registration: Registra
     note_registration(&mut state.processes, process, registration);
 }
 
-// The process has so many stacks, all of them free.
+/// The process has so many stacks, all of them free.
 #[tactic(auto, unfolding(sb_trace::specs::SyscallRegister::with_server, sb_state::specs::State::process_at, sb_state::specs::PageWords::with_word, sb_state::specs::State::with_contents))]
 fn make_server(state: &mut PlainState, process: u32, handler: u64, stacks: u32)
     requires count { stacks ≤ 16 }
@@ -119,8 +119,8 @@ pub fn register(state: &mut PlainState, core: u8, next: &Regs) -> Event
     let thread = state.thread(core);
     let (view, process) = (thread.view, process_now(thread));
     let (handler, stacks) = (next.general[RDI], next.general[RSI]);
-    if let Some(refusal) = refusal_of(state, view, process, handler, stacks) {
-        return decline(state, core, next, refusal, 0);
+    if let Some(refusal) = refusal_of_register(state, view, process, handler, stacks) {
+        return refuse(state, core, next, refusal, 0);
     }
     make_server(state, process, handler, stacks as u32);
     accept(state, core, next)
