@@ -69,7 +69,8 @@ fn go_on(state: &mut PlainState, core: u8) -> Event
         return landing_step(state, core, flight);
     }
     let thread = state.thread(core);
-    let (view, mut regs) = (thread.view, thread.regs);
+    let view = thread.view;
+    let mut regs = thread.regs;
     run_from(state, core, view, &mut regs)
 }
 
