@@ -10,9 +10,8 @@ use Rattle.sb_exec.specs.declared.action.Load.{Load}
 use Rattle.sb_exec.specs.declared.action.Load.TheVariants as load
 use Rattle.sb_exec.specs.declared.action.Store.{Store}
 use Rattle.sb_exec.specs.declared.action.Store.TheVariants as store
-use Rattle.sb_exec.specs.declared.action.RowResult.{RowResult}
 use Rattle.sb_bus.specs.Interface.{Interface}
-use Rattle.sb_exec.specs.Row.{Row, accesses, store_accesses}
+use Rattle.sb_exec.specs.Row.{RowResult, Row, accesses, store_accesses}
 use Rattle.sb_exec.specs.Execution.{Execution, execution_of, execution_by, run, run_on}
 use Rattle.sb_exec.specs.LoadThenStore.{load_then_store, store_after_load, effect_if, registers_if, row_load_answer, row_load_account, row_without_store}
 

@@ -8,12 +8,11 @@ use Rattle.sb_exec.specs.declared.action.Effect.TheVariants.{Next}
 use Rattle.sb_exec.specs.declared.action.Load.{Load}
 use Rattle.sb_exec.specs.declared.action.Store.{Store}
 use Rattle.sb_exec.specs.declared.action.Store.TheVariants as store
-use Rattle.sb_exec.specs.declared.action.RowResult.{RowResult}
 use Rattle.sb_exec.specs.declared.action.Action.{Action}
 use Rattle.sb_exec.specs.declared.action.Action.TheVariants.{Compute, ZeroExtend, LoadAddress, Exchange, Push, Pop, Return, Jump, JumpIf, Call, Pass, Stop}
 use Rattle.sb_bus.specs.Interface.{Interface}
 use Rattle.sb_bus.specs.Access.{where_stored}
-use Rattle.sb_exec.specs.Row.{Row}
+use Rattle.sb_exec.specs.Row.{RowResult, Row}
 use Rattle.sb_exec.specs.Execution.{Execution, execution_of}
 use Rattle.sb_exec.specs.LoadThenStore.{load_then_store, store_after_load, effect_if, registers_if}
 use Rattle.sb_exec.specs.Actions.{action_of}

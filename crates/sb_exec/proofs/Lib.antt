@@ -1,4 +1,5 @@
 pub mod Accesses
+pub mod StoredNumber
 pub mod Left
 pub mod Named
 pub mod Effects

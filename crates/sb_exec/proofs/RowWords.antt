@@ -28,7 +28,6 @@ use Rattle.sb_exec.specs.declared.action.Exchange.{Exchange as ExchangeKind}
 use Rattle.sb_exec.specs.declared.action.Exchange.TheVariants as exchange
 use Rattle.sb_exec.specs.declared.action.Location.{Location}
 use Rattle.sb_exec.specs.declared.action.Location.TheVariants.{Register, Memory}
-use Rattle.sb_exec.specs.declared.action.RowResult.{RowResult}
 use Rattle.sb_exec.specs.declared.action.Load.{Load}
 use Rattle.sb_exec.specs.declared.action.Load.TheVariants as load
 use Rattle.sb_exec.specs.declared.action.Store.{Store}
@@ -39,7 +38,7 @@ use Rattle.sb_exec.specs.Address.{rm_location, operand_address, base_value, disp
 use Rattle.sb_exec.specs.WriteBack.{regs_at_next, with_flags, write_result, rm_value, destination, first_operand, last_operand, result_or_nothing, compute_result}
 use Rattle.sb_exec.specs.Exchange.{xchg_result, cmpxchg_unequal, cmpxchg_result, exchange_of}
 use Rattle.sb_exec.specs.Branch.{rsp_after_push, regs_after_push, regs_after_pop, at_rip, target_of, regs_after_jcc, condition}
-use Rattle.sb_exec.specs.Row.{Row, accesses, load_accesses, store_accesses}
+use Rattle.sb_exec.specs.Row.{RowResult, Row, accesses, load_accesses, store_accesses}
 use Rattle.sb_exec.specs.Rows.{after_action, row_of}
 use Rattle.sb_exec.specs.Actions.{action_of}
 use Rattle.sb_exec.specs.Execution.{run, run_on, execution_of, registers_after}

@@ -5,11 +5,11 @@ use Rattle.sb_insn.specs.declared.insn.Insn.{Insn}
 use Rattle.sb_insn.specs.declared.registers.Regs.{Regs}
 use Rattle.sb_insn.specs.declared.registers.TheConstants.{RAX}
 use Rattle.sb_alu.specs.declared.size.Size.{Size}
+use Rattle.sb_exec.specs.Row.{RowResult}
 use Rattle.sb_exec.specs.declared.action.Exchange.{Exchange}
 use Rattle.sb_exec.specs.declared.action.Exchange.TheVariants as exchange
 use Rattle.sb_exec.specs.declared.action.Location.{Location}
 use Rattle.sb_exec.specs.declared.action.Location.TheVariants.{Register, Memory}
-use Rattle.sb_exec.specs.declared.action.RowResult.{RowResult}
 use Rattle.sb_exec.specs.Operand.{register_value, with_register}
 use Rattle.sb_insn.specs.RegisterNumbers.{reg_number}
 use Rattle.sb_exec.specs.Address.{rm_location}
@@ -36,6 +36,12 @@ cmpxchg_result size place old source regs =
     if register_value size RAX regs == old then write_result size place source
     (with_flags (difference_outcome size (register_value size RAX regs) old).flags regs)
     else cmpxchg_unequal size place old (with_flags (difference_outcome size (register_value size RAX regs) old).flags regs)
+
+-- The number that rm gets: CMPXCHG gives it the one that it held where that is not the accumulator.
+abbrev pub number_for_rm : Exchange → Size → ℕ → ℕ → ℕ → ℕ
+number_for_rm exchange.Xchg size old source accumulator = source
+number_for_rm exchange.Xadd size old source accumulator = sum_of size old source
+number_for_rm exchange.Cmpxchg size old source accumulator = if accumulator == old then source else old
 
 -- what an exchange leaves
 unfoldable pub exchange_of : Exchange → Size → ℕ → Location → ℕ → ℕ → Regs → RowResult

@@ -5,8 +5,13 @@ use Rattle.sb_exec.specs.declared.action.Load.{Load}
 use Rattle.sb_exec.specs.declared.action.Load.TheVariants as load
 use Rattle.sb_exec.specs.declared.action.Store.{Store}
 use Rattle.sb_exec.specs.declared.action.Store.TheVariants as store
-use Rattle.sb_exec.specs.declared.action.RowResult.{RowResult}
+use Rattle.sb_insn.specs.declared.registers.Regs.{Regs}
 use Rattle.sb_alu.specs.Size.{size_bytes}
+
+-- what an instruction leaves once its load is done: the registers, and the number that is stored, 0 where nothing is
+pub record RowResult : Type 0 where
+  pub regs : Regs
+  pub stored : ℕ
 
 -- what is loaded, what is stored after it, the registers and the stored number by the loaded one, and the effect
 pub record Row : Type 0 where

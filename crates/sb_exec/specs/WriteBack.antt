@@ -10,10 +10,10 @@ use Rattle.sb_insn.specs.Branch.{imm_value}
 use Rattle.sb_alu.specs.declared.size.Size.{Size}
 use Rattle.sb_alu.specs.declared.size.Size.TheVariants.{Byte}
 use Rattle.sb_alu.specs.declared.operation.Operation.{Operation}
+use Rattle.sb_exec.specs.Row.{RowResult}
 use Rattle.sb_exec.specs.declared.action.Location.{Location}
 use Rattle.sb_exec.specs.declared.action.Location.TheVariants.{Register, Memory}
 use Rattle.sb_alu.specs.declared.operation.OperationOutcome.{OperationOutcome}
-use Rattle.sb_exec.specs.declared.action.RowResult.{RowResult}
 use Rattle.sb_alu.specs.Size.{low}
 use Rattle.sb_exec.specs.Operand.{operand_value, register_value, with_register, next_rip}
 use Rattle.sb_insn.specs.RegisterNumbers.{reg_number, opcode_number}
@@ -42,6 +42,11 @@ with_store regs value = record { regs = regs; stored = value }
 unfoldable pub write_result : Size → Location → ℕ → Regs → RowResult
 write_result size (Register number) value regs = without_store (with_register size number value regs)
 write_result size (Memory address) value regs = with_store regs value
+
+-- what is stored of a value that is written to a place
+abbrev pub stored_in : Location → ℕ → ℕ
+stored_in (Register number) value = 0
+stored_in (Memory address) value = value
 
 -- ---- operands
 
@@ -108,10 +113,13 @@ result_or_nothing size place (Some value) regs = write_result size place value r
 abbrev pub write_back : Size → Location → OperationOutcome → Regs → RowResult
 write_back size place outcome regs = result_or_nothing size place outcome.value (with_flags outcome.flags regs)
 
+-- what an operation on the operands of a form gives
+abbrev pub form_outcome : Operation → OperandForm → Size → Insn → Regs → ℕ → OperationOutcome
+form_outcome operation form size insn regs loaded =
+    operation_outcome operation size (first_operand form size insn regs loaded) (last_operand form size insn regs loaded)
+    regs.flags
+
 -- the result of an operation on the operands of a form, written back
 unfoldable pub compute_result : Operation → OperandForm → Size → Insn → Regs → ℕ → RowResult
 compute_result operation form size insn regs loaded =
-    write_back size (destination form insn regs)
-    (operation_outcome operation size (first_operand form size insn regs loaded)
-    (last_operand form size insn regs loaded) regs.flags)
-    (regs_at_next insn regs)
+    write_back size (destination form insn regs) (form_outcome operation form size insn regs loaded) (regs_at_next insn regs)

@@ -1,7 +1,7 @@
 //! What an instruction does, apart from the numbers of its operands.
 
 use sb_alu::{Operation, Size};
-use sb_insn::{OperandForm, Regs};
+use sb_insn::OperandForm;
 use sb_memory::Linear;
 
 /// What follows an instruction.
@@ -92,12 +92,4 @@ pub enum Load {
 pub enum Store {
     Nothing,
     At(Linear, Size),
-}
-
-/// What an instruction leaves once its load is done.
-#[derive(Clone, Copy, Debug, PartialEq, Eq)]
-pub struct RowResult {
-    pub regs: Regs,
-    /// The number that is stored, 0 where nothing is.
-    pub stored: u64,
 }

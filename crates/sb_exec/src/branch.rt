@@ -36,32 +36,29 @@ pub fn rsp_after_push(regs: &Regs) -> u64
     stack_top(regs).wrapping_sub(8)
 }
 
-/// The registers after 8 bytes are pushed.
-pub fn regs_after_push(mut regs: Regs) -> Regs
-    ensures { result ≡ regs_after_push regs }
+/// Sets the top of the stack after 8 bytes are pushed.
+pub fn set_after_push(regs: &mut Regs)
+    ensures { regs.new ≡ regs_after_push regs.old }
 {
-    let top = rsp_after_push(&regs);
-    set_register(Size::Quadword, RSP, top, &mut regs);
-    regs
+    let top = rsp_after_push(regs);
+    set_register(Size::Quadword, RSP, top, regs);
 }
 
-/// The registers after 8 bytes are popped.
-pub fn regs_after_pop(mut regs: Regs) -> Regs
-    ensures { result ≡ regs_after_pop regs }
+/// Sets the top of the stack after 8 bytes are popped.
+pub fn set_after_pop(regs: &mut Regs)
+    ensures { regs.new ≡ regs_after_pop regs.old }
 {
-    let top = stack_top(&regs).wrapping_add(8);
-    set_register(Size::Quadword, RSP, top, &mut regs);
-    regs
+    let top = stack_top(regs).wrapping_add(8);
+    set_register(Size::Quadword, RSP, top, regs);
 }
 
-/// The registers after 8 bytes are popped into one of them, which is written last.
-pub fn regs_after_pop_into(number: usize, value: u64, regs: Regs) -> Regs
+/// Sets the registers after 8 bytes are popped into one of them, which is written last.
+pub fn set_after_pop_into(number: usize, value: u64, regs: &mut Regs)
     requires { number < 16 }
-    ensures { result ≡ regs_after_pop_into number value regs }
+    ensures { regs.new ≡ regs_after_pop_into number value regs.old }
 {
-    let mut next = regs_after_pop(regs);
-    set_register(Size::Quadword, number, value, &mut next);
-    next
+    set_after_pop(regs);
+    set_register(Size::Quadword, number, value, regs);
 }
 
 // ---- jumps
@@ -96,14 +93,14 @@ fn condition(number: u8, flags: &Flags) -> bool
     even_condition(number / 2, flags) != (number % 2 == 1)
 }
 
-/// The registers after a jump that is made where the condition holds.
-pub fn regs_after_jcc(number: u8, insn: &Insn, regs: &Regs) -> Regs
-    ensures { result ≡ regs_after_jcc number insn.now regs.now }
+/// Sets RIP after a jump that is made where the condition holds.
+pub fn set_after_jcc(number: u8, insn: &Insn, regs: &mut Regs)
+    ensures { regs.new ≡ regs_after_jcc number insn.now regs.old }
 {
     let rip = if condition(number, &regs.flags) {
         target_of(OperandForm::Relative, insn, regs, 0)
     } else {
         next_rip(insn, regs)
     };
-    Regs { rip, ..*regs }
+    regs.rip = rip;
 }

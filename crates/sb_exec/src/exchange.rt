@@ -6,131 +6,138 @@ ghost use Rattle.sb_exec.specs.Operand.{IsPlace};
 ghost use Rattle.sb_exec.specs.Exchange.{
   xchg_result,
   xadd_result,
-  cmpxchg_unequal,
   cmpxchg_result,
+  number_for_rm,
   exchange_of,
   exchange_after,
 };
 
-use crate::action::{Exchange, Location, RowResult};
+use crate::action::{Exchange, Location};
 use crate::address::rm_location;
 use crate::operand::{register_value, set_register};
-use crate::write_back::{regs_at_next, rm_value, write_result};
+use crate::write_back::{rm_value, set_at_next, set_place, stored_in};
 use sb_alu::{Size, difference_outcome, sum_of, sum_outcome};
 use sb_insn::registers::RAX;
 use sb_insn::{Insn, Regs, reg_number};
 
-/// reg gets what rm held, and then rm the new value.
-fn xchg_result(
+// ---- registers
+
+/// reg gets what rm held, and then rm the new value, where it is a register.
+fn set_xchg_result(
     size: Size,
     number: usize,
     place: Location,
     old: u64,
     value: u64,
-    mut regs: Regs,
-) -> RowResult
+    regs: &mut Regs,
+)
     requires number { number < 16 }
     requires place { IsPlace place }
-    ensures { result ≡ xchg_result size number place old value regs }
+    ensures { regs.new ≡ (xchg_result size number place old value regs.old).regs }
 {
-    set_register(size, number, old, &mut regs);
-    write_result(size, place, value, regs)
+    set_register(size, number, old, regs);
+    set_place(size, place, value, regs);
 }
 
 /// XADD: the new value is the sum.
-fn xadd_result(
+fn set_xadd_result(
     size: Size,
     number: usize,
     place: Location,
     old: u64,
     source: u64,
-    regs: Regs,
-) -> RowResult
+    regs: &mut Regs,
+)
     requires number { number < 16 }
     requires place { IsPlace place }
     requires old { old < modulus size }
     requires source { source < modulus size }
-    ensures { result ≡ xadd_result size number place old source regs }
+    ensures { regs.new ≡ (xadd_result size number place old source regs.old).regs }
 {
-    let next = Regs {
-        flags: sum_outcome(size, old, source).flags,
-        ..regs
-    };
-    xchg_result(size, number, place, old, sum_of(size, old, source), next)
+    regs.flags = sum_outcome(size, old, source).flags;
+    set_xchg_result(size, number, place, old, sum_of(size, old, source), regs);
 }
 
-/// The accumulator gets what rm held, which is stored again.
-fn cmpxchg_unequal(size: Size, place: Location, old: u64, mut regs: Regs) -> RowResult
-    ensures { result ≡ cmpxchg_unequal size place old regs }
-{
-    set_register(size, RAX, old, &mut regs);
-    match place {
-        Location::Register(_) => RowResult { regs, stored: 0 },
-        Location::Memory(_) => RowResult { regs, stored: old },
-    }
-}
-
-/// CMPXCHG: rm gets the new value where it equals the accumulator.
-fn cmpxchg_result(size: Size, place: Location, old: u64, source: u64, regs: Regs) -> RowResult
+/// CMPXCHG: rm gets the new value where it equals the accumulator, which gets what rm held otherwise.
+#[tactic(auto, using(crate::proofs::StoredNumber::unequal_regs))]
+fn set_cmpxchg_result(size: Size, place: Location, old: u64, source: u64, regs: &mut Regs)
     requires place { IsPlace place }
     requires old { old < modulus size }
-    ensures { result ≡ cmpxchg_result size place old source regs }
+    ensures { regs.new ≡ (cmpxchg_result size place old source regs.old).regs }
 {
-    let accumulator = register_value(size, RAX, &regs);
-    let next = Regs {
-        flags: difference_outcome(size, accumulator, old).flags,
-        ..regs
-    };
+    let accumulator = register_value(size, RAX, regs);
+    regs.flags = difference_outcome(size, accumulator, old).flags;
     if accumulator == old {
-        write_result(size, place, source, next)
+        set_place(size, place, source, regs);
     } else {
-        cmpxchg_unequal(size, place, old, next)
+        set_register(size, RAX, old, regs);
     }
 }
 
 #[tactic(auto, unfolding(crate::specs::Exchange::exchange_of))]
-fn exchange_of(
+fn set_exchange(
     kind: Exchange,
     size: Size,
     number: usize,
     place: Location,
     old: u64,
     source: u64,
-    regs: Regs,
-) -> RowResult
+    regs: &mut Regs,
+)
     requires number { number < 16 }
     requires place { IsPlace place }
     requires old { old < modulus size }
     requires source { source < modulus size }
-    ensures { result ≡ exchange_of kind size number place old source regs }
+    ensures { regs.new ≡ (exchange_of kind size number place old source regs.old).regs }
 {
     match kind {
-        Exchange::Xchg => xchg_result(size, number, place, old, source, regs),
-        Exchange::Xadd => xadd_result(size, number, place, old, source, regs),
-        Exchange::Cmpxchg => cmpxchg_result(size, place, old, source, regs),
+        Exchange::Xchg => set_xchg_result(size, number, place, old, source, regs),
+        Exchange::Xadd => set_xadd_result(size, number, place, old, source, regs),
+        Exchange::Cmpxchg => set_cmpxchg_result(size, place, old, source, regs),
     }
 }
 
-/// The exchange of an instruction's operands.
-pub fn exchange_after(
+/// Sets the registers after the exchange of an instruction's operands.
+pub fn set_exchange_after(kind: Exchange, size: Size, insn: &Insn, regs: &mut Regs, loaded: u64)
+    ensures { regs.new ≡ (exchange_after kind size insn.now regs.old loaded).regs }
+{
+    let number = usize::from(reg_number(insn));
+    let place = rm_location(insn, regs);
+    let old = rm_value(size, insn, regs, loaded);
+    let source = register_value(size, number, regs);
+    set_at_next(insn, regs);
+    set_exchange(kind, size, number, place, old, source, regs);
+}
+
+// ---- the number that is stored
+
+/// The number that rm gets.
+fn number_for_rm(kind: Exchange, size: Size, old: u64, source: u64, accumulator: u64) -> u64
+    requires old { old < modulus size }
+    requires source { source < modulus size }
+    ensures { result ≡ number_for_rm kind size old source accumulator }
+{
+    match kind {
+        Exchange::Xchg => source,
+        Exchange::Xadd => sum_of(size, old, source),
+        Exchange::Cmpxchg => { if accumulator == old { source } else { old } }
+    }
+}
+
+/// The number that is stored by the exchange of an instruction's operands.
+#[tactic(auto, using(crate::proofs::StoredNumber::exchange_stored))]
+pub fn stored_exchange_after(
     kind: Exchange,
     size: Size,
     insn: &Insn,
     regs: &Regs,
     loaded: u64,
-) -> RowResult
-    ensures { result ≡ exchange_after kind size insn.now regs.now loaded }
+) -> u64
+    ensures { result ≡ (exchange_after kind size insn.now regs.now loaded).stored }
 {
-    let number = usize::from(reg_number(insn));
     let old = rm_value(size, insn, regs, loaded);
-    let source = register_value(size, number, regs);
-    exchange_of(
-        kind,
-        size,
-        number,
-        rm_location(insn, regs),
-        old,
-        source,
-        regs_at_next(insn, regs),
-    )
+    let source = register_value(size, usize::from(reg_number(insn)), regs);
+    let accumulator = register_value(size, RAX, regs);
+    let number = number_for_rm(kind, size, old, source, accumulator);
+    stored_in(rm_location(insn, regs), number)
 }

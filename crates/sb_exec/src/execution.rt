@@ -4,10 +4,10 @@ ghost use Rattle.std.specs.Prelude.{◌≡◌, ◌≢◌, ◌↔◌};
 ghost use Rattle.sb_insn.specs.Grammar.{IsValid};
 ghost use Rattle.sb_exec.specs.Execution.{Executes};
 ghost use Rattle.sb_exec.specs.LoadThenStore.{row_load_answer, row_load_account, row_store_answer, row_store_meaning, row_store_account};
-ghost use Rattle.sb_exec.specs.Rows.{row_of};
+ghost use Rattle.sb_exec.specs.Rows.{after_action, row_of};
 
-use crate::action::{Effect, Load, Store};
-use crate::rows::{after_action, effect_of, load_of, store_of};
+use crate::action::{Action, Effect, Load, Store};
+use crate::rows::{effect_of, load_of, set_after_action, store_of, stored_after_action};
 use crate::table::action_of;
 use sb_bus::{Bus, BusStop};
 use sb_insn::{Insn, Op, Regs};
@@ -26,16 +26,28 @@ fn make_load<B: Bus>(load: Load, bus: &mut B) -> Result<u64, BusStop>
     }
 }
 
-/// Stores a number, if one is stored.
-fn make_store<B: Bus>(store: Store, value: u64, bus: &mut B) -> Result<(), BusStop>
+/// Stores what an action stores that loaded this number, if it stores anything.
+fn make_store<B: Bus>(
+    store: Store,
+    action: Action,
+    insn: &Insn,
+    regs: &Regs,
+    loaded: u64,
+    bus: &mut B,
+) -> Result<(), BusStop>
     ensures answer { result ≡ row_store_answer B.interface store (B.meaning bus.old) }
-    ensures meaning { B.meaning bus.new ≡ row_store_meaning B.interface store value (B.meaning bus.old) }
-    ensures account { B.account bus.new ≡ row_store_account B.interface store value (B.meaning bus.old) (B.account bus.old) }
+    ensures meaning { B.meaning bus.new ≡ row_store_meaning B.interface store
+        (after_action action insn.now regs.now loaded).stored (B.meaning bus.old) }
+    ensures account { B.account bus.new ≡ row_store_account B.interface store
+        (after_action action insn.now regs.now loaded).stored (B.meaning bus.old) (B.account bus.old) }
     ensures kept { B.kept bus.new ≡ B.kept bus.old }
 {
     match store {
         Store::Nothing => Ok(()),
-        Store::At(at, size) => bus.store(at, size.bytes(), value),
+        Store::At(at, size) => {
+            let number = stored_after_action(action, insn, regs, loaded);
+            bus.store(at, size.bytes(), number)
+        }
     }
 }
 
@@ -48,9 +60,9 @@ fn execute_row<B: Bus>(insn: &Insn, regs: &mut Regs, bus: &mut B) -> Result<Effe
 {
     let action = action_of(insn);
     let value = make_load(load_of(action, insn, regs), bus)?;
-    let after = after_action(action, insn, regs, value);
-    make_store(store_of(action, insn, regs), after.stored, bus)?;
-    *regs = after.regs;
+    let store = store_of(action, insn, regs);
+    make_store(store, action, insn, regs, value, bus)?;
+    set_after_action(action, insn, regs, value);
     Ok(effect_of(action))
 }
 

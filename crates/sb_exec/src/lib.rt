@@ -33,7 +33,7 @@ mod table;
 mod words;
 mod write_back;
 
-pub use action::{Action, Effect, Exchange, Load, Location, MemoryUse, RowResult, Store};
+pub use action::{Action, Effect, Exchange, Load, Location, MemoryUse, Store};
 pub use execution::execute;
 pub use fetch::{fetch_insn, first_insn, one_fetch, one_fetch_on};
 pub use pair::{

@@ -1,7 +1,6 @@
 //! The row of each action: what it loads and stores, the registers after it, and its effect.
 
 ghost use Rattle.std.specs.Prelude.{◌≡◌};
-ghost use Rattle.sb_exec.specs.WriteBack.{without_store};
 ghost use Rattle.sb_exec.specs.Rows.{
   into_reg,
   after_action,
@@ -16,81 +15,95 @@ ghost use Rattle.sb_exec.specs.Rows.{
   effect_of,
 };
 
-use crate::action::{Action, Effect, Load, Location, MemoryUse, RowResult, Store};
+use crate::action::{Action, Effect, Load, Location, MemoryUse, Store};
 use crate::address::{operand_address, rm_location};
 use crate::branch::{
-    regs_after_jcc, regs_after_pop, regs_after_pop_into, regs_after_push, rsp_after_push,
-    stack_top, target_of,
+    rsp_after_push, set_after_jcc, set_after_pop, set_after_pop_into, set_after_push, stack_top,
+    target_of,
 };
-use crate::exchange::exchange_after;
+use crate::exchange::{set_exchange_after, stored_exchange_after};
 use crate::operand::{next_rip, set_register};
-use crate::write_back::{compute_result, last_operand, regs_at_next, rm_value};
+use crate::write_back::{
+    last_operand, rm_value, set_at_next, set_compute_result, stored_compute_result,
+};
 use sb_alu::{Operation, Size};
 use sb_insn::{Insn, OperandForm, Regs, opcode_number, reg_number};
 use sb_memory::Linear;
 
-// ---- registers, and the number that is stored
+// ---- registers
 
-/// Nothing is stored.
-fn without_store(regs: Regs) -> RowResult
-    ensures { result ≡ without_store regs }
+/// Writes a value to the register that reg names, and sets RIP.
+fn set_into_reg(size: Size, value: u64, insn: &Insn, regs: &mut Regs)
+    ensures { regs.new ≡ (into_reg size value insn.now regs.old).regs }
 {
-    RowResult { regs, stored: 0 }
+    set_at_next(insn, regs);
+    set_register(size, usize::from(reg_number(insn)), value, regs);
 }
 
-/// A value that is written to the register that reg names.
-fn into_reg(size: Size, value: u64, insn: &Insn, regs: &Regs) -> RowResult
-    ensures { result ≡ into_reg size value insn.now regs.now }
-{
-    let mut next = regs_at_next(insn, regs);
-    set_register(size, usize::from(reg_number(insn)), value, &mut next);
-    without_store(next)
-}
-
-/// What is left after an action that loaded this number.
+/// Sets the registers after an action that loaded this number.
 #[tactic(auto, unfolding(crate::specs::Rows::after_action))]
-pub fn after_action(action: Action, insn: &Insn, regs: &Regs, loaded: u64) -> RowResult
-    ensures { result ≡ after_action action insn.now regs.now loaded }
+pub fn set_after_action(action: Action, insn: &Insn, regs: &mut Regs, loaded: u64)
+    ensures { regs.new ≡ (after_action action insn.now regs.old loaded).regs }
 {
     match action {
-        Action::Compute(operation, form, size) => compute_result(
+        Action::Compute(operation, form, size) => {
+            set_compute_result(operation, form, size, insn, regs, loaded);
+        }
+        Action::ZeroExtend(size) => {
+            let value = rm_value(Size::Byte, insn, regs, loaded);
+            set_into_reg(size, value, insn, regs);
+        }
+        Action::LoadAddress(size) => {
+            let address = operand_address(insn, regs);
+            set_into_reg(size, address, insn, regs);
+        }
+        Action::Exchange(kind, size) => set_exchange_after(kind, size, insn, regs, loaded),
+        Action::Push(_) => {
+            set_at_next(insn, regs);
+            set_after_push(regs);
+        }
+        Action::Pop => {
+            set_at_next(insn, regs);
+            set_after_pop_into(usize::from(opcode_number(insn)), loaded, regs);
+        }
+        Action::Return => {
+            set_after_pop(regs);
+            regs.rip = loaded;
+        }
+        Action::Jump(form) => regs.rip = target_of(form, insn, regs, loaded),
+        Action::JumpIf(number) => set_after_jcc(number, insn, regs),
+        Action::Call(form) => {
+            let target = target_of(form, insn, regs, loaded);
+            set_after_push(regs);
+            regs.rip = target;
+        }
+        Action::Pass => set_at_next(insn, regs),
+        Action::Stop(_) => {}
+    }
+}
+
+// ---- the number that is stored
+
+/// The number that is stored by an action that loaded this number, 0 where none is.
+#[tactic(auto, unfolding(crate::specs::Rows::after_action))]
+pub fn stored_after_action(action: Action, insn: &Insn, regs: &Regs, loaded: u64) -> u64
+    ensures { result ≡ (after_action action insn.now regs.now loaded).stored }
+{
+    match action {
+        Action::Compute(operation, form, size) => stored_compute_result(
             operation, form, size, insn, regs, loaded,
         ),
-        Action::ZeroExtend(size) => into_reg(
-            size,
-            rm_value(Size::Byte, insn, regs, loaded),
-            insn,
-            regs,
-        ),
-        Action::LoadAddress(size) => into_reg(size, operand_address(insn, regs), insn, regs),
-        Action::Exchange(kind, size) => exchange_after(kind, size, insn, regs, loaded),
-        Action::Push(form) => RowResult {
-            regs: regs_after_push(regs_at_next(insn, regs)),
-            stored: last_operand(form, Size::Quadword, insn, regs, loaded),
-        },
-        Action::Pop => without_store(regs_after_pop_into(
-            usize::from(opcode_number(insn)),
-            loaded,
-            regs_at_next(insn, regs),
-        )),
-        Action::Return => without_store(Regs {
-            rip: loaded,
-            ..regs_after_pop(*regs)
-        }),
-        Action::Jump(form) => without_store(Regs {
-            rip: target_of(form, insn, regs, loaded),
-            ..*regs
-        }),
-        Action::JumpIf(number) => without_store(regs_after_jcc(number, insn, regs)),
-        Action::Call(form) => RowResult {
-            regs: Regs {
-                rip: target_of(form, insn, regs, loaded),
-                ..regs_after_push(*regs)
-            },
-            stored: next_rip(insn, regs),
-        },
-        Action::Pass => without_store(regs_at_next(insn, regs)),
-        Action::Stop(_) => without_store(*regs),
+        Action::Exchange(kind, size) => stored_exchange_after(kind, size, insn, regs, loaded),
+        Action::Push(form) => last_operand(form, Size::Quadword, insn, regs, loaded),
+        Action::Call(_) => next_rip(insn, regs),
+        Action::ZeroExtend(_)
+        | Action::LoadAddress(_)
+        | Action::Pop
+        | Action::Return
+        | Action::Jump(_)
+        | Action::JumpIf(_)
+        | Action::Pass
+        | Action::Stop(_) => 0,
     }
 }
 

@@ -6,46 +6,49 @@ ghost use Rattle.sb_exec.specs.Operand.{IsPlace};
 ghost use Rattle.sb_exec.specs.WriteBack.{
   regs_at_next,
   write_result,
+  stored_in,
   rm_value,
   destination,
   first_operand,
   last_operand,
   result_or_nothing,
+  form_outcome,
   compute_result,
 };
 
-use crate::action::{Location, RowResult};
+use crate::action::Location;
 use crate::address::rm_location;
 use crate::operand::{next_rip, operand_value, register_value, set_register};
-use sb_alu::{Operation, Size, operation_outcome};
+use sb_alu::{Operation, OperationOutcome, Size, operation_outcome};
 use sb_insn::registers::{RAX, RCX};
 use sb_insn::{Insn, OperandForm, Regs, opcode_number, reg_number};
 
-/// The registers at the next instruction.
-pub fn regs_at_next(insn: &Insn, regs: &Regs) -> Regs
-    ensures { result ≡ regs_at_next insn.now regs.now }
+/// Sets RIP to the next instruction.
+pub fn set_at_next(insn: &Insn, regs: &mut Regs)
+    ensures { regs.new ≡ regs_at_next insn.now regs.old }
 {
-    Regs {
-        rip: next_rip(insn, regs),
-        ..*regs
+    regs.rip = next_rip(insn, regs);
+}
+
+/// Writes a value to a place, where that is a register.
+#[tactic(auto, unfolding(crate::specs::WriteBack::write_result))]
+pub fn set_place(size: Size, place: Location, value: u64, regs: &mut Regs)
+    requires { IsPlace place }
+    ensures { regs.new ≡ (write_result size place value regs.old).regs }
+{
+    match place {
+        Location::Register(number) => set_register(size, number, value, regs),
+        Location::Memory(_) => {}
     }
 }
 
-/// A value that is written to a place: into its register, or as what is stored.
-#[tactic(auto, unfolding(crate::specs::WriteBack::write_result))]
-pub fn write_result(size: Size, place: Location, value: u64, mut regs: Regs) -> RowResult
-    requires { IsPlace place }
-    ensures { result ≡ write_result size place value regs }
+/// What is stored of a value that is written to a place.
+pub fn stored_in(place: Location, value: u64) -> u64
+    ensures { result ≡ stored_in place value }
 {
     match place {
-        Location::Register(number) => {
-            set_register(size, number, value, &mut regs);
-            RowResult { regs, stored: 0 }
-        }
-        Location::Memory(_) => RowResult {
-            regs,
-            stored: value,
-        },
+        Location::Register(_) => 0,
+        Location::Memory(_) => value,
     }
 }
 
@@ -75,7 +78,7 @@ fn destination(form: OperandForm, insn: &Insn, regs: &Regs) -> Location
             insn,
         ))),
         OperandForm::OpcodeImm | OperandForm::Opcode => Location::Register(usize::from(
-            opcode_number(insn),
+            usize::from(opcode_number(insn)),
         )),
         OperandForm::AccImm | OperandForm::Imm | OperandForm::Relative | OperandForm::Nothing =>
             Location::Register(RAX),
@@ -131,36 +134,65 @@ pub fn last_operand(form: OperandForm, size: Size, insn: &Insn, regs: &Regs, loa
 
 // ---- write back
 
-/// A result that is written back, if there is one.
+/// Writes a result back, if there is one and it goes to a register.
 #[tactic(auto, unfolding(crate::specs::WriteBack::result_or_nothing))]
-fn result_or_nothing(size: Size, place: Location, value: Option<u64>, regs: Regs) -> RowResult
+fn set_result_or_nothing(size: Size, place: Location, value: Option<u64>, regs: &mut Regs)
     requires { IsPlace place }
-    ensures { result ≡ result_or_nothing size place value regs }
+    ensures { regs.new ≡ (result_or_nothing size place value regs.old).regs }
 {
     match value {
-        Some(value) => write_result(size, place, value, regs),
-        None => RowResult { regs, stored: 0 },
+        Some(value) => set_place(size, place, value, regs),
+        None => {}
     }
 }
 
-/// The result of an operation on the operands of a form, written back.
-#[tactic(auto, unfolding(crate::specs::WriteBack::compute_result))]
-pub fn compute_result(
+/// What an operation on the operands of a form gives.
+fn form_outcome(
     operation: Operation,
     form: OperandForm,
     size: Size,
     insn: &Insn,
     regs: &Regs,
     loaded: u64,
-) -> RowResult
-    ensures { result ≡ compute_result operation form size insn.now regs.now loaded }
+) -> OperationOutcome
+    ensures { result ≡ form_outcome operation form size insn.now regs.now loaded }
 {
     let first = first_operand(form, size, insn, regs, loaded);
     let last = last_operand(form, size, insn, regs, loaded);
-    let outcome = operation_outcome(operation, size, first, last, regs.flags);
-    let next = Regs {
-        flags: outcome.flags,
-        ..regs_at_next(insn, regs)
-    };
-    result_or_nothing(size, destination(form, insn, regs), outcome.value, next)
+    operation_outcome(operation, size, first, last, regs.flags)
+}
+
+/// Sets the registers after an operation on the operands of a form, whose result is written back.
+#[tactic(auto, unfolding(crate::specs::WriteBack::compute_result))]
+pub fn set_compute_result(
+    operation: Operation,
+    form: OperandForm,
+    size: Size,
+    insn: &Insn,
+    regs: &mut Regs,
+    loaded: u64,
+)
+    ensures { regs.new ≡ (compute_result operation form size insn.now regs.old loaded).regs }
+{
+    let place = destination(form, insn, regs);
+    let outcome = form_outcome(operation, form, size, insn, regs, loaded);
+    set_at_next(insn, regs);
+    regs.flags = outcome.flags;
+    set_result_or_nothing(size, place, outcome.value, regs);
+}
+
+/// The number that is stored of the result of an operation on the operands of a form.
+#[tactic(auto, using(crate::proofs::StoredNumber::result_stored), unfolding(crate::specs::WriteBack::compute_result))]
+pub fn stored_compute_result(
+    operation: Operation,
+    form: OperandForm,
+    size: Size,
+    insn: &Insn,
+    regs: &Regs,
+    loaded: u64,
+) -> u64
+    ensures { result ≡ (compute_result operation form size insn.now regs.now loaded).stored }
+{
+    let outcome = form_outcome(operation, form, size, insn, regs, loaded);
+    stored_in(destination(form, insn, regs), outcome.value.unwrap_or(0))
 }

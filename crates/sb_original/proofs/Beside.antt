@@ -8,7 +8,6 @@ use Rattle.sb_bus.specs.declared.stop.BusStop.{BusStop}
 use Rattle.sb_exec.specs.declared.action.Effect.{Effect}
 use Rattle.sb_exec.specs.declared.action.Store.{Store}
 use Rattle.sb_exec.specs.declared.action.Store.TheVariants as store
-use Rattle.sb_exec.specs.declared.action.RowResult.{RowResult}
 use Rattle.sb_exec.specs.declared.action.Load.{Load}
 use Rattle.sb_exec.specs.declared.action.Load.TheVariants as load
 use Rattle.sb_memory.specs.declared.address.Access.TheVariants.{Read, Write}
@@ -16,7 +15,7 @@ use Rattle.sb_memory.specs.Outcome.{and_then, done}
 use Rattle.sb_exec.specs.Access.{bytes_from, number_of, loaded_from, store_answer, byte_for, byte_for_write, where_stored}
 use Rattle.sb_exec.specs.Interface.{Interface}
 use Rattle.sb_exec.specs.Size.{size_bytes}
-use Rattle.sb_exec.specs.Row.{Row, MemoryAccess, Loads, LoadsForWrite, Stores, load_accesses, store_accesses, accesses}
+use Rattle.sb_exec.specs.Row.{RowResult, Row, MemoryAccess, Loads, LoadsForWrite, Stores, load_accesses, store_accesses, accesses}
 use Rattle.sb_exec.specs.Execution.{Run, run, run_on, execution_of, execution_by, effect_after, registers_after}
 use Rattle.sb_exec.specs.Simulation.{named_answer, IsAt, IsRowAt, AgreeAt, StoresKeepAt}
 use Rattle.sb_exec.proofs.Simulation.{SameRun, run_agrees_at}

@@ -57,10 +57,9 @@ use Rattle.sb_original.proofs.Alike.{reg_below}
 use Rattle.sb_original.proofs.FormAddress.{one_behind, insns_staged, one_save, one_kept}
 use Rattle.sb_original.proofs.FormConstant.{two_behind, two_saves, two_kept, hides_second}
 use Rattle.sb_insn.specs.OpcodeMap.{two_byte}
-use Rattle.sb_exec.specs.declared.action.RowResult.{RowResult}
 use Rattle.sb_alu.specs.declared.operation.OperationOutcome.{OperationOutcome}
 use Rattle.sb_insn.specs.declared.registers.Flags.{Flags}
-use Rattle.sb_exec.specs.Row.{Row}
+use Rattle.sb_exec.specs.Row.{RowResult, Row}
 use Rattle.sb_exec.specs.Size.{modulus, low}
 use Rattle.sb_exec.specs.Arithmetic.{product_overflows, product_outcome}
 use Rattle.sb_original.proofs.FormProduct.{product_by, own_product, main_product, same_product, product_moved, move_does, product_follows}

@@ -20,7 +20,6 @@ use Rattle.sb_alu.specs.declared.operation.Operation.TheVariants as operation
 use Rattle.sb_exec.specs.declared.action.Effect.TheVariants.{Next}
 use Rattle.sb_exec.specs.declared.action.Load.TheVariants as load
 use Rattle.sb_exec.specs.declared.action.Store.TheVariants as store
-use Rattle.sb_exec.specs.declared.action.RowResult.{RowResult}
 use Rattle.sb_exec.specs.Interface.{Interface}
 use Rattle.sb_exec.specs.Size.{low}
 use Rattle.sb_exec.specs.Operand.{general, register_after_write, next_rip}
@@ -28,7 +27,7 @@ use Rattle.sb_insn.specs.RegisterNumbers.{last_opcode_byte, opcode_number}
 use Rattle.sb_exec.specs.Address.{operand_address, rm_location}
 use Rattle.sb_exec.specs.Outcome.{operation_outcome}
 use Rattle.sb_exec.specs.WriteBack.{regs_at_next, without_store, write_result, destination, first_operand, last_operand, result_or_nothing, compute_result}
-use Rattle.sb_exec.specs.Row.{Row}
+use Rattle.sb_exec.specs.Row.{RowResult, Row}
 use Rattle.sb_exec.specs.Actions.{action_by, action_of}
 use Rattle.sb_exec.specs.Rows.{rm_use, load_of, store_of, after_action, effect_of, row_by, row_of}
 use Rattle.sb_forms.specs.declared.helper.Helper.{Helper}

@@ -14,7 +14,6 @@ use Rattle.sb_alu.specs.declared.size.Size.TheVariants.{Doubleword, Quadword}
 use Rattle.sb_exec.specs.declared.action.Effect.TheVariants.{Next}
 use Rattle.sb_exec.specs.declared.action.Load.TheVariants as load
 use Rattle.sb_exec.specs.declared.action.Store.TheVariants as store
-use Rattle.sb_exec.specs.declared.action.RowResult.{RowResult}
 use Rattle.sb_exec.specs.Size.{low, size_bytes}
 use Rattle.sb_exec.specs.Interface.{Interface}
 use Rattle.sb_exec.specs.Access.{loaded_from, store_answer, byte_for}
@@ -23,7 +22,7 @@ use Rattle.sb_exec.specs.Address.{linear, operand_address, rm_location}
 use Rattle.sb_exec.specs.Outcome.{operation_outcome}
 use Rattle.sb_exec.specs.WriteBack.{regs_at_next, without_store, with_store, write_result, destination, first_operand, last_operand, result_or_nothing, compute_result}
 use Rattle.sb_exec.specs.Branch.{at_rip}
-use Rattle.sb_exec.specs.Row.{Row, accesses}
+use Rattle.sb_exec.specs.Row.{RowResult, Row, accesses}
 use Rattle.sb_exec.specs.Actions.{action_by, action_of}
 use Rattle.sb_exec.specs.Rows.{rm_use, load_of, store_of, after_action, effect_of, row_of}
 use Rattle.sb_exec.specs.Execution.{execution_of}

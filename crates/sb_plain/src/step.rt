@@ -33,16 +33,15 @@ fn stop_thread(state: &mut PlainState, core: u8, stop: BusStop) -> Event
     }
 }
 
-/// The instruction that was fetched, from these registers, in this view.
-fn execute_next(state: &mut PlainState, core: u8, view: u16, insn: &Insn, regs: &Regs) -> Event
+/// The instruction that was fetched, from these registers, in this view. It works on them in place.
+fn execute_next(state: &mut PlainState, core: u8, view: u16, insn: &Insn, regs: &mut Regs) -> Event
     requires { IsValid insn.now }
-    ensures { Performs vmfunc_outcome state.old core view insn.now regs.now (result, state.new) }
+    ensures { Performs vmfunc_outcome state.old core view insn.now regs.old (result, state.new) }
 {
     let rip = regs.rip;
-    let mut next = *regs;
-    match perform(state, u32::from(core), view, insn, &mut next) {
+    match perform(state, u32::from(core), view, insn, regs) {
         Ok(Effect::Next) => {
-            state.set_regs(core, next);
+            state.set_regs(core, *regs);
             Event::Step { rip }
         }
         Ok(Effect::Syscall) => system_call(state, core, insn, regs),
@@ -53,8 +52,8 @@ fn execute_next(state: &mut PlainState, core: u8, view: u16, insn: &Insn, regs: 
 }
 
 /// The instruction at RIP of a thread with these registers in this view.
-fn run_from(state: &mut PlainState, core: u8, view: u16, regs: &Regs) -> Event
-    ensures { RunsOn vmfunc_outcome state.old core view regs.now (result, state.new) }
+fn run_from(state: &mut PlainState, core: u8, view: u16, regs: &mut Regs) -> Event
+    ensures { RunsOn vmfunc_outcome state.old core view regs.old (result, state.new) }
 {
     match fetch_next(state, u32::from(core), view, regs.rip) {
         Ok(insn) => execute_next(state, core, view, &insn, regs),
@@ -70,8 +69,9 @@ fn go_on(state: &mut PlainState, core: u8) -> Event
         return landing_step(state, core, flight);
     }
     let thread = state.thread(core);
-    let (view, regs) = (thread.view, thread.regs);
-    run_from(state, core, view, &regs)
+    let view = thread.view;
+    let mut regs = thread.regs;
+    run_from(state, core, view, &mut regs)
 }
 
 /// A step of a core: a thread that has ended is idle.

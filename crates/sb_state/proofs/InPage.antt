@@ -10,6 +10,7 @@ use Rattle.sb_state.specs.PageName.{permits}
 use Rattle.sb_state.specs.State.{State, find_page}
 use Rattle.sb_state.specs.Windows.{page_for}
 use Rattle.sb_state.specs.PlainMemory.{plain_byte, is_canonical}
+use Rattle.sb_state.specs.PageWords.{number_at}
 use Rattle.sb_state.specs.NameForAccess.{name_for_access, name_if_permitted}
 use Rattle.sb_state.proofs.NameForAccess.{byte_reached, byte_refused}
 use Rattle.sb_bus.specs.Access.{byte_for, loaded_from}
@@ -63,7 +64,7 @@ byte_in_page thread view state address count how name page fits inside is found 
     (reached_again thread view state address _ how name same is) found
     ∙ ap (λ (n : ℕ). Ok (slice_index page.bytes n)) place
 
--- ---- a word
+-- ---- a number
 
 loaded_on : (size thread view : ℕ) (state : State) (address index : ℕ) (how : Access) (name : PageName) (page : Page)
     → address < 2 ^ 64
@@ -86,21 +87,22 @@ loaded_on (suc size) thread view state address index how name page fits inside i
     loaded_more (byte_for (plain_byte thread view state) how) (further address index) (suc size) size _ _
     (omega arith) lowest more
 
--- the word at an address, if it ends in the page
-pub word_in_page : (thread view : ℕ) (state : State) (address : ℕ) (how : Access) (name : PageName) (page : Page)
+-- the number of some bytes at an address, if they end in the page
+pub number_in_page : (thread view : ℕ) (state : State) (address size : ℕ) (how : Access) (name : PageName) (page : Page)
     → address < 2 ^ 64
-    → address % 4096 + 8 ≤ 4096 → name_for_access thread view state address how ≡ Ok name → find_page state.pages name ≡ Some page
-    → loaded_from (byte_for (plain_byte thread view state) how) address 8 ≡ Ok (little_from (address % 4096) 8 page.bytes)
-word_in_page thread view state address how name page fits inside is found =
+    → address % 4096 + size ≤ 4096 → name_for_access thread view state address how ≡ Ok name → find_page state.pages name ≡ Some page
+    → loaded_from (byte_for (plain_byte thread view state) how) address size ≡ Ok (number_at page.bytes (address % 4096) size)
+unfolding number_at
+number_in_page thread view state address size how name page fits inside is found =
     let here : further address 0 ≡ address = omega (arith, fits) in
     let place : address % 4096 + 0 ≡ address % 4096 = omega arith in
-    let all = loaded_on 8 thread view state address 0 how name page fits (omega (arith, inside)) is found in
-    sym (ap (λ (n : ℕ). loaded_from (byte_for (plain_byte thread view state) how) n 8) here) ∙ all
-    ∙ ap (λ (n : ℕ). Ok (little_from n 8 page.bytes)) place
+    let all = loaded_on size thread view state address 0 how name page fits (omega (arith, inside)) is found in
+    sym (ap (λ (n : ℕ). loaded_from (byte_for (plain_byte thread view state) how) n size) here) ∙ all
+    ∙ ap (λ (n : ℕ). Ok (little_from n size page.bytes)) place
 
-pub word_refused : (thread view : ℕ) (state : State) (address : ℕ) (how : Access) (stop : BusStop)
+pub number_refused : (thread view : ℕ) (state : State) (address size : ℕ) (how : Access) (stop : BusStop) → 0 < size
     → name_for_access thread view state address how ≡ Err stop
-    → loaded_from (byte_for (plain_byte thread view state) how) address 8 ≡ Err stop
-word_refused thread view state address how stop is =
-    loaded_stop (byte_for (plain_byte thread view state) how) address 8 stop (omega arith)
+    → loaded_from (byte_for (plain_byte thread view state) how) address size ≡ Err stop
+number_refused thread view state address size how stop some is =
+    loaded_stop (byte_for (plain_byte thread view state) how) address size stop some
     (byte_refused thread view state address how stop is)

@@ -12,7 +12,8 @@ pub mod InPage
 pub mod PagePlaces
 pub mod Stored
 pub mod WordBytes
-pub mod WholeWord
+pub mod Numbers
+pub mod WholeNumber
 pub mod Writing
 pub mod Pattern
 pub mod Start

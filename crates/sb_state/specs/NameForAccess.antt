@@ -6,6 +6,7 @@ use Rattle.sb_bus.specs.declared.stop.FaultKind.TheVariants.{Canon, Memory}
 use Rattle.sb_state.specs.declared.page.PageName.{PageName}
 use Rattle.std.specs.Borrow.{Bor}
 use Rattle.sb_state.specs.declared.page.Page.{Page}
+use Rattle.sb_state.specs.declared.pages.Known.{Known}
 use Rattle.sb_state.specs.declared.page.SeenPage.{SeenPage}
 use Rattle.sb_state.specs.PageName.{permits}
 use Rattle.sb_state.specs.State.{State}
@@ -22,7 +23,17 @@ name_for_access thread view state address how =
     if is_canonical address then name_if_permitted (page_for state thread view (address / 4096)) address how
     else Err (fault_at Canon address)
 
--- the name, without the page
+-- a page that is found, without its place
+abbrev pub page_only : Option (ℕ × Bor Page) → Option Page
+page_only None = None
+page_only (Some found) = Some found.1.now
+
+-- the name of a page that is reached by its place
+abbrev pub known_name : Result (Known × Bor Page) BusStop → Result PageName BusStop
+known_name (Ok found) = Ok found.0.name
+known_name (Err stop) = Err stop
+
+-- the name of a page that is reached
 abbrev pub name_only : Result (PageName × Bor Page) BusStop → Result PageName BusStop
 name_only (Ok found) = Ok found.0
 name_only (Err stop) = Err stop

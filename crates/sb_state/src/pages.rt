@@ -6,12 +6,13 @@ ghost use Rattle.std.specs.HashMap.{get, spare};
 ghost use Rattle.sb_memory.specs.Words.{word_at, put_word};
 ghost use Rattle.sb_memory.specs.declared.page.TheConstants.{PAGE_SIZE};
 ghost use Rattle.sb_state.specs.State.{find_page, with_page_bytes, bytes_of, page_with, with_mode};
-ghost use Rattle.sb_state.specs.PageWords.{zeros, put_words};
+ghost use Rattle.sb_state.specs.PageWords.{zeros, put_words, put_number};
 ghost use Rattle.sb_state.specs.Places.{place_of, equal_names, IsIndex, IsNoted, AreWhole, AreBlank, AreKnown, known_at, KeepsKnown, Remembers};
+ghost use Rattle.sb_state.specs.NameForAccess.{page_only};
 ghost use Rattle.sb_state.specs.Store.{with_pages, with_room, with_added_page};
 
 use crate::page::{Page, PageBytes, PageName};
-use crate::page_words::{put_word, put_words};
+use crate::page_words::{put_number, put_word, put_words};
 use sb_memory::word;
 use std::alloc::{AllocError, Global};
 use std::collections::HashMap;
@@ -22,9 +23,9 @@ pub const PAGE_SIZE: usize = sb_memory::PAGE_SIZE as usize;
 
 /// A name, and the place of its first page.
 #[derive(Clone, Copy)]
-struct Known {
-    name: PageName,
-    place: usize,
+pub struct Known {
+    pub name: PageName,
+    pub place: usize,
 }
 
 /// How many names can be known at once.
@@ -249,14 +250,26 @@ impl Pages {
         }
     }
 
-    /// The page of this name, if it is there.
+    /// The page of this name with its place, if it is there.
     #[tactic(auto, using(crate::proofs::Places::found_none))]
+    pub fn find_placed(&self, name: PageName) -> Option<(usize, &Page)>
+        ensures place { IfSome result (λ found. place_of self.now.pages name ≡ Some found.0) }
+        ensures page { page_only result ≡ find_page self.now.pages name }
+        ensures size { IfSome result (λ found. length found.1.now.bytes ≡ 4096) }
+    {
+        match self.place(name) {
+            Some(place) => Some((place, &self.pages[place])),
+            None => None,
+        }
+    }
+
+    /// The page of this name, if it is there.
     pub fn find(&self, name: PageName) -> Option<&Page>
         ensures page { option_copied result ≡ find_page self.now.pages name }
         ensures size { IfSome result (λ page. length page.now.bytes ≡ PAGE_SIZE) }
     {
-        match self.place(name) {
-            Some(place) => Some(&self.pages[place]),
+        match self.find_placed(name) {
+            Some((_, page)) => Some(page),
             None => None,
         }
     }
@@ -305,6 +318,18 @@ impl Pages {
         if let Some(index) = self.place(name) {
             put_word(&mut self.pages[index].bytes, place, word);
         }
+    }
+
+    /// Puts so many of the lowest bytes of a number into a page whose place is known.
+    #[tactic(auto, using(crate::proofs::Places::place_below))]
+    pub fn put_number(&mut self, known: Known, offset: usize, size: u8, number: u64)
+        requires known { place_of self.old.pages known.name ≡ Some known.place }
+        requires few { size ≤ 8 }
+        requires within { offset + size ≤ 4096 }
+        ensures { self.new ≡ with_pages self.old (with_page_bytes self.old.pages known.name
+            (put_number (bytes_of (find_page self.old.pages known.name)) offset size number)) }
+    {
+        put_number(&mut self.pages[known.place].bytes, offset, size, number);
     }
 
     /// Makes a heap page executable, or not. Where the page is not there, nothing changes.

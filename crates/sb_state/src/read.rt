@@ -4,10 +4,11 @@ ghost use Rattle.std.specs.Prelude.{◌≡◌, ◌≤◌, ◌<◌, ◌+◌, ◌%
 ghost use Rattle.sb_bus.specs.Access.{byte_for, loaded_from};
 ghost use Rattle.sb_state.specs.PlainMemory.{plain_byte};
 
+use crate::page_words::number_at;
 use crate::plain_state::PlainState;
 use crate::translate::page_for_access;
 use sb_bus::BusStop;
-use sb_memory::{Access, Linear, word};
+use sb_memory::{Access, Linear};
 
 /// The byte at an address, for an access.
 #[tactic(auto, using(crate::proofs::NameForAccess::byte_reached, crate::proofs::NameForAccess::byte_refused))]
@@ -25,20 +26,23 @@ pub fn byte(
     Ok(page.bytes.items().get(offset).copied().unwrap_or(0))
 }
 
-/// The word at an address, which ends in the page in which it begins: the page is looked up once.
-#[tactic(auto, using(crate::proofs::InPage::word_in_page, crate::proofs::InPage::word_refused), unfolding(sb_memory::specs::Words::word_at))]
-fn load_word(
+/// The number of some bytes at an address, which end in the page in which they begin: the page is looked up once.
+#[tactic(auto, using(crate::proofs::InPage::number_in_page, crate::proofs::InPage::number_refused))]
+fn load_in_page(
     state: &PlainState,
     thread: u32,
     view: u32,
     at: Linear,
+    size: u8,
     access: Access,
 ) -> Result<u64, BusStop>
-    requires { at.0 % 4096 + 8 ≤ 4096 }
-    ensures { result ≡ loaded_from (byte_for (plain_byte thread view state.now) access) at.0 8 }
+    requires some { 0 < size }
+    requires few { size ≤ 8 }
+    requires within { at.0 % 4096 + size ≤ 4096 }
+    ensures { result ≡ loaded_from (byte_for (plain_byte thread view state.now) access) at.0 size }
 {
     let (_, page) = page_for_access(state, thread, view, at, access)?;
-    Ok(word(page.bytes.items(), (at.0 % 4096) as usize))
+    Ok(number_at(page.bytes.items(), (at.0 % 4096) as usize, size))
 }
 
 /// The number of some bytes from an address upwards, its lowest byte first, byte by byte.
@@ -76,8 +80,8 @@ pub fn load(
     requires { size ≤ 8 }
     ensures answer { result ≡ loaded_from (byte_for (plain_byte thread view state.now) access) at.0 size }
 {
-    if size == 8 && at.0 % 4096 <= 4088 {
-        load_word(state, thread, view, at, access)
+    if 0 < size && at.0 % 4096 <= 4096 - u64::from(size) {
+        load_in_page(state, thread, view, at, size, access)
     } else {
         load_bytes(state, thread, view, at, size, access)
     }

@@ -1,6 +1,6 @@
 //! Numbers written to the memory of a thread in a view.
 
-ghost use Rattle.std.specs.Prelude.{◌≡◌, ◌≤◌, ◌+◌, ◌%◌, Ok, Err, OnOk, IfErr, length};
+ghost use Rattle.std.specs.Prelude.{◌≡◌, ◌<◌, ◌≤◌, ◌+◌, ◌%◌, Ok, Err, OnOk, IfErr, length};
 ghost use Rattle.sb_memory.specs.declared.address.Access.TheVariants.{Write};
 ghost use Rattle.sb_bus.specs.Access.{bytes_from, byte_for, store_answer, where_stored};
 ghost use Rattle.sb_state.specs.PlainMemory.{plain_byte, plain_stored, put_all};
@@ -8,7 +8,7 @@ ghost use Rattle.sb_state.specs.PagePlaces.{page_place_at, bytes_to_put_in};
 
 use crate::page::PageName;
 use crate::plain_state::PlainState;
-use crate::translate::page_for_access;
+use crate::translate::{known_page_for_access, page_for_access};
 use sb_bus::BusStop;
 use sb_memory::{Access, Linear};
 
@@ -92,22 +92,27 @@ fn store_by(
     Ok(())
 }
 
-/// Writes a word at an address, which ends in the page in which it begins, if it may be written: the page's mode is looked
-/// up once.
-#[tactic(auto, using(crate::proofs::WholeWord::word_stored, crate::proofs::WholeWord::word_may_be_stored, crate::proofs::WholeWord::word_not_stored), unfolding(crate::specs::State::with_contents, crate::specs::State::contents))]
-fn store_word(
+/// Writes the lowest bytes of a number at an address, which end in the page in which they begin, if they may be written:
+/// the page is looked up once.
+#[tactic(auto, using(crate::proofs::WholeNumber::number_stored, crate::proofs::WholeNumber::number_may_be_stored, crate::proofs::WholeNumber::number_not_stored), unfolding(crate::specs::State::with_contents, crate::specs::State::contents))]
+fn store_in_page(
     state: &mut PlainState,
     thread: u32,
     view: u32,
     at: Linear,
+    size: u8,
     value: u64,
 ) -> Result<(), BusStop>
-    requires { at.0 % 4096 + 8 ≤ 4096 }
-    ensures answer { result ≡ store_answer (byte_for (plain_byte thread view state.old) Write) at.0 8 }
-    ensures written { state.new ≡ where_stored result (plain_stored thread view state.old at.0 8 value) state.old }
+    requires some { 0 < size }
+    requires few { size ≤ 8 }
+    requires within { at.0 % 4096 + size ≤ 4096 }
+    ensures answer { result ≡ store_answer (byte_for (plain_byte thread view state.old) Write) at.0 size }
+    ensures written { state.new ≡ where_stored result (plain_stored thread view state.old at.0 size value) state.old }
 {
-    let (name, _) = page_for_access(state, thread, view, at, Access::Write)?;
-    state.pages.put_word(name, (at.0 % 4096) as usize, value);
+    let (known, _) = known_page_for_access(state, thread, view, at, Access::Write)?;
+    state
+        .pages
+        .put_number(known, (at.0 % 4096) as usize, size, value);
     Ok(())
 }
 
@@ -124,8 +129,8 @@ pub fn store(
     ensures answer { result ≡ store_answer (byte_for (plain_byte thread view state.old) Write) at.0 size }
     ensures written { state.new ≡ where_stored result (plain_stored thread view state.old at.0 size value) state.old }
 {
-    if size == 8 && at.0 % 4096 <= 4088 {
-        return store_word(state, thread, view, at, value);
+    if 0 < size && at.0 % 4096 <= 4096 - u64::from(size) {
+        return store_in_page(state, thread, view, at, size, value);
     }
     let mut places = [NOWHERE; 8];
     store_by(

@@ -3,7 +3,7 @@ use Rattle.sb_state.specs.declared.page.Page.{Page}
 use Rattle.sb_state.specs.Places.{place_of}
 use Rattle.sb_state.specs.Store.{Store}
 use Rattle.sb_state.proofs.Places.{found_at, whole_at}
-use Rattle.sb_state.proofs.pages.Pages.find.Goals as goal
+use Rattle.sb_state.proofs.pages.Pages.find_placed.Goals as goal
 
 pub returns-in-Some-clause-page : goal.returns-in-Some-clause-page
 returns-in-Some-clause-page c =

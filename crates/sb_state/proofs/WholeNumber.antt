@@ -1,11 +1,10 @@
--- A word that is stored in one page.
+-- A number that is stored in one page.
 use Rattle.std.proofs.Common.{◌≡◌, ℕ, zero, suc, ◌+◌, ◌/◌, ◌%◌, ◌^◌, ◌<◌, ◌≤◌, List, [], ◌∷◌, Ok, Err, refl, ap, sym, ◌∙◌, arith}
 use Rattle.std.specs.Prelude.{Some, slice_set}
 use Rattle.std.specs.Int.{byte_at, bytes_low_first}
 use Rattle.std.proofs.lemmas.List.Edits.{sets}
 use Rattle.std.proofs.Math.Nat.{pow-suc, div-div-eq-div-mul}
 use Rattle.sb_memory.specs.declared.address.Access.TheVariants.{Write}
-use Rattle.sb_memory.specs.Words.{put_word}
 use Rattle.sb_bus.specs.declared.stop.BusStop.{BusStop}
 use Rattle.sb_bus.specs.Access.{byte_for, store_answer}
 use Rattle.sb_bus.proofs.Loads.{stored_where_loaded, stops_where_loaded}
@@ -14,9 +13,10 @@ use Rattle.sb_state.specs.declared.page.Page.{Page}
 use Rattle.sb_state.specs.State.{State, find_page, contents, with_contents}
 use Rattle.sb_state.specs.PlainMemory.{plain_byte, ByteToPut, put_byte, bytes_to_put, put_all, plain_stored}
 use Rattle.sb_state.proofs.PageLists.{found_same, contents_own, contents_there, contents_twice}
+use Rattle.sb_state.specs.PageWords.{put_number}
 use Rattle.sb_state.specs.NameForAccess.{name_for_access}
 use Rattle.sb_state.specs.PagePlaces.{page_place_at}
-use Rattle.sb_state.proofs.InPage.{further, reached_again, word_in_page, word_refused}
+use Rattle.sb_state.proofs.InPage.{further, reached_again, number_in_page, number_refused}
 use Rattle.sb_state.proofs.PagePlaces.{placed_first}
 
 -- ---- bytes that are put one after another into one page
@@ -92,38 +92,38 @@ placed_on (suc size) thread view state address index value name fits inside is =
     (record { name = name; offset = further address index % 4096 }) _ page_place
     ∙ rw (next, others, place, behind) refl
 
--- a word that ends in the page in which it begins
-pub word_stored : (thread view : ℕ) (state : State) (address value : ℕ) (name : PageName) (page : Page) → address < 2 ^ 64
-    → address % 4096 + 8 ≤ 4096 → name_for_access thread view state address Write ≡ Ok name
-    → find_page state.pages name ≡ Some page
-    → plain_stored thread view state address 8 value
-    ≡ with_contents state name (put_word (contents state name) (address % 4096) value)
-unfolding plain_stored put_word
-word_stored thread view state address value name page fits inside is found =
+-- a number whose bytes end in the page in which they begin
+pub number_stored : (thread view : ℕ) (state : State) (address size value : ℕ) (name : PageName) (page : Page) → address < 2 ^ 64
+    → address % 4096 + size ≤ 4096 → name_for_access thread view state address Write ≡ Ok name → find_page state.pages name ≡ Some page
+    → plain_stored thread view state address size value
+    ≡ with_contents state name (put_number (contents state name) (address % 4096) size value)
+unfolding plain_stored put_number
+number_stored thread view state address size value name page fits inside is found =
     let here : further address 0 ≡ address = omega (arith, fits) in
     let place : address % 4096 + 0 ≡ address % 4096 = omega arith in
     let whole : value / 256 ^ 0 ≡ value = omega arith in
-    let list : bytes_to_put state thread view (further address 0) 8 value
-    ≡ placed_from name (address % 4096 + 0) (low 8 value) =
-    placed_on 8 thread view state address 0 value name fits (omega (arith, inside)) is in
-    let bytes : low 8 value ≡ bytes_low_first 0 8 value = ap (λ (n : ℕ). low 8 n) (sym whole) ∙ low_bytes 8 0 value in
-    ap (λ (at : ℕ). put_all state (bytes_to_put state thread view at 8 value)) (sym here)
+    let list : bytes_to_put state thread view (further address 0) size value
+    ≡ placed_from name (address % 4096 + 0) (low size value) =
+    placed_on size thread view state address 0 value name fits (omega (arith, inside)) is in
+    let bytes : low size value ≡ bytes_low_first 0 size value =
+    ap (λ (n : ℕ). low size n) (sym whole) ∙ low_bytes size 0 value in
+    ap (λ (at : ℕ). put_all state (bytes_to_put state thread view at size value)) (sym here)
     ∙ ap (λ (all : List ByteToPut). put_all state all) list
     ∙ ap (λ (all : List ℕ). put_all state (placed_from name (address % 4096 + 0) all)) bytes
-    ∙ ap (λ (at : ℕ). put_all state (placed_from name at (bytes_low_first 0 8 value))) place
-    ∙ puts_sets (bytes_low_first 0 8 value) state name page (address % 4096) found
+    ∙ ap (λ (at : ℕ). put_all state (placed_from name at (bytes_low_first 0 size value))) place
+    ∙ puts_sets (bytes_low_first 0 size value) state name page (address % 4096) found
 
-pub word_may_be_stored : (thread view : ℕ) (state : State) (address : ℕ) (name : PageName) (page : Page) → address < 2 ^ 64
-    → address % 4096 + 8 ≤ 4096 → name_for_access thread view state address Write ≡ Ok name
-    → find_page state.pages name ≡ Some page
-    → store_answer (byte_for (plain_byte thread view state) Write) address 8 ≡ Ok tt
-word_may_be_stored thread view state address name page fits inside is found =
-    stored_where_loaded (byte_for (plain_byte thread view state) Write) address 8 _
-    (word_in_page thread view state address Write name page fits inside is found)
+pub number_may_be_stored : (thread view : ℕ) (state : State) (address size : ℕ) (name : PageName) (page : Page)
+    → address < 2 ^ 64
+    → address % 4096 + size ≤ 4096 → name_for_access thread view state address Write ≡ Ok name → find_page state.pages name ≡ Some page
+    → store_answer (byte_for (plain_byte thread view state) Write) address size ≡ Ok tt
+number_may_be_stored thread view state address size name page fits inside is found =
+    stored_where_loaded (byte_for (plain_byte thread view state) Write) address size _
+    (number_in_page thread view state address size Write name page fits inside is found)
 
-pub word_not_stored : (thread view : ℕ) (state : State) (address : ℕ) (stop : BusStop)
+pub number_not_stored : (thread view : ℕ) (state : State) (address size : ℕ) (stop : BusStop) → 0 < size
     → name_for_access thread view state address Write ≡ Err stop
-    → store_answer (byte_for (plain_byte thread view state) Write) address 8 ≡ Err stop
-word_not_stored thread view state address stop is =
-    stops_where_loaded (byte_for (plain_byte thread view state) Write) address 8 stop
-    (word_refused thread view state address Write stop is)
+    → store_answer (byte_for (plain_byte thread view state) Write) address size ≡ Err stop
+number_not_stored thread view state address size stop some is =
+    stops_where_loaded (byte_for (plain_byte thread view state) Write) address size stop
+    (number_refused thread view state address size Write stop some is)
