@@ -77,9 +77,9 @@ fn destination(form: OperandForm, insn: &Insn, regs: &Regs) -> Location
         OperandForm::RegRm | OperandForm::RegRmImm => Location::Register(usize::from(reg_number(
             insn,
         ))),
-        OperandForm::OpcodeImm | OperandForm::Opcode => Location::Register(usize::from(
-            usize::from(opcode_number(insn)),
-        )),
+        OperandForm::OpcodeImm | OperandForm::Opcode => Location::Register(usize::from(usize::from(
+            opcode_number(insn),
+        ))),
         OperandForm::AccImm | OperandForm::Imm | OperandForm::Relative | OperandForm::Nothing =>
             Location::Register(RAX),
     }
