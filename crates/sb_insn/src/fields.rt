@@ -340,7 +340,7 @@ pub fn permitted_rule(cell: Cell, lock: bool, rex: Option<u8>, modrm: u8) -> Opt
     match modrm_opcode(cell, reg_field(modrm)) {
         None => None,
         Some(opcode) => {
-            if permits(&opcode, lock, rex, modrm) {
+            if modrm_opcode_permits(&opcode, lock, rex, modrm) {
                 Some(opcode.imm)
             } else {
                 None
