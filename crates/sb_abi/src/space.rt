@@ -1,4 +1,4 @@
-//! Pages, and the windows of linear addresses (docs/FORMATS.md, "The memory of a thread").
+//! The windows of linear addresses (docs/FORMATS.md, "The memory of a thread").
 //!
 //! A window begins at an address, in bytes, and at the page of that address. Each has 512 pages, which are 2 MiB, but the
 //! rewrite area, which has 16, and the window of buffers, which has 2048.
@@ -6,12 +6,21 @@
 /// The pages of each window but the rewrite area's and that of buffers.
 pub const WINDOW_PAGES: u64 = 512;
 
+/// The bytes of such a window.
+pub const WINDOW_BYTES: u64 = 0x20_0000;
+
 /// The threads that the windows have room for.
 pub const WINDOW_THREADS: u64 = 32;
 
 /// The threads that a machine starts with at most, and those that the page tables serve: their buffers fill the first 2 MiB
 /// of the window of buffers.
 pub const MAX_THREADS: u64 = 8;
+
+/// The processes of a machine at most: each has a root of page tables.
+pub const MAX_PROCESSES: u64 = 16;
+
+/// The views of a thread at most: its home view, and one for each binding.
+pub const MAX_VIEWS: u64 = 16;
 
 /// The rewrite area: where rewritten instructions are moved to.
 pub const AREA_ADDRESS: u64 = 0x1000;
@@ -55,8 +64,11 @@ pub const BUFFER_DISTANCE: u64 = 0x4000;
 /// The buffers of a thread: one for each index, of which 0 is not used.
 pub const BUFFERS_PER_THREAD: u64 = 16;
 
+/// The pages of the buffers of a thread.
+pub const BUFFERS_DISTANCE_PAGES: u64 = BUFFERS_PER_THREAD * BUFFER_PAGES;
+
 /// The pages of the window of buffers.
-pub const BUFFERS_WINDOW_PAGES: u64 = WINDOW_THREADS * BUFFERS_PER_THREAD * BUFFER_PAGES;
+pub const BUFFERS_WINDOW_PAGES: u64 = WINDOW_THREADS * BUFFERS_DISTANCE_PAGES;
 
 /// The save pages and stacks of threads.
 pub const STACKS_ADDRESS: u64 = 0x300_0000;
@@ -66,6 +78,9 @@ pub const STACKS_PAGE: u64 = 0x3000;
 
 /// From the save page of a thread to the next one's, in bytes. Its stack is the second half.
 pub const THREAD_DISTANCE: u64 = 0x8000;
+
+/// The pages from the save page of a thread to the next one's.
+pub const THREAD_PAGES: u64 = 8;
 
 /// The stacks of a server.
 pub const SERVER_STACKS_ADDRESS: u64 = 0x400_0000;

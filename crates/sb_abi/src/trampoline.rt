@@ -44,8 +44,20 @@ pub const BRANCH_ON_KEY: u8 = 1;
 /// MOV of the pool word.
 pub const LOAD_POOL: u8 = 2;
 
+/// TEST of the mask, which is the pool word that was loaded.
+pub const TEST_MASK: u8 = 3;
+
 /// JE: where no stack is free.
 pub const BRANCH_ON_POOL: u8 = 4;
+
+/// LEA of the mask less 1.
+pub const LESS_ONE: u8 = 5;
+
+/// AND: the mask without its lowest bit.
+pub const DROP_BIT: u8 = 6;
+
+/// BSF: the number of the stack of that bit.
+pub const FIND_STACK: u8 = 7;
 
 /// CMPXCHG of the pool word: takes the stack.
 pub const EXCHANGE_POOL: u8 = 8;
@@ -55,6 +67,21 @@ pub const BRANCH_ON_EXCHANGE: u8 = 9;
 
 /// SHL of the stack's number to its offset, the first phase of a call that is entered.
 pub const STACK_OFFSET: u8 = 10;
+
+/// MOV of the first stack's top to RSP.
+pub const LOAD_BASE: u8 = 11;
+
+/// ADD of the offset to RSP.
+pub const ADD_OFFSET: u8 = 12;
+
+/// XOR of R10, where the offset was.
+pub const CLEAR_OFFSET: u8 = 13;
+
+/// XOR of ECX, where the index was.
+pub const CLEAR_INDEX: u8 = 14;
+
+/// XOR of EAX, where the mask was.
+pub const CLEAR_MASK: u8 = 15;
 
 /// JMP to the handler, the last phase of a call that is entered.
 pub const ENTER: u8 = 16;
@@ -70,6 +97,15 @@ pub const STATUS_POOL_EMPTY: u8 = 19;
 
 /// XOR of R10, the first phase of leaving.
 pub const LEAVE: u8 = 20;
+
+/// XOR of ECX: the index of the home view.
+pub const HOME_INDEX: u8 = 21;
+
+/// XOR of EAX: the leaf of VMFUNC.
+pub const HOME_LEAF: u8 = 22;
+
+/// JMP to the VMFUNC.
+pub const JUMP_BACK: u8 = 23;
 
 /// VMFUNC of the way back, the last phase of a call that is not entered.
 pub const GO_HOME: u8 = 24;

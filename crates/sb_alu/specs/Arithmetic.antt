@@ -5,7 +5,7 @@ use lib.Signed.{mag}
 use Rattle.std.specs.Int.{cast_signed}
 use Rattle.sb_insn.specs.declared.registers.Flags.{Flags}
 use Rattle.sb_alu.specs.declared.size.Size.{Size}
-use Rattle.sb_alu.specs.declared.operation.Outcome.{Outcome}
+use Rattle.sb_alu.specs.declared.operation.OperationOutcome.{OperationOutcome}
 use Rattle.sb_alu.specs.Size.{modulus, half, width}
 
 -- ---- flags
@@ -44,7 +44,7 @@ abbrev pub sum_overflows : Size → ℕ → ℕ → Bool
 sum_overflows size first second = not (fits size (signed_value size first +ℤ signed_value size second))
 
 -- a sum: CF is the carry
-unfoldable pub sum_outcome : Size → ℕ → ℕ → Outcome
+unfoldable pub sum_outcome : Size → ℕ → ℕ → OperationOutcome
 sum_outcome size first second = record {
   value = Some (sum_of size first second);
   flags = result_flags size (sum_of size first second) (nat_le (modulus size) (first + second)) (sum_overflows size first second);
@@ -60,7 +60,7 @@ abbrev pub difference_overflows : Size → ℕ → ℕ → Bool
 difference_overflows size first second = not (fits size (signed_value size first -ℤ signed_value size second))
 
 -- a difference: CF is the borrow
-unfoldable pub difference_outcome : Size → ℕ → ℕ → Outcome
+unfoldable pub difference_outcome : Size → ℕ → ℕ → OperationOutcome
 difference_outcome size first second = record {
   value = Some (difference_of size first second);
   flags = result_flags size (difference_of size first second) (nat_lt first second) (difference_overflows size first second);
@@ -69,7 +69,7 @@ difference_outcome size first second = record {
 -- ---- logic
 
 -- a logical operation clears CF and OF
-unfoldable pub logic_outcome : Size → ℕ → Outcome
+unfoldable pub logic_outcome : Size → ℕ → OperationOutcome
 logic_outcome size value = record { value = Some value; flags = result_flags size value false false }
 
 -- ---- products
@@ -79,7 +79,7 @@ abbrev pub product_overflows : Size → ℕ → ℕ → Bool
 product_overflows size first second = not (fits size (signed_value size first *ℤ signed_value size second))
 
 -- a signed product: CF and OF say that it does not fit, SF is its top bit, ZF and PF stay
-unfoldable pub product_outcome : Size → ℕ → ℕ → Flags → Outcome
+unfoldable pub product_outcome : Size → ℕ → ℕ → Flags → OperationOutcome
 product_outcome size first second flags =
     let lost = product_overflows size first second in
     record {

@@ -1,4 +1,4 @@
 pub mod Size
 pub mod Arithmetic
 pub mod Shift
-pub mod Operated
+pub mod Outcome

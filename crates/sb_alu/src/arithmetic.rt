@@ -16,7 +16,7 @@ ghost use Rattle.sb_alu.specs.Arithmetic.{
   product_outcome,
 };
 
-use crate::operation::Outcome;
+use crate::operation::OperationOutcome;
 use crate::size::Size;
 use sb_insn::Flags;
 
@@ -24,7 +24,7 @@ use sb_insn::Flags;
 pub fn is_negative(size: Size, value: u64) -> bool
     ensures { result ≡ is_negative size value }
 {
-    value >= size.top()
+    value >= size.half()
 }
 
 /// The flags of a result.
@@ -44,7 +44,7 @@ pub fn result_flags(size: Size, value: u64, carry: bool, overflow: bool) -> Flag
 // ---- sums
 
 /// The lowest bits of a sum.
-pub fn sum(size: Size, first: u64, second: u64) -> u64
+pub fn sum_of(size: Size, first: u64, second: u64) -> u64
     requires first { first < modulus size }
     requires second { second < modulus size }
     ensures { result ≡ sum_of size first second }
@@ -90,15 +90,15 @@ fn sum_overflows(size: Size, first: u64, second: u64) -> bool
 
 /// A sum, with its flags.
 #[tactic(auto, unfolding(crate::specs::Arithmetic::sum_outcome))]
-pub fn sum_outcome(size: Size, first: u64, second: u64) -> Outcome
+pub fn sum_outcome(size: Size, first: u64, second: u64) -> OperationOutcome
     requires first { first < modulus size }
     requires second { second < modulus size }
     ensures { result ≡ sum_outcome size first second }
 {
-    let value = sum(size, first, second);
+    let value = sum_of(size, first, second);
     let carry = carries(size, first, second);
     let overflow = sum_overflows(size, first, second);
-    Outcome {
+    OperationOutcome {
         value: Some(value),
         flags: result_flags(size, value, carry, overflow),
     }
@@ -107,7 +107,7 @@ pub fn sum_outcome(size: Size, first: u64, second: u64) -> Outcome
 // ---- differences
 
 /// The lowest bits of a difference.
-fn difference(size: Size, first: u64, second: u64) -> u64
+fn difference_of(size: Size, first: u64, second: u64) -> u64
     requires first { first < modulus size }
     requires second { second < modulus size }
     ensures { result ≡ difference_of size first second }
@@ -140,14 +140,14 @@ fn difference_overflows(size: Size, first: u64, second: u64) -> bool
 
 /// A difference, with its flags.
 #[tactic(auto, unfolding(crate::specs::Arithmetic::difference_outcome))]
-pub fn difference_outcome(size: Size, first: u64, second: u64) -> Outcome
+pub fn difference_outcome(size: Size, first: u64, second: u64) -> OperationOutcome
     requires first { first < modulus size }
     requires second { second < modulus size }
     ensures { result ≡ difference_outcome size first second }
 {
-    let value = difference(size, first, second);
+    let value = difference_of(size, first, second);
     let overflow = difference_overflows(size, first, second);
-    Outcome {
+    OperationOutcome {
         value: Some(value),
         flags: result_flags(size, value, first < second, overflow),
     }
@@ -157,10 +157,10 @@ pub fn difference_outcome(size: Size, first: u64, second: u64) -> Outcome
 
 /// A logical operation's result, which clears CF and OF.
 #[tactic(auto, unfolding(crate::specs::Arithmetic::logic_outcome))]
-pub fn logic_outcome(size: Size, value: u64) -> Outcome
+pub fn logic_outcome(size: Size, value: u64) -> OperationOutcome
     ensures { result ≡ logic_outcome size value }
 {
-    Outcome {
+    OperationOutcome {
         value: Some(value),
         flags: result_flags(size, value, false, false),
     }
@@ -202,14 +202,14 @@ fn product_overflows(size: Size, first: u64, second: u64) -> bool
 
 /// A signed product, with the flags that it changes.
 #[tactic(auto, unfolding(crate::specs::Arithmetic::product_outcome))]
-pub fn product_outcome(size: Size, first: u64, second: u64, flags: Flags) -> Outcome
+pub fn product_outcome(size: Size, first: u64, second: u64, flags: Flags) -> OperationOutcome
     requires first { first < modulus size }
     requires second { second < modulus size }
     ensures { result ≡ product_outcome size first second flags }
 {
     let value = product(size, first, second);
     let lost = product_overflows(size, first, second);
-    Outcome {
+    OperationOutcome {
         value: Some(value),
         flags: Flags {
             cf: lost,

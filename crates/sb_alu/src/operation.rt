@@ -34,7 +34,7 @@ pub enum Operation {
 
 /// What an operation gives.
 #[derive(Clone, Copy, Debug, PartialEq, Eq)]
-pub struct Outcome {
+pub struct OperationOutcome {
     /// The number that is to be written, if one is.
     pub value: Option<u64>,
     pub flags: Flags,

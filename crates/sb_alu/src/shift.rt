@@ -14,12 +14,12 @@ ghost use Rattle.sb_alu.specs.Shift.{
 };
 
 use crate::arithmetic::{is_negative, result_flags};
-use crate::operation::Outcome;
+use crate::operation::OperationOutcome;
 use crate::size::Size;
 use sb_insn::Flags;
 
 /// The count modulo the number of bits.
-fn masked(size: Size, count: u64) -> u32
+fn shift_count(size: Size, count: u64) -> u32
     ensures value { result ≡ shift_count size count }
     ensures range { result < size_bits size }
 {
@@ -48,7 +48,7 @@ fn shl(size: Size, value: u64, count: u32) -> u64
 }
 
 #[tactic(auto, unfolding(crate::specs::Shift::shl_outcome))]
-fn shl_outcome(size: Size, value: u64, count: u32) -> Outcome
+fn shl_outcome(size: Size, value: u64, count: u32) -> OperationOutcome
     requires value { value < modulus size }
     requires count { count < size_bits size }
     requires some { 0 < count }
@@ -57,14 +57,14 @@ fn shl_outcome(size: Size, value: u64, count: u32) -> Outcome
     let shifted = shl(size, value, count);
     let last = is_bit_set(value, size.bits() - count);
     let overflow = count == 1 && is_negative(size, shifted) != last;
-    Outcome {
+    OperationOutcome {
         value: Some(shifted),
         flags: result_flags(size, shifted, last, overflow),
     }
 }
 
 #[tactic(auto, unfolding(crate::specs::Shift::shr_outcome))]
-fn shr_outcome(size: Size, value: u64, count: u32) -> Outcome
+fn shr_outcome(size: Size, value: u64, count: u32) -> OperationOutcome
     requires value { value < modulus size }
     requires count { count < size_bits size }
     requires some { 0 < count }
@@ -72,7 +72,7 @@ fn shr_outcome(size: Size, value: u64, count: u32) -> Outcome
 {
     let shifted = value >> count;
     let overflow = count == 1 && is_negative(size, value);
-    Outcome {
+    OperationOutcome {
         value: Some(shifted),
         flags: result_flags(size, shifted, is_bit_set(value, count - 1), overflow),
     }
@@ -91,14 +91,14 @@ fn sar(size: Size, value: u64, count: u32) -> u64
 }
 
 #[tactic(auto, unfolding(crate::specs::Shift::sar_outcome))]
-fn sar_outcome(size: Size, value: u64, count: u32) -> Outcome
+fn sar_outcome(size: Size, value: u64, count: u32) -> OperationOutcome
     requires value { value < modulus size }
     requires count { count < size_bits size }
     requires some { 0 < count }
     ensures { result ≡ sar_outcome size value count }
 {
     let shifted = sar(size, value, count);
-    Outcome {
+    OperationOutcome {
         value: Some(shifted),
         flags: result_flags(size, shifted, is_bit_set(value, count - 1), false),
     }
@@ -107,44 +107,44 @@ fn sar_outcome(size: Size, value: u64, count: u32) -> Outcome
 // ---- by any count
 
 /// A shift by 0 gives its operand and leaves the flags.
-fn unshifted(value: u64, flags: Flags) -> Outcome
+fn unshifted(value: u64, flags: Flags) -> OperationOutcome
     ensures value { result.value ≡ Some value }
     ensures flags { result.flags ≡ flags }
 {
-    Outcome {
+    OperationOutcome {
         value: Some(value),
         flags,
     }
 }
 
 /// SHL.
-pub fn left_by(size: Size, value: u64, count: u64, flags: Flags) -> Outcome
+pub fn shl_by(size: Size, value: u64, count: u64, flags: Flags) -> OperationOutcome
     requires { value < modulus size }
     ensures { result ≡ unless_zero (shift_count size count) value flags (shl_outcome size value (shift_count size count)) }
 {
-    match masked(size, count) {
+    match shift_count(size, count) {
         0 => unshifted(value, flags),
         count => shl_outcome(size, value, count),
     }
 }
 
 /// SHR.
-pub fn right_by(size: Size, value: u64, count: u64, flags: Flags) -> Outcome
+pub fn shr_by(size: Size, value: u64, count: u64, flags: Flags) -> OperationOutcome
     requires { value < modulus size }
     ensures { result ≡ unless_zero (shift_count size count) value flags (shr_outcome size value (shift_count size count)) }
 {
-    match masked(size, count) {
+    match shift_count(size, count) {
         0 => unshifted(value, flags),
         count => shr_outcome(size, value, count),
     }
 }
 
 /// SAR.
-pub fn signed_right_by(size: Size, value: u64, count: u64, flags: Flags) -> Outcome
+pub fn sar_by(size: Size, value: u64, count: u64, flags: Flags) -> OperationOutcome
     requires { value < modulus size }
     ensures { result ≡ unless_zero (shift_count size count) value flags (sar_outcome size value (shift_count size count)) }
 {
-    match masked(size, count) {
+    match shift_count(size, count) {
         0 => unshifted(value, flags),
         count => sar_outcome(size, value, count),
     }

@@ -45,8 +45,8 @@ impl Size {
         }
     }
 
-    /// The number of which only the top bit is set.
-    pub fn top(self) -> u64
+    /// The number of which only the top bit is set: half of the modulus.
+    pub fn half(self) -> u64
         ensures { result ≡ half self }
     {
         match self {

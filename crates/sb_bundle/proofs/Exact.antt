@@ -8,7 +8,8 @@ use Rattle.sb_bundle.specs.declared.refusal.BundleRefusal.{BundleRefusal}
 use Rattle.sb_bundle.specs.declared.refusal.BundleRefusal.TheVariants.{Short}
 use Rattle.sb_bundle.specs.Limits.{AllBelow}
 use Rattle.sb_bundle.specs.Spelling.{number_bytes}
-use Rattle.sb_bundle.specs.Fields.{◌>>=◌, Input, Field, and_then, offset, give, bytes_field, number, judged_field, many}
+use Rattle.sb_memory.specs.Outcome.{and_then}
+use Rattle.sb_bundle.specs.Fields.{◌>>=◌, Input, Field, offset, give, bytes_field, number, judged_field, many}
 use Rattle.sb_bundle.proofs.Numbers.{length-number_bytes, number_bytes-fit, number-fits, number-again, bytes-again}
 
 abbrev pub input : ℕ → List ℕ → Input

@@ -3,7 +3,8 @@ use Rattle.std.proofs.Common.{◌≡◌, ◌≢◌, ℕ, suc, ◌-◌, ◌+◌, 
 use Rattle.std.proofs.lemmas.List.{append-nil}
 use Rattle.sb_bundle.specs.declared.refusal.BundleRefusal.{BundleRefusal}
 use Rattle.sb_bundle.specs.declared.refusal.BundleRefusal.TheVariants.{Memory}
-use Rattle.sb_bundle.specs.Fields.{Input, Field, and_then, many}
+use Rattle.sb_memory.specs.Outcome.{and_then}
+use Rattle.sb_bundle.specs.Fields.{Input, Field, many}
 
 -- what was read before, and what is still read
 abbrev pub with_prefix : {A : Type 0} → List A → Result (List A × Input) BundleRefusal → Result (List A × Input) BundleRefusal

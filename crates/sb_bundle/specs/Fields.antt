@@ -1,6 +1,7 @@
 -- Reading fields from left to right, each checked as it is read, with the first refusal and its offset.
 use Rattle.std.specs.Prelude.{◌≡◌, ◌≢◌, ℕ, zero, suc, ◌-◌, Bool, ◌&&◌, nat_lt, nat_le, if◌then◌else◌, List, [], ◌∷◌, length, take, drop, Result, Ok, Err}
 use Rattle.byteorder.specs.Endian.{little_number}
+use Rattle.sb_memory.specs.Outcome.{and_then}
 use Rattle.sb_bundle.specs.declared.refusal.BundleRefusal.{BundleRefusal}
 use Rattle.sb_bundle.specs.declared.refusal.BundleRefusal.TheVariants.{Short, Memory}
 use Rattle.sb_bundle.specs.declared.limits.Limits.{Limits}
@@ -17,11 +18,6 @@ offset input = input.total - length input.rest
 -- a field takes its bytes from the front of the input and gives its value, or refuses
 abbrev pub Field : Type 0 → Type 0
 Field A = Input → Result (A × Input) BundleRefusal
-
--- what follows a value; a refusal ends the reading
-abbrev pub and_then : {A B : Type 0} → Result A BundleRefusal → (A → Result B BundleRefusal) → Result B BundleRefusal
-and_then (Ok x) next = next x
-and_then (Err refusal) next = Err refusal
 
 -- a field, and what stands behind it
 infixl 10 ◌>>=◌

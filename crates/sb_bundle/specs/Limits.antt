@@ -1,7 +1,8 @@
 -- Which bundles there are: each field within its limits.
 use Rattle.std.specs.Prelude.{ℕ, ◌≤◌, ◌<◌, ◌^◌, List, length}
 use Rattle.std.specs.List.{AllByRecursion}
-use Rattle.sb_abi.specs.declared.space.TheConstants.{MAX_THREADS}
+use Rattle.sb_abi.specs.declared.space.TheConstants.{MAX_THREADS, MAX_PROCESSES, WINDOW_BYTES, WINDOW_PAGES}
+use Rattle.sb_abi.specs.declared.frames.TheConstants.{MIN_FRAMES, MAX_FRAMES}
 use Rattle.sb_bundle.specs.declared.limits.Limits.{Limits}
 use Rattle.sb_bundle.specs.declared.bundle.Bundle.{Bundle}
 use Rattle.sb_bundle.specs.declared.bundle.Image.{Image}
@@ -17,11 +18,11 @@ core_limits = from_to 1 MAX_THREADS
 
 -- processes
 abbrev pub process_limits : Limits
-process_limits = from_to 1 16
+process_limits = from_to 1 MAX_PROCESSES
 
 -- frames of 4,096 bytes: more than the 512 that the machine keeps, at most 32 MiB
 abbrev pub frame_limits : Limits
-frame_limits = from_to 513 8192
+frame_limits = from_to MIN_FRAMES MAX_FRAMES
 
 -- key words
 abbrev pub key_limits : Limits
@@ -33,15 +34,15 @@ schedule_limits = from_to 0 1048576
 
 -- bytes of a text: 2 MiB
 abbrev pub text_limits : Limits
-text_limits = from_to 1 2097152
+text_limits = from_to 1 WINDOW_BYTES
 
 -- bytes of initial data: 2 MiB
 abbrev pub initial_limits : Limits
-initial_limits = from_to 0 2097152
+initial_limits = from_to 0 WINDOW_BYTES
 
 -- heap pages of 4,096 bytes: 2 MiB
 abbrev pub heap_limits : Limits
-heap_limits = from_to 0 512
+heap_limits = from_to 0 WINDOW_PAGES
 
 -- the number is within the limits
 abbrev pub IsWithin : Limits → ℕ → Type 0

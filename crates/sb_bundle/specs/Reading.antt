@@ -10,7 +10,8 @@ use Rattle.sb_bundle.specs.declared.refusal.BundleRefusal.{BundleRefusal}
 use Rattle.sb_bundle.specs.declared.refusal.BundleRefusal.TheVariants.{Magic, Version, Count, Range, Trailing}
 use Rattle.sb_bundle.specs.Limits.{core_limits, process_limits, frame_limits, key_limits, schedule_limits, text_limits, initial_limits, heap_limits}
 use Rattle.sb_bundle.specs.Spelling.{magic, version}
-use Rattle.sb_bundle.specs.Fields.{◌>>=◌, Field, and_then, offset, give, number, bytes_field, judged_field, is_within, many}
+use Rattle.sb_memory.specs.Outcome.{and_then}
+use Rattle.sb_bundle.specs.Fields.{◌>>=◌, Field, offset, give, number, bytes_field, judged_field, is_within, many}
 
 -- a count of the header, of so many bytes
 unfoldable pub count : Limits → ℕ → Field ℕ

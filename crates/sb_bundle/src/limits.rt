@@ -3,7 +3,7 @@
 ghost use Rattle.std.specs.Prelude.{◌≡◌};
 ghost use Rattle.sb_bundle.specs.Fields.{is_within};
 
-use sb_abi::MAX_THREADS;
+use sb_abi::{MAX_FRAMES, MAX_PROCESSES, MAX_THREADS, MIN_FRAMES, WINDOW_BYTES, WINDOW_PAGES};
 
 /// The least and the greatest number that a field may have.
 #[derive(Clone, Copy, Debug, PartialEq, Eq)]
@@ -29,11 +29,14 @@ pub const CORES: Limits = Limits {
     most: MAX_THREADS as u32,
 };
 /// How many processes.
-pub const PROCESSES: Limits = Limits { least: 1, most: 16 };
+pub const PROCESSES: Limits = Limits {
+    least: 1,
+    most: MAX_PROCESSES as u32,
+};
 /// How many frames of 4,096 bytes: the kernels' 512 and at least one more.
 pub const FRAMES: Limits = Limits {
-    least: 513,
-    most: 8192,
+    least: MIN_FRAMES,
+    most: MAX_FRAMES,
 };
 /// How many key words.
 pub const KEYS: Limits = Limits {
@@ -48,15 +51,15 @@ pub const SCHEDULE: Limits = Limits {
 /// How many bytes in a text.
 pub const TEXT: Limits = Limits {
     least: 1,
-    most: 2_097_152,
+    most: WINDOW_BYTES as u32,
 };
 /// How many bytes of initial data in a process.
 pub const INITIAL: Limits = Limits {
     least: 0,
-    most: 2_097_152,
+    most: WINDOW_BYTES as u32,
 };
 /// How many heap pages of 4,096 bytes in a process.
 pub const HEAP: Limits = Limits {
     least: 0,
-    most: 512,
+    most: WINDOW_PAGES as u32,
 };

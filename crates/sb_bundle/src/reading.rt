@@ -246,10 +246,12 @@ fn read_whole(alloc: Global, bytes: &[u8]) -> Result<Bundle, BundleRefusal>
     Ok(bundle)
 }
 
-/// The bundle that the bytes spell, all of the bytes, or the first refusal in the order of fields.
+/// The bundle that the bytes spell, all of the bytes.
 ///
-/// Each field is judged as soon as it is whole, before any byte behind it is looked at. `Memory` may come in place of
-/// any answer.
+/// # Errors
+///
+/// The first refusal in the order of fields: each field is judged as soon as it is whole, before any byte behind it is
+/// looked at. `Memory` may come in place of any answer.
 pub fn read_bundle(alloc: Global, bytes: &[u8]) -> Result<Bundle, BundleRefusal>
     // What is read is a bundle, and the bytes are its spelling.
     ensures found { IfOk result (λ b. IsBundle b × (bytes.now ≡ spelling b)) }

@@ -59,7 +59,8 @@ pub trait Bus {
     fn store(&mut self, at: Linear, size: u8, value: u64) -> Result<(), BusStop>
         requires { IsSize size }
         ensures answer { result ≡ store_answer (byte_for (interface.byte (meaning self.old)) Write) at.0 size }
-        ensures written { meaning self.new ≡ where_stored result (interface.stored (meaning self.old) at.0 size value) (meaning self.old) }
+        ensures written { meaning self.new
+            ≡ where_stored result (interface.stored (meaning self.old) at.0 size value) (meaning self.old) }
         ensures account { account self.new ≡ interface.rule (StoreBytes at.0 size value) (meaning self.old) (account self.old) }
         ensures kept { kept self.new ≡ kept self.old };
 }

@@ -4,6 +4,7 @@ use Rattle.sb_abi.specs.declared.call.CallRefusal.{CallRefusal}
 use Rattle.sb_abi.specs.declared.call.CallRefusal.TheVariants.{InServer, Already, BadHandler, BadCount, NoFrames, NoServer, ListFull, NoKeys, BadPage, BadMode}
 use Rattle.sb_abi.specs.declared.frames.TheConstants.{BIND_FRAMES}
 use Rattle.sb_abi.specs.declared.space.TheConstants.{MAX_BINDINGS, MAX_STACKS, STACK_PAGES}
+use Rattle.sb_calls.specs.declared.refusals.TheConstants.{WRITE_MODE, EXECUTE_MODE}
 
 -- register, in a view: whether the process is a server already, whether an instruction starts at the handler, how many stacks
 -- are asked for, and how many frames are free
@@ -31,5 +32,5 @@ bind_refusal view home process registered bindings keys free =
 unfoldable pub protect_refusal : ℕ → ℕ → ℕ → Option CallRefusal
 protect_refusal count page mode =
     if nat_le count page then Some BadPage
-    else if (mode == 0) || (mode == 1) then None
+    else if (mode == WRITE_MODE) || (mode == EXECUTE_MODE) then None
     else Some BadMode

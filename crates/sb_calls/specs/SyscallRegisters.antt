@@ -7,11 +7,12 @@ use Rattle.sb_abi.specs.declared.trampoline.TheConstants.{RETURN_ADDRESS}
 use Rattle.sb_abi.specs.declared.call.CallStatus.TheVariants.{ServerFault}
 use Rattle.sb_abi.specs.Numbers.{status_number}
 use Rattle.sb_calls.specs.Views.{buffer_address}
+use Rattle.sb_calls.specs.declared.registers.TheConstants.{FIXED_FLAGS}
 
 -- SYSCALL puts the address of the next instruction into RCX, and the flags, with bits 1 and 9, into R11 (SDM volume 2, SYSCALL)
 abbrev pub after_syscall : ℕ → Regs → Regs
 after_syscall address regs = record {
-  general = slice_set (slice_set regs.general 1 address) 11 (flags_image regs.flags + 0x202);
+  general = slice_set (slice_set regs.general 1 address) 11 (flags_image regs.flags + FIXED_FLAGS);
   rip = address;
   flags = regs.flags;
 }

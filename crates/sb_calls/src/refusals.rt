@@ -1,6 +1,8 @@
 //! Why system calls are refused, in the order of docs/FORMATS.md.
 
 ghost use Rattle.std.specs.Prelude.{◌≡◌, ◌<◌, ◌≤◌, ◌*◌, None, true};
+ghost use Rattle.sb_abi.specs.declared.frames.TheConstants.{BIND_FRAMES};
+ghost use Rattle.sb_abi.specs.declared.space.TheConstants.{MAX_BINDINGS, MAX_STACKS, STACK_PAGES};
 ghost use Rattle.sb_calls.specs.Refusals.{bind_refusal, protect_refusal, register_refusal};
 
 use sb_abi::{BIND_FRAMES, CallRefusal, MAX_BINDINGS, MAX_STACKS, STACK_PAGES};
@@ -22,8 +24,8 @@ pub fn register_refusal(
     free: u32,
 ) -> Option<CallRefusal>
     ensures refusal { result ≡ register_refusal view registered start stacks free }
-    ensures stacks { result ≡ None → stacks ≤ 16 }
-    ensures frames { result ≡ None → 4 * stacks ≤ free }
+    ensures stacks { result ≡ None → stacks ≤ MAX_STACKS }
+    ensures frames { result ≡ None → STACK_PAGES * stacks ≤ free }
 {
     if view != 0 {
         Some(CallRefusal::InServer)
@@ -54,8 +56,8 @@ pub fn bind_refusal(
 ) -> Option<CallRefusal>
     ensures refusal { result ≡ bind_refusal view home process registered bindings keys free }
     ensures registered { result ≡ None → registered ≡ true }
-    ensures bindings { result ≡ None → bindings < 15 }
-    ensures frames { result ≡ None → 10 ≤ free }
+    ensures bindings { result ≡ None → bindings < MAX_BINDINGS }
+    ensures frames { result ≡ None → BIND_FRAMES ≤ free }
 {
     if view != 0 {
         Some(CallRefusal::InServer)

@@ -13,7 +13,7 @@ use Rattle.sb_insn.specs.OpcodeMap.{cell_of}
 use Rattle.sb_insn.specs.Spelling.{disp_bytes, imm_bytes}
 use Rattle.sb_insn.specs.Fields.{disp_kind_of, rule_of, imm_kind_of}
 use Rattle.sb_decode.specs.declared.lead.Lead.{Lead}
-use Rattle.sb_decode.specs.Reading.{Read, and_then}
+use Rattle.sb_decode.specs.Reading.{Read, field_pair}
 use Rattle.sb_decode.specs.FieldReaders.{modrm_at, sib_at, disp_at, imm_at}
 use Rattle.sb_decode.proofs.Reader.{Reads, both}
 use Rattle.sb_decode.proofs.Tail.{GoodDisp, GoodImm, disp_reads, imm_reads}
@@ -41,7 +41,7 @@ abbrev spell_end : Disp × Imm → List ℕ
 spell_end end = disp_bytes end.0 ++ imm_bytes end.1
 
 end_reads : (disp_kind : DispKind) (imm_kind : ImmKind)
-    → Reads (Disp × Imm) (GoodEnd disp_kind imm_kind) spell_end (and_then (disp_at disp_kind) (λ d. imm_at imm_kind))
+    → Reads (Disp × Imm) (GoodEnd disp_kind imm_kind) spell_end (field_pair (disp_at disp_kind) (λ d. imm_at imm_kind))
 end_reads disp_kind imm_kind =
     both Disp Imm (GoodDisp disp_kind) (λ d. GoodImm imm_kind) disp_bytes imm_bytes (disp_at disp_kind) (λ d. imm_at imm_kind)
     (disp_reads disp_kind) (λ d good. imm_reads imm_kind) (λ d good. some_imm imm_kind)
@@ -59,11 +59,11 @@ spell_behind behind = option_to_list behind.0 ++ spell_end behind.1
 
 behind_reads : (modrm : Option ℕ) (imm_kind : ImmKind)
     → Reads (Option ℕ × (Disp × Imm)) (GoodBehind modrm imm_kind) spell_behind
-    (and_then (sib_at modrm) (λ sib. and_then (disp_at (disp_kind_of modrm sib)) (λ d. imm_at imm_kind)))
+    (field_pair (sib_at modrm) (λ sib. field_pair (disp_at (disp_kind_of modrm sib)) (λ d. imm_at imm_kind)))
 behind_reads modrm imm_kind =
     both (Option ℕ) (Disp × Imm) (GoodSib modrm) (λ sib. GoodEnd (disp_kind_of modrm sib) imm_kind)
     (λ sib. option_to_list sib) spell_end
-    (sib_at modrm) (λ sib. and_then (disp_at (disp_kind_of modrm sib)) (λ d. imm_at imm_kind))
+    (sib_at modrm) (λ sib. field_pair (disp_at (disp_kind_of modrm sib)) (λ d. imm_at imm_kind))
     (sib_reads modrm) (λ sib good. end_reads (disp_kind_of modrm sib) imm_kind)
     (λ sib good. some_end (disp_kind_of modrm sib) imm_kind)
 
@@ -88,17 +88,17 @@ spell_rest rest = option_to_list rest.0 ++ spell_behind rest.1
 
 abbrev pub rest_at : Lead → List ℕ → Read Rest
 rest_at lead =
-    and_then (modrm_at (cell_of lead.op) lead.lock lead.rex)
-    (λ modrm. and_then (sib_at modrm)
-    (λ sib. and_then (disp_at (disp_kind_of modrm sib)) (λ d. imm_at (imm_kind_at lead modrm))))
+    field_pair (modrm_at (cell_of lead.op) lead.lock lead.rex)
+    (λ modrm. field_pair (sib_at modrm)
+    (λ sib. field_pair (disp_at (disp_kind_of modrm sib)) (λ d. imm_at (imm_kind_at lead modrm))))
 
 pub rest_reads : (lead : Lead) → GoodLead lead → Reads Rest (GoodRest lead) spell_rest (rest_at lead)
 rest_reads lead good =
     both (Option ℕ) (Option ℕ × (Disp × Imm)) (GoodModrm (cell_of lead.op) lead.lock lead.rex)
     (λ modrm. GoodBehind modrm (imm_kind_at lead modrm)) (λ modrm. option_to_list modrm) spell_behind
     (modrm_at (cell_of lead.op) lead.lock lead.rex)
-    (λ modrm. and_then (sib_at modrm)
-    (λ sib. and_then (disp_at (disp_kind_of modrm sib)) (λ d. imm_at (imm_kind_at lead modrm))))
+    (λ modrm. field_pair (sib_at modrm)
+    (λ sib. field_pair (disp_at (disp_kind_of modrm sib)) (λ d. imm_at (imm_kind_at lead modrm))))
     (modrm_reads (cell_of lead.op) lead.lock lead.rex good.takes)
     (λ modrm fits. behind_reads modrm (imm_kind_at lead modrm)) (λ modrm fits. some_behind modrm (imm_kind_at lead modrm))
 

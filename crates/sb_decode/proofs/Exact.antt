@@ -1,12 +1,11 @@
 -- The whole instruction is read exactly.
 use Rattle.std.proofs.Common.{◌≡◌, ℕ, ◌-◌, ◌<◌, ◌≤◌, List, [], ◌∷◌, ◌++◌, length, Result, Ok, Err, refl, sym, ap, subst, ◌∙◌, arith, length-append}
-use Rattle.std.specs.Option.{option_to_list}
 use Rattle.std.proofs.lemmas.List.{append-nil}
 use Rattle.sb_insn.specs.declared.insn.Insn.{Insn}
 use Rattle.sb_insn.specs.declared.insn.Op.{Op}
 use Rattle.sb_insn.specs.declared.insn.Op.TheVariants.{One, Two, Endbr, Vmfunc}
 use Rattle.sb_insn.specs.OpcodeMap.{cell_of}
-use Rattle.sb_insn.specs.Spelling.{lock_bytes, op_bytes, lead_bytes, disp_bytes, imm_bytes, spelling}
+use Rattle.sb_insn.specs.Spelling.{op_bytes, spelling}
 use Rattle.sb_insn.specs.Grammar.{IsValid, BeginsWith, IsShort, IsUndecoded}
 use Rattle.sb_insn.proofs.Longest.{spelling_13}
 use Rattle.sb_decode.specs.declared.fault.DecodeFault.{DecodeFault}
@@ -147,22 +146,15 @@ op_some (Two opcode) = omega arith
 op_some Endbr = omega arith
 op_some Vmfunc = omega arith
 
-spelling_some : (insn : Insn) → 0 < length (spelling insn)
-spelling_some insn =
-    omega (
-      arith,
-      op_some insn.op,
-      length-append (lead_bytes insn.lock insn.rex insn.op)
-          (option_to_list insn.modrm ++ (option_to_list insn.sib ++ (disp_bytes insn.disp ++ imm_bytes insn.imm))),
-      length-append (lock_bytes insn.lock) (option_to_list insn.rex ++ op_bytes insn.op),
-      length-append (option_to_list insn.rex) (op_bytes insn.op),
-    )
+-- an instruction has a byte: its opcode
+pub some_spelling : (insn : Insn) → 0 < length (spelling insn)
+some_spelling insn = simp length-append (omega (arith, op_some insn.op))
 
 pub found_some : (bytes : List ℕ) (insn : Insn) (rest : List ℕ) → IsBytes bytes
     → from_parts (parts_at bytes) ≡ Ok (insn, rest) → 0 < length bytes - length rest
 found_some bytes insn rest fits e =
     let f = found bytes insn rest fits e in
-    omega (arith, spelling_some insn, ap (λ (t : List ℕ). length t) f.1, length-append (spelling insn) rest)
+    omega (arith, some_spelling insn, ap (λ (t : List ℕ). length t) f.1, length-append (spelling insn) rest)
 
 short_13_by : (bytes more : List ℕ) (insn : Insn) → IsValid insn → (BeginsWith bytes insn → ⊥) → bytes ++ more ≡ spelling insn
     → length bytes < 13

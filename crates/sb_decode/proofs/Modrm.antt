@@ -11,7 +11,7 @@ use Rattle.sb_insn.specs.declared.opcode_map.Group.TheVariants.{Group1, Group2, 
 use Rattle.sb_insn.specs.declared.opcode_map.RmRule.{RmRule}
 use Rattle.sb_insn.specs.declared.opcode_map.RmRule.TheVariants as rm_rule
 use Rattle.sb_insn.specs.Groups.{extended_by, extensions, group_operand}
-use Rattle.sb_insn.specs.Fields.{is_modrm_field, permits, some_permits, stands_alone, reg_field}
+use Rattle.sb_insn.specs.Fields.{is_modrm_field, modrm_opcode_permits, some_permits, stands_alone, reg_field}
 use Rattle.sb_insn.specs.Grammar.{IsByte}
 use Rattle.sb_insn.proofs.Rows.{some_holds, extended}
 use Rattle.sb_decode.specs.declared.fault.DecodeFault.TheVariants.{Short, Undecoded}
@@ -95,8 +95,8 @@ modrm_final cell lock rex false (byte ∷ behind) more e =
 
 -- memory
 some_rm : (rm : RmRule) (operand : ModRmOpcode) (lock : Bool) (rex : Option ℕ) → operand.rm ≡ rm
-    → (not lock || operand.lock) ≡ true → permits operand lock rex 0 ≡ true
-unfolding permits
+    → (not lock || operand.lock) ≡ true → modrm_opcode_permits operand lock rex 0 ≡ true
+unfolding modrm_opcode_permits
 some_rm rm_rule.Any operand lock rex is e = grind arith
 some_rm rm_rule.Memory operand lock rex is e = grind arith
 
@@ -104,7 +104,7 @@ some_rm rm_rule.Memory operand lock rex is e = grind arith
 some_group : (group : Group) (form : OperandForm) (imm : ImmRule) (lock : Bool) (rex : Option ℕ)
     → takes_prefixes (Extended group form imm) lock rex ≡ true
     → (modrm : Option ℕ) × GoodModrm (Extended group form imm) lock rex modrm
-unfolding group_operand permits
+unfolding group_operand modrm_opcode_permits
 some_group Group1 form imm true rex e = (Some 0x00, (grind arith, lit< tt))
 some_group Group1 form imm false rex e = (Some 0x00, (grind arith, lit< tt))
 some_group Group2 form imm true rex e = absurd cc
@@ -149,9 +149,10 @@ modrm_reads cell lock rex takes = record {
 
 -- ---- where a ModRM field is permitted, the opcode takes the prefixes
 
-permits_lock : (operand : ModRmOpcode) (lock : Bool) (rex : Option ℕ) (modrm : ℕ) → permits operand lock rex modrm ≡ true
+permits_lock : (operand : ModRmOpcode) (lock : Bool) (rex : Option ℕ) (modrm : ℕ)
+    → modrm_opcode_permits operand lock rex modrm ≡ true
     → (not lock || operand.lock) ≡ true
-unfolding permits
+unfolding modrm_opcode_permits
 permits_lock operand lock rex modrm e = grind arith
 
 -- an operand without LOCK permits none

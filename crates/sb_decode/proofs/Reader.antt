@@ -2,7 +2,7 @@
 use Rattle.std.proofs.Common.{◌≡◌, ◌⊎◌, inl, inr, ℕ, suc, ◌<◌, Bool, true, false, cond, List, [], ◌∷◌, ◌++◌, get_or, Result, Ok, Err, refl, sym, ap, subst, ◌∙◌, append_assoc}
 use Rattle.sb_decode.specs.declared.fault.DecodeFault.{DecodeFault}
 use Rattle.sb_decode.specs.declared.fault.DecodeFault.TheVariants.{Short, Undecoded}
-use Rattle.sb_decode.specs.Reading.{◌>>=◌, Read, and_then}
+use Rattle.sb_decode.specs.Reading.{◌>>=◌, Read, field_pair}
 
 -- each is below 256
 abbrev pub IsBytes : List ℕ → Type 0
@@ -56,7 +56,7 @@ ok_is x y e = cc
 then_takes : (First Second : Type 0) (GoodFirst : First → Type 0) (GoodSecond : First → Second → Type 0) (spell_first : First
     → List ℕ) (spell_second : Second → List ℕ) (read : List ℕ → Read First) (next : First → List ℕ → Read Second)
     → Reads First GoodFirst spell_first read → ((a : First) → GoodFirst a → Reads Second (GoodSecond a) spell_second (next a))
-    → (bytes : List ℕ) (p : First × Second) (rest : List ℕ) → IsBytes bytes → and_then read next bytes ≡ Ok (p, rest)
+    → (bytes : List ℕ) (p : First × Second) (rest : List ℕ) → IsBytes bytes → field_pair read next bytes ≡ Ok (p, rest)
     → (GoodFirst p.0 × GoodSecond p.0 p.1) × (bytes ≡ (spell_first p.0 ++ spell_second p.1) ++ rest)
 then_takes First Second GoodFirst GoodSecond spell_first spell_second read next first_reads next_reads bytes p rest fits e =
     let a = bind_ok (read bytes) (λ x. next x.0 x.1 >>= λ y. Ok ((x.0, y.0), y.1)) (p, rest) e in
@@ -75,17 +75,17 @@ then_again : (First Second : Type 0) (GoodFirst : First → Type 0) (GoodSecond 
     → List ℕ) (spell_second : Second → List ℕ) (read : List ℕ → Read First) (next : First → List ℕ → Read Second)
     → Reads First GoodFirst spell_first read → ((a : First) → GoodFirst a → Reads Second (GoodSecond a) spell_second (next a))
     → (p : First × Second) (rest : List ℕ) → GoodFirst p.0 × GoodSecond p.0 p.1
-    → and_then read next ((spell_first p.0 ++ spell_second p.1) ++ rest) ≡ Ok (p, rest)
+    → field_pair read next ((spell_first p.0 ++ spell_second p.1) ++ rest) ≡ Ok (p, rest)
 then_again First Second GoodFirst GoodSecond spell_first spell_second read next first_reads next_reads p rest good =
     let first = first_reads.again p.0 (spell_second p.1 ++ rest) good.0 in
     let second = (next_reads p.0 good.0).again p.1 rest good.1 in
-    ap (λ (t : List ℕ). and_then read next t) (append_assoc (spell_first p.0) (spell_second p.1) rest) ∙ rw (first, second) refl
+    ap (λ (t : List ℕ). field_pair read next t) (append_assoc (spell_first p.0) (spell_second p.1) rest) ∙ rw (first, second) refl
 
 then_final : (First Second : Type 0) (GoodFirst : First → Type 0) (GoodSecond : First → Second → Type 0) (spell_first : First
     → List ℕ) (spell_second : Second → List ℕ) (read : List ℕ → Read First) (next : First → List ℕ → Read Second)
     → Reads First GoodFirst spell_first read → ((a : First) → GoodFirst a → Reads Second (GoodSecond a) spell_second (next a))
-    → (bytes more : List ℕ) → IsBytes bytes → and_then read next bytes ≡ Err Undecoded
-    → and_then read next (bytes ++ more) ≡ Err Undecoded
+    → (bytes more : List ℕ) → IsBytes bytes → field_pair read next bytes ≡ Err Undecoded
+    → field_pair read next (bytes ++ more) ≡ Err Undecoded
 then_final First Second GoodFirst GoodSecond spell_first spell_second read next first_reads next_reads bytes more fits e =
     elim (bind_err (read bytes) (λ x. next x.0 x.1 >>= λ y. Ok ((x.0, y.0), y.1)) Undecoded e) [
       | inl e1 ↦ let still = first_reads.final bytes more fits e1 in rw still refl
@@ -96,7 +96,7 @@ then_final First Second GoodFirst GoodSecond spell_first spell_second read next 
           let longer : bytes ++ more ≡ spell_first a.0.0 ++ (a.0.1 ++ more) =
           ap (λ (t : List ℕ). t ++ more) first.1 ∙ append_assoc (spell_first a.0.0) a.0.1 more in
           let again = first_reads.again a.0.0 (a.0.1 ++ more) first.0 in
-          ap (λ (t : List ℕ). and_then read next t) longer
+          ap (λ (t : List ℕ). field_pair read next t) longer
           ∙ elim (bind_err (next a.0.0 a.0.1) (λ y. Ok ((a.0.0, y.0), y.1)) Undecoded a.2) [
             | inl e1 ↦ let still = (next_reads a.0.0 first.0).final a.0.1 more fits_rest e1 in rw (again, still) refl
             | inr b ↦ absurd (cc (b.2))
@@ -107,7 +107,7 @@ then_opens : (First Second : Type 0) (GoodFirst : First → Type 0) (GoodSecond 
     → List ℕ) (spell_second : Second → List ℕ) (read : List ℕ → Read First) (next : First → List ℕ → Read Second)
     → Reads First GoodFirst spell_first read → ((a : First) → GoodFirst a → Reads Second (GoodSecond a) spell_second (next a))
     → ((a : First) → GoodFirst a → (b : Second) × GoodSecond a b)
-    → (bytes : List ℕ) → IsBytes bytes → and_then read next bytes ≡ Err Short
+    → (bytes : List ℕ) → IsBytes bytes → field_pair read next bytes ≡ Err Short
     → (more : List ℕ) × (p : First × Second) × (GoodFirst p.0 × GoodSecond p.0 p.1)
     × (bytes ++ more ≡ spell_first p.0 ++ spell_second p.1)
 then_opens First Second GoodFirst GoodSecond spell_first spell_second read next first_reads next_reads some bytes fits e =
@@ -143,7 +143,7 @@ pub both : (First Second : Type 0) (GoodFirst : First → Type 0) (GoodSecond : 
     → Reads First GoodFirst spell_first read → ((a : First) → GoodFirst a → Reads Second (GoodSecond a) spell_second (next a))
     → ((a : First) → GoodFirst a → (b : Second) × GoodSecond a b)
     → Reads (First × Second) (λ p. GoodFirst p.0 × GoodSecond p.0 p.1) (λ p. spell_first p.0 ++ spell_second p.1)
-    (and_then read next)
+    (field_pair read next)
 both First Second GoodFirst GoodSecond spell_first spell_second read next first_reads next_reads some = record {
   takes = then_takes First Second GoodFirst GoodSecond spell_first spell_second read next first_reads next_reads;
   again = then_again First Second GoodFirst GoodSecond spell_first spell_second read next first_reads next_reads;

@@ -1,15 +1,12 @@
 -- SIB is read exactly.
 use Rattle.std.proofs.Common.{◌≡◌, ℕ, lit<, ◌<◌, Bool, true, false, cond, not, List, [], ◌∷◌, ◌++◌, Option, Some, None, Ok, Err, refl, ap, subst}
+use Rattle.std.proofs.lemmas.Bool.{not-true}
 use Rattle.std.specs.Option.{option_to_list}
 use Rattle.sb_insn.specs.Fields.{is_sib_field, wants_sib}
 use Rattle.sb_insn.specs.Grammar.{IsByte}
 use Rattle.sb_decode.specs.declared.fault.DecodeFault.TheVariants.{Short, Undecoded}
 use Rattle.sb_decode.specs.FieldReaders.{sib_at, any_byte}
 use Rattle.sb_decode.proofs.Reader.{IsBytes, Reads, ok_is}
-
-not_true : (b : Bool) → not b ≡ true → b ≡ false
-not_true true e = absurd cc
-not_true false e = refl
 
 abbrev pub GoodSib : Option ℕ → Option ℕ → Type 0
 GoodSib modrm sib = (is_sib_field modrm sib ≡ true) × IsByte sib
@@ -30,7 +27,7 @@ sib_takes modrm false w bytes sib rest fits e =
 sib_again : (modrm sib : Option ℕ) (rest : List ℕ) → GoodSib modrm sib
     → sib_at modrm (option_to_list sib ++ rest) ≡ Ok (sib, rest)
 unfolding sib_at
-sib_again modrm None rest good = let none : wants_sib modrm ≡ false = not_true _ good.0 in rw none refl
+sib_again modrm None rest good = let none : wants_sib modrm ≡ false = not-true _ good.0 in rw none refl
 sib_again modrm (Some sib) rest good = let some : wants_sib modrm ≡ true = good.0 in rw some refl
 
 sib_final : (modrm : Option ℕ) (wanted : Bool) (bytes : List ℕ)

@@ -6,7 +6,7 @@ use Rattle.sb_insn.specs.declared.insn.Imm.{Imm}
 use Rattle.sb_insn.specs.OpcodeMap.{cell_of}
 use Rattle.sb_insn.specs.Fields.{disp_kind_of, rule_of, imm_kind_of}
 use Rattle.sb_decode.specs.declared.lead.Lead.{Lead}
-use Rattle.sb_decode.specs.Reading.{Read, and_then}
+use Rattle.sb_decode.specs.Reading.{Read, field_pair}
 use Rattle.sb_decode.specs.LeadReader.{lead_at}
 use Rattle.sb_decode.specs.FieldReaders.{modrm_at, sib_at, disp_at, imm_at}
 
@@ -28,10 +28,10 @@ insn_of parts =
 
 unfoldable pub parts_at : List ℕ → Read Parts
 parts_at =
-    and_then lead_at (λ lead.
-    and_then (modrm_at (cell_of lead.op) lead.lock lead.rex) (λ modrm.
-    and_then (sib_at modrm) (λ sib.
-    and_then (disp_at (disp_kind_of modrm sib)) (λ disp.
+    field_pair lead_at (λ lead.
+    field_pair (modrm_at (cell_of lead.op) lead.lock lead.rex) (λ modrm.
+    field_pair (sib_at modrm) (λ sib.
+    field_pair (disp_at (disp_kind_of modrm sib)) (λ disp.
     imm_at (imm_kind_of (rule_of (cell_of lead.op) modrm) lead.rex)))))
 
 abbrev pub from_parts : Read Parts → Read Insn

@@ -35,7 +35,7 @@ abbrev pub ◌>>=◌ : {First Second : Type 0} → Result First DecodeFault → 
 (Ok got) >>= next = next got
 (Err fault) >>= next = Err fault
 
--- one field, and then one that it decides
-abbrev pub and_then : {First Second : Type 0} → (List ℕ → Read First) → (First → List ℕ → Read Second) → List ℕ
+-- one field, and behind it one that the first decides
+abbrev pub field_pair : {First Second : Type 0} → (List ℕ → Read First) → (First → List ℕ → Read Second) → List ℕ
     → Read (First × Second)
-and_then read next bytes = read bytes >>= λ first. next first.0 first.1 >>= λ second. Ok ((first.0, second.0), second.1)
+field_pair read next bytes = read bytes >>= λ first. next first.0 first.1 >>= λ second. Ok ((first.0, second.0), second.1)

@@ -14,7 +14,7 @@ const WRITABLE: u32 = 1;
 const EXECUTABLE: u32 = 2;
 
 /// Whether an entry permits an access.
-fn permits(access: Access, entry: u64) -> bool
+fn ept_permits(access: Access, entry: u64) -> bool
     ensures { result ≡ ept_permits access entry }
 {
     match access {
@@ -58,7 +58,7 @@ pub fn judge(frames: u32, access: Access, level: u8, entry: u64) -> Result<u64, 
     if next >= u64::from(frames) {
         return Err(EptStop::Outside { level });
     }
-    if !permits(access, entry) {
+    if !ept_permits(access, entry) {
         return Err(EptStop::Denied { level });
     }
     Ok(next)

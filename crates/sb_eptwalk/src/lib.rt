@@ -1,9 +1,9 @@
 //! The walk through the extended page tables (SDM volume 3, section 28.3).
 //!
-//! Inside: `is_eptp`, the test of an EPT pointer, which is that of `sb_walks`; and `ept_walk`, which is exactly the walk of the definitions in `sb_walks`
-//! over any physical memory: four levels, the rights judged at each of them. Its contract says which words it reads, in which
-//! order, by the memory's account. Not inside: how an EPT is built, large pages, five levels, accessed and dirty flags, and
-//! caches of translations.
+//! Inside: `is_eptp`, the test of an EPT pointer, which is that of `sb_walks`; and `ept_walk`, which is exactly the walk of the
+//! definitions in `sb_walks` over any physical memory: four levels, the rights judged at each of them. Its contract says which
+//! words it reads, in which order, by the memory's account. Not inside: how an EPT is built, large pages, five levels, accessed
+//! and dirty flags, and caches of translations.
 //!
 //! ```text
 //! is_eptp(0x501E)                                                // the table in frame 5, memory type 6, four levels

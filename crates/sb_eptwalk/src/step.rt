@@ -26,7 +26,8 @@ fn step<P: Phys>(
     ensures inside { IfOk result (λ next. next < frame_count (P.meaning phys.old)) }
     ensures range { IfOk result (λ next. next < 2 ^ 32) }
     ensures same { P.meaning phys.new ≡ P.meaning phys.old }
-    ensures account { P.account phys.new ≡ P.rule (ReadWord (entry_place frame level at)) (P.meaning phys.old) (P.account phys.old) }
+    ensures account { P.account phys.new
+        ≡ P.rule (ReadWord (entry_place frame level at)) (P.meaning phys.old) (P.account phys.old) }
     ensures kept { P.kept phys.new ≡ P.kept phys.old }
 {
     let frames = phys.frames();
@@ -37,6 +38,8 @@ fn step<P: Phys>(
 }
 
 /// The physical address of a guest-physical one for an access, from the table to which an EPT pointer leads.
+///
+/// # Errors
 ///
 /// `TooWide` comes exactly where the address has more than 48 bits. Then, at each level from 4 to 1, the first that applies
 /// of: `Missing`, the memory does not have the frame of the table; `NotPresent`, the entry permits nothing; `Misconfigured`,
@@ -55,7 +58,9 @@ pub fn ept_walk<P: Phys>(
     ensures inside { IfOk result (λ place. place.0 < PAGE_SIZE * frame_count (P.meaning phys.old)) }
     ensures offset { IfOk result (λ place. place.0 % PAGE_SIZE ≡ at.0 % PAGE_SIZE) }
     ensures same { P.meaning phys.new ≡ P.meaning phys.old }
-    ensures account { P.account phys.new ≡ account_after_words P.rule (P.meaning phys.old) (ept_walk_reads (P.meaning phys.old) eptp at.0 access) (P.account phys.old) }
+    ensures account { P.account phys.new
+        ≡ account_after_words P.rule (P.meaning phys.old) (ept_walk_reads (P.meaning phys.old) eptp at.0 access)
+        (P.account phys.old) }
     ensures kept { P.kept phys.new ≡ P.kept phys.old }
 {
     if at.0 >> 48 != 0 {

@@ -10,14 +10,14 @@ use Rattle.sb_exec.specs.declared.action.Load.{Load}
 use Rattle.sb_exec.specs.declared.action.Load.TheVariants as load
 use Rattle.sb_exec.specs.declared.action.Store.{Store}
 use Rattle.sb_exec.specs.declared.action.Store.TheVariants as store
-use Rattle.sb_exec.specs.declared.action.After.{After}
+use Rattle.sb_exec.specs.declared.action.RowResult.{RowResult}
 use Rattle.sb_bus.specs.Interface.{Interface}
 use Rattle.sb_exec.specs.Row.{Row, accesses, store_accesses}
 use Rattle.sb_exec.specs.Execution.{Execution, execution_of, execution_by, run, run_on}
 use Rattle.sb_exec.specs.LoadThenStore.{load_then_store, store_after_load, effect_if, registers_if, row_load_answer, row_load_account, row_without_store}
 
 -- the row of these parts
-abbrev pub row_from : Load → Store → (ℕ → After) → Effect → Row
+abbrev pub row_from : Load → Store → (ℕ → RowResult) → Effect → Row
 row_from first last after effect = record { load = first; store = last; after = after; effect = effect }
 
 -- what is left after a store that gave this answer
@@ -38,7 +38,7 @@ at_runs bus row regs meaning account loaded (Err stop) = refl
 
 -- after the load, which gave this number
 store_runs : {M A : Type 0} (bus : Interface M A) (first : Load) (last : Store) (after : ℕ
-    → After) (effect : Effect) (regs : Regs) (meaning : M) (account : A) (loaded : ℕ)
+    → RowResult) (effect : Effect) (regs : Regs) (meaning : M) (account : A) (loaded : ℕ)
     → store_after_load bus (row_from first last after effect) regs meaning account (Ok loaded)
     ≡ execution_by (row_from first last after effect) regs (run bus (store_accesses last after) meaning account loaded)
 store_runs bus first store.Nothing after effect regs meaning account loaded = refl
@@ -47,7 +47,7 @@ store_runs bus first (store.At address size) after effect regs meaning account l
 
 -- the load gave this answer
 load_runs : {M A : Type 0} (bus : Interface M A) (first : Load) (last : Store) (after : ℕ
-    → After) (effect : Effect) (regs : Regs) (meaning : M) (account : A)
+    → RowResult) (effect : Effect) (regs : Regs) (meaning : M) (account : A)
     (answer : Result ℕ BusStop)
     → store_after_load bus (row_from first last after effect) regs meaning account answer
     ≡ execution_by (row_from first last after effect) regs (run_on (run bus (store_accesses last after)) answer meaning account)
@@ -56,7 +56,7 @@ load_runs bus first last after effect regs meaning account (Ok loaded) =
 load_runs bus first last after effect regs meaning account (Err stop) = refl
 
 parts_run : {M A : Type 0} (bus : Interface M A) (first : Load) (last : Store) (after : ℕ
-    → After) (effect : Effect) (regs : Regs) (meaning : M) (account : A)
+    → RowResult) (effect : Effect) (regs : Regs) (meaning : M) (account : A)
     → load_then_store bus (row_from first last after effect) regs meaning account
     ≡ execution_by (row_from first last after effect) regs
     (run bus (accesses (row_from first last after effect)) meaning account 0)

@@ -8,7 +8,7 @@ use Rattle.sb_exec.specs.declared.action.Effect.TheVariants.{Next}
 use Rattle.sb_exec.specs.declared.action.Load.{Load}
 use Rattle.sb_exec.specs.declared.action.Store.{Store}
 use Rattle.sb_exec.specs.declared.action.Store.TheVariants as store
-use Rattle.sb_exec.specs.declared.action.After.{After}
+use Rattle.sb_exec.specs.declared.action.RowResult.{RowResult}
 use Rattle.sb_exec.specs.declared.action.Action.{Action}
 use Rattle.sb_exec.specs.declared.action.Action.TheVariants.{Compute, ZeroExtend, LoadAddress, Exchange, Push, Pop, Return, Jump, JumpIf, Call, Pass, Stop}
 use Rattle.sb_bus.specs.Interface.{Interface}
@@ -35,11 +35,11 @@ next_meaning (Ok stored) new old other = absurd (other refl)
 next_meaning (Err stop) new old other = refl
 
 -- the row of these parts that ends in Next
-abbrev next_row : Load → Store → (ℕ → After) → Row
+abbrev next_row : Load → Store → (ℕ → RowResult) → Row
 next_row first last after = row_from first last after Next
 
 left_stored : {M A : Type 0} (bus : Interface M A) (first : Load) (last : Store) (after : ℕ
-    → After) (regs : Regs) (meaning : M) (account : A) (loaded : ℕ)
+    → RowResult) (regs : Regs) (meaning : M) (account : A) (loaded : ℕ)
     → (store_after_load bus (next_row first last after) regs meaning account (Ok loaded)).answer ≢ Ok Next
     → IsLeft (store_after_load bus (next_row first last after) regs meaning account (Ok loaded)) regs meaning
 left_stored bus first store.Nothing after regs meaning account loaded other = absurd (other refl)
@@ -47,7 +47,7 @@ left_stored bus first (store.At address size) after regs meaning account loaded 
     (next_regs _ _ _ other, next_meaning _ _ _ other)
 
 left_loaded : {M A : Type 0} (bus : Interface M A) (first : Load) (last : Store) (after : ℕ
-    → After) (regs : Regs) (meaning : M) (account : A) (answer : Result ℕ BusStop)
+    → RowResult) (regs : Regs) (meaning : M) (account : A) (answer : Result ℕ BusStop)
     → (store_after_load bus (next_row first last after) regs meaning account answer).answer ≢ Ok Next
     → IsLeft (store_after_load bus (next_row first last after) regs meaning account answer) regs meaning
 left_loaded bus first last after regs meaning account (Ok loaded) other =
@@ -55,7 +55,7 @@ left_loaded bus first last after regs meaning account (Ok loaded) other =
 left_loaded bus first last after regs meaning account (Err stop) other = (refl, refl)
 
 left_next : {M A : Type 0} (bus : Interface M A) (first : Load) (last : Store) (after : ℕ
-    → After) (regs : Regs) (meaning : M) (account : A)
+    → RowResult) (regs : Regs) (meaning : M) (account : A)
     → (load_then_store bus (next_row first last after) regs meaning account).answer ≢ Ok Next
     → IsLeft (load_then_store bus (next_row first last after) regs meaning account) regs meaning
 unfolding load_then_store

@@ -8,11 +8,11 @@ use Rattle.sb_alu.specs.declared.size.Size.{Size}
 use Rattle.sb_alu.specs.declared.size.Size.TheVariants.{Byte, Doubleword, Quadword}
 use Rattle.sb_alu.specs.declared.operation.Operation.{Operation}
 use Rattle.sb_alu.specs.declared.operation.Operation.TheVariants as operation
-use Rattle.sb_alu.specs.declared.operation.Outcome.{Outcome}
+use Rattle.sb_alu.specs.declared.operation.OperationOutcome.{OperationOutcome}
 use Rattle.sb_alu.specs.Size.{modulus, width, low}
 use Rattle.sb_alu.specs.Arithmetic.{signed_value, sum_outcome, difference_outcome, logic_outcome, product_outcome}
 use Rattle.sb_alu.specs.Shift.{shift_count, sar, shl_outcome, shr_outcome, sar_outcome}
-use Rattle.sb_alu.specs.Operated.{bsf_outcome, operation_outcome}
+use Rattle.sb_alu.specs.Outcome.{bsf_outcome, operation_outcome}
 
 -- ---- numbers of a size
 
@@ -65,7 +65,7 @@ abbrev pub IsWordIfAny : Option ℕ → Type 0
 IsWordIfAny None = Unit {0}
 IsWordIfAny (Some value) = value < 2 ^ 64
 
-either_word : (test : Bool) (first second : Outcome) → IsWordIfAny first.value → IsWordIfAny second.value
+either_word : (test : Bool) (first second : OperationOutcome) → IsWordIfAny first.value → IsWordIfAny second.value
     → IsWordIfAny (if test then first else second).value
 either_word true first second one two = one
 either_word false first second one two = two
@@ -91,7 +91,7 @@ unfolding bsf_outcome
 bsf_word value flags =
     let few = trailing_le 64 value in some_or_none (value == 0) (trailing_zeros w64 value) (omega (arith, few))
 
-shift_word : (count value : ℕ) (flags : Flags) (outcome : Outcome) → value < 2 ^ 64 → IsWordIfAny outcome.value
+shift_word : (count value : ℕ) (flags : Flags) (outcome : OperationOutcome) → value < 2 ^ 64 → IsWordIfAny outcome.value
     → IsWordIfAny (if count == 0 then record { value = Some value; flags = flags } else outcome).value
 shift_word count value flags outcome word shifted =
     either_word (count == 0) (record { value = Some value; flags = flags }) outcome word shifted

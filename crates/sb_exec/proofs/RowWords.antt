@@ -18,7 +18,7 @@ use Rattle.sb_alu.specs.declared.size.Size.TheVariants.{Byte, Doubleword, Quadwo
 use Rattle.sb_alu.specs.declared.operation.Operation.{Operation}
 use Rattle.sb_alu.specs.Size.{size_bytes}
 use Rattle.sb_alu.specs.Arithmetic.{sum_outcome, difference_outcome, sum_of}
-use Rattle.sb_alu.specs.Operated.{operation_outcome}
+use Rattle.sb_alu.specs.Outcome.{operation_outcome}
 use Rattle.sb_bus.specs.declared.stop.BusStop.{BusStop}
 use Rattle.sb_bus.specs.Interface.{Interface}
 use Rattle.sb_bus.specs.Access.{bytes_from, number_of, loaded_from, store_answer, byte_for, byte_for_write}
@@ -28,15 +28,16 @@ use Rattle.sb_exec.specs.declared.action.Exchange.{Exchange as ExchangeKind}
 use Rattle.sb_exec.specs.declared.action.Exchange.TheVariants as exchange
 use Rattle.sb_exec.specs.declared.action.Location.{Location}
 use Rattle.sb_exec.specs.declared.action.Location.TheVariants.{Register, Memory}
-use Rattle.sb_exec.specs.declared.action.After.{After}
+use Rattle.sb_exec.specs.declared.action.RowResult.{RowResult}
 use Rattle.sb_exec.specs.declared.action.Load.{Load}
 use Rattle.sb_exec.specs.declared.action.Load.TheVariants as load
 use Rattle.sb_exec.specs.declared.action.Store.{Store}
 use Rattle.sb_exec.specs.declared.action.Store.TheVariants as store
-use Rattle.sb_exec.specs.Operand.{general, register_value, register_after_write, with_register, operand_value, reg_number, opcode_number, next_rip}
+use Rattle.sb_exec.specs.Operand.{general, register_value, register_after_write, with_register, operand_value, next_rip}
+use Rattle.sb_insn.specs.RegisterNumbers.{reg_number, opcode_number}
 use Rattle.sb_exec.specs.Address.{rm_location, operand_address, base_value, disp_value}
 use Rattle.sb_exec.specs.WriteBack.{regs_at_next, with_flags, write_result, rm_value, destination, first_operand, last_operand, result_or_nothing, compute_result}
-use Rattle.sb_exec.specs.Exchanged.{xchg_result, cmpxchg_unequal, cmpxchg_result, exchange_of}
+use Rattle.sb_exec.specs.Exchange.{xchg_result, cmpxchg_unequal, cmpxchg_result, exchange_of}
 use Rattle.sb_exec.specs.Branch.{rsp_after_push, regs_after_push, regs_after_pop, at_rip, target_of, regs_after_jcc, condition}
 use Rattle.sb_exec.specs.Row.{Row, accesses, load_accesses, store_accesses}
 use Rattle.sb_exec.specs.Rows.{after_action, row_of}
@@ -137,7 +138,8 @@ last_word form.Imm size insn regs loaded = low_word size (imm_value insn.imm)
 last_word form.Relative size insn regs loaded = low_word size ((next_rip insn regs + imm_value insn.imm) % 2 ^ 64)
 last_word form.Nothing size insn regs loaded = omega arith
 
-address_word : (insn : Insn) (regs : Regs) → operand_address insn regs < 2 ^ 64
+-- an address is a word
+pub address_word : (insn : Insn) (regs : Regs) → operand_address insn regs < 2 ^ 64
 unfolding operand_address
 address_word insn regs = rest_word Quadword (base_value insn regs + disp_value insn.disp)
 
@@ -178,7 +180,7 @@ unequal_words : (size : Size) (place : Location) (old : ℕ) (regs : Regs) → A
 unequal_words size (Register number) old regs are one = register_words size RAX old regs are one
 unequal_words size (Memory address) old regs are one = register_words size RAX old regs are one
 
-either_words : (test : Bool) (first second : After) → AreWords first.regs → AreWords second.regs
+either_words : (test : Bool) (first second : RowResult) → AreWords first.regs → AreWords second.regs
     → AreWords (if test then first else second).regs
 either_words true first second one two = one
 either_words false first second one two = two
@@ -214,7 +216,8 @@ pop_words : (regs : Regs) → AreWords regs → AreWords (regs_after_pop regs)
 pop_words regs are =
     register_words Quadword RSP ((general regs RSP + 8) % 2 ^ 64) regs are (rest_word Quadword (general regs RSP + 8))
 
-either_number : (test : Bool) (first second : ℕ) → first < 2 ^ 64 → second < 2 ^ 64
+-- of two words, the one that a test chooses is a word
+pub either_number : (test : Bool) (first second : ℕ) → first < 2 ^ 64 → second < 2 ^ 64
     → (if test then first else second) < 2 ^ 64
 either_number true first second one two = one
 either_number false first second one two = two
@@ -325,20 +328,20 @@ ended_word : {M A : Type 0} (answer : Result ℕ BusStop) (bus : Interface M A) 
 ended_word (Ok loaded) bus meaning account word = word
 ended_word (Err stop) bus meaning account word = tt
 
-store_word : {M A : Type 0} (bus : Interface M A) (last : Store) (after : ℕ → After) (meaning : M) (account : A) (loaded : ℕ)
+store_word : {M A : Type 0} (bus : Interface M A) (last : Store) (after : ℕ → RowResult) (meaning : M) (account : A) (loaded : ℕ)
     → loaded < 2 ^ 64 → IsWordIfOk (run bus (store_accesses last after) meaning account loaded).answer
 store_word bus store.Nothing after meaning account loaded word = word
 store_word bus (store.At address size) after meaning account loaded word =
     ended_word (and_then (store_answer (byte_for (bus.byte meaning) Write) address.0 (size_bytes size)) (λ _. Ok loaded)) bus _ _
     (stored_word (store_answer (byte_for (bus.byte meaning) Write) address.0 (size_bytes size)) loaded word)
 
-then_word : {M A : Type 0} (bus : Interface M A) (answer : Result ℕ BusStop) (last : Store) (after : ℕ → After) (meaning : M)
+then_word : {M A : Type 0} (bus : Interface M A) (answer : Result ℕ BusStop) (last : Store) (after : ℕ → RowResult) (meaning : M)
     (account : A)
     → IsWordIfOk answer → IsWordIfOk (run_on (run bus (store_accesses last after)) answer meaning account).answer
 then_word bus (Ok loaded) last after meaning account word = store_word bus last after meaning account loaded word
 then_word bus (Err stop) last after meaning account word = tt
 
-run_word : {M A : Type 0} (bus : Interface M A) (first : Load) (last : Store) (after : ℕ → After) (meaning : M) (account : A)
+run_word : {M A : Type 0} (bus : Interface M A) (first : Load) (last : Store) (after : ℕ → RowResult) (meaning : M) (account : A)
     → GivesBytes bus meaning
     → IsWordIfOk (run bus (load_accesses first ++ store_accesses last after) meaning account 0).answer
 run_word bus load.Nothing last after meaning account bytes = store_word bus last after meaning account 0 (omega arith)

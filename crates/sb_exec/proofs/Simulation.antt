@@ -12,16 +12,16 @@ use Rattle.sb_bus.specs.Access.{bytes_from, number_of, loaded_from, store_answer
 use Rattle.sb_bus.specs.Interface.{Interface}
 use Rattle.sb_exec.specs.Row.{Row, MemoryAccess, Loads, LoadsForWrite, Stores, accesses}
 use Rattle.sb_exec.specs.Execution.{Run, Execution, Executes, run, run_on, execution_of, access_answer, meaning_after, execution_by, effect_after, registers_after}
-use Rattle.sb_exec.specs.Simulation.{told, WhereOk, IsAt, IsAnywhere, StoresKeepAt, BytesAgree, AgreeFrom, AgreeAt, AgreeAlong}
+use Rattle.sb_exec.specs.Simulation.{named_answer, WhereOk, IsAt, IsAnywhere, StoresKeepAt, BytesAgree, AgreeFrom, AgreeAt, AgreeAlong}
 use Rattle.sb_exec.specs.Simulation.{AccessesAgreeAt, SameExecution, RowsAgreeingAt, RowsAgreeing, RowsTold, Alike, RowsAlike, SameEnd}
 use Rattle.sb_exec.specs.Simulation.{ExecutesAgreeing, ExecutesTold, RowsKeep}
 
 -- ---- bytes
 
 byte_joined : (naming : BusStop → BusStop) (byte : Result ℕ BusStop) (one two : Result (List ℕ) BusStop)
-    → WhereOk byte (λ _. two ≡ told naming one)
-    → and_then (told naming byte) (λ lowest. and_then two (λ others. Ok (lowest ∷ others)))
-    ≡ told naming (and_then byte (λ lowest. and_then one (λ others. Ok (lowest ∷ others))))
+    → WhereOk byte (λ _. two ≡ named_answer naming one)
+    → and_then (named_answer naming byte) (λ lowest. and_then two (λ others. Ok (lowest ∷ others)))
+    ≡ named_answer naming (and_then byte (λ lowest. and_then one (λ others. Ok (lowest ∷ others))))
 byte_joined naming (Ok lowest) (Ok others) two given = rw given refl
 byte_joined naming (Ok lowest) (Err stop) two given = rw given refl
 byte_joined naming (Err stop) one two given = refl
@@ -33,7 +33,7 @@ where_ok_map (Err stop) Claim Other naming given = tt
 
 bytes_agree : (naming : BusStop → BusStop) (left right : ℕ → Result ℕ BusStop) (address count : ℕ)
     → AgreeFrom naming left right address count
-    → bytes_from right address count ≡ told naming (bytes_from left address count)
+    → bytes_from right address count ≡ named_answer naming (bytes_from left address count)
 unfolding bytes_from AgreeFrom
 bytes_agree naming left right address zero given = refl
 bytes_agree naming left right address (suc count) given =
@@ -43,25 +43,26 @@ bytes_agree naming left right address (suc count) given =
     (λ _ rest. bytes_agree naming left right ((address + 1) % 2 ^ 64) count rest) given.1))
 
 number_told : (naming : BusStop → BusStop) (bytes : Result (List ℕ) BusStop)
-    → and_then (told naming bytes) (λ others. Ok (number_of others))
-    ≡ told naming (and_then bytes (λ others. Ok (number_of others)))
+    → and_then (named_answer naming bytes) (λ others. Ok (number_of others))
+    ≡ named_answer naming (and_then bytes (λ others. Ok (number_of others)))
 number_told naming (Ok others) = refl
 number_told naming (Err stop) = refl
 
-done_told : (naming : BusStop → BusStop) (bytes : Result (List ℕ) BusStop) → done (told naming bytes) ≡ told naming (done bytes)
+done_told : (naming : BusStop → BusStop) (bytes : Result (List ℕ) BusStop)
+    → done (named_answer naming bytes) ≡ named_answer naming (done bytes)
 done_told naming (Ok others) = refl
 done_told naming (Err stop) = refl
 
 pub loads_agree : (naming : BusStop → BusStop) (left right : ℕ → Result ℕ BusStop) (address count : ℕ)
     → AgreeFrom naming left right address count
-    → loaded_from right address count ≡ told naming (loaded_from left address count)
+    → loaded_from right address count ≡ named_answer naming (loaded_from left address count)
 unfolding loaded_from
 loads_agree naming left right address count given =
     rw (bytes_agree naming left right address count given) (number_told naming (bytes_from left address count))
 
 pub stores_agree : (naming : BusStop → BusStop) (left right : ℕ → Result ℕ BusStop) (address count : ℕ)
     → AgreeFrom naming left right address count
-    → store_answer right address count ≡ told naming (store_answer left address count)
+    → store_answer right address count ≡ named_answer naming (store_answer left address count)
 unfolding store_answer
 stores_agree naming left right address count given =
     rw (bytes_agree naming left right address count given) (done_told naming (bytes_from left address count))
@@ -69,14 +70,14 @@ stores_agree naming left right address count given =
 -- ---- an access
 
 loaded_told : (naming : BusStop → BusStop) (answer : Result (Unit {0}) BusStop) (loaded : ℕ)
-    → and_then (told naming answer) (λ _. Ok loaded) ≡ told naming (and_then answer (λ _. Ok loaded))
+    → and_then (named_answer naming answer) (λ _. Ok loaded) ≡ named_answer naming (and_then answer (λ _. Ok loaded))
 loaded_told naming (Ok stored) loaded = refl
 loaded_told naming (Err stop) loaded = refl
 
 access_agrees : {M N A B : Type 0} (naming : BusStop
     → BusStop) (left : Interface M A) (right : Interface N B) (one_access : MemoryAccess) (first : M) (second : N) (loaded : ℕ)
     → AgreeAt naming left right one_access first second
-    → access_answer right one_access second loaded ≡ told naming (access_answer left one_access first loaded)
+    → access_answer right one_access second loaded ≡ named_answer naming (access_answer left one_access first loaded)
 access_agrees naming left right (Loads address size) first second loaded given = loads_agree naming _ _ address size given
 access_agrees naming left right (LoadsForWrite address size) first second loaded given = loads_agree naming _ _ address size given
 access_agrees naming left right (Stores address size value) first second loaded given =
@@ -84,7 +85,7 @@ access_agrees naming left right (Stores address size value) first second loaded 
 
 stored_related : {M N : Type 0} (Related : M → N → Type 0) (naming : BusStop
     → BusStop) (one two : Result (Unit {0}) BusStop) (first first' : M) (second second' : N)
-    → two ≡ told naming one → Related first second → (one ≡ Ok tt → two ≡ Ok tt → Related first' second')
+    → two ≡ named_answer naming one → Related first second → (one ≡ Ok tt → two ≡ Ok tt → Related first' second')
     → Related (where_stored one first' first) (where_stored two second' second)
 stored_related Related naming (Ok stored) two first first' second second' equal given next = rw equal (next refl equal)
 stored_related Related naming (Err stop) two first first' second second' equal given next = rw equal given
@@ -115,12 +116,13 @@ access_related At Related naming left right keep (Stores address size value) fir
 
 pub record SameRun {M N A B : Type 0} (Related : M → N → Type 0) (naming : BusStop
     → BusStop) (left : Run M A) (right : Run N B) : Type 0 where
-  pub answer : right.answer ≡ told naming left.answer
+  pub answer : right.answer ≡ named_answer naming left.answer
   pub related : Related left.meaning right.meaning
 
 run_on_agrees : {M N A B : Type 0} (Related : M → N → Type 0) (naming : BusStop → BusStop) (next : M → A → ℕ → Run M A) (next' : N
     → B → ℕ → Run N B)
-    (one two : Result ℕ BusStop) (first : M) (second : N) (account : A) (other : B) → two ≡ told naming one → Related first second
+    (one two : Result ℕ BusStop) (first : M) (second : N) (account : A) (other : B) → two ≡ named_answer naming one
+    → Related first second
     → WhereOk one (λ loaded. SameRun Related naming (next first account loaded) (next' second other loaded))
     → SameRun Related naming (run_on next one first account) (run_on next' two second other)
 run_on_agrees Related naming next next' (Ok loaded) two first second account other equal related given = rw equal given
@@ -145,12 +147,12 @@ run_agrees At Related naming left right keep (one_access ∷ accesses) first sec
 -- ---- a row
 
 pub effect_told : (naming : BusStop → BusStop) (effect : Effect) (answer : Result ℕ BusStop)
-    → effect_after effect (told naming answer) ≡ told naming (effect_after effect answer)
+    → effect_after effect (named_answer naming answer) ≡ named_answer naming (effect_after effect answer)
 effect_told naming effect (Ok loaded) = refl
 effect_told naming effect (Err stop) = refl
 
 registers_told : (naming : BusStop → BusStop) (row : Row) (regs : Regs) (answer : Result ℕ BusStop)
-    → registers_after row regs (told naming answer) ≡ registers_after row regs answer
+    → registers_after row regs (named_answer naming answer) ≡ registers_after row regs answer
 registers_told naming row regs (Ok loaded) = refl
 registers_told naming row regs (Err stop) = refl
 
@@ -185,16 +187,16 @@ always (Ok value) given = given
 always (Err stop) given = tt
 
 from_all : (naming : BusStop → BusStop) (left right : ℕ → Result ℕ BusStop)
-    → ((address : ℕ) → right address ≡ told naming (left address)) → (address count : ℕ)
+    → ((address : ℕ) → right address ≡ named_answer naming (left address)) → (address count : ℕ)
     → AgreeFrom naming left right address count
 unfolding AgreeFrom
 from_all naming left right given address zero = tt
 from_all naming left right given address (suc count) =
     (given address, always (left address) (from_all naming left right given ((address + 1) % 2 ^ 64) count))
 
-to_write_told : (naming : BusStop → BusStop) (write read write' read' : Result ℕ BusStop) → write' ≡ told naming write
-    → read' ≡ told naming read
-    → and_then write' (λ _. read') ≡ told naming (and_then write (λ _. read))
+to_write_told : (naming : BusStop → BusStop) (write read write' read' : Result ℕ BusStop) → write' ≡ named_answer naming write
+    → read' ≡ named_answer naming read
+    → and_then write' (λ _. read') ≡ named_answer naming (and_then write (λ _. read))
 to_write_told naming (Ok lowest) read write' read' equal given = rw (equal, given) refl
 to_write_told naming (Err stop) read write' read' equal given = rw equal refl
 
@@ -256,7 +258,7 @@ rows_told Related left right keep naming all row regs first second account other
 
 -- ---- where the stops are the same
 
-told_same : {Value : Type 0} (answer : Result Value BusStop) → told (λ stop. stop) answer ≡ answer
+told_same : {Value : Type 0} (answer : Result Value BusStop) → named_answer (λ stop. stop) answer ≡ answer
 told_same (Ok value) = refl
 told_same (Err stop) = refl
 
@@ -285,7 +287,7 @@ ends : {M N A B : Type 0} (Related : M → N → Type 0) (naming : BusStop → B
     → SameEnd Related naming new other_new first' second' result result'
 ends Related naming left right row regs new other_new first first' second second' account account' other other' result result' one
     two same = record {
-      answer = two.answer ∙ (same.answer ∙ ap (told naming) (sym one.answer));
+      answer = two.answer ∙ (same.answer ∙ ap (named_answer naming) (sym one.answer));
       registers = two.registers ∙ (same.registers ∙ sym one.registers);
       related = rw (one.meaning, two.meaning) same.related;
     }

@@ -9,7 +9,7 @@ use Rattle.sb_bus.specs.Access.{bytes_from, loaded_from, store_answer, byte_for,
 use Rattle.sb_bus.specs.Interface.{Interface}
 use Rattle.sb_exec.specs.Row.{MemoryAccess, Loads, LoadsForWrite, Stores, accesses}
 use Rattle.sb_exec.specs.Execution.{Run, run, run_on, execution_of, access_answer, effect_after}
-use Rattle.sb_exec.specs.Simulation.{told, WhereOk, StoresKeep, IsAnywhere, IsIn, BytesAgreeIn, AgreeFrom, AgreeAt, AgreeAlong, RowsIn}
+use Rattle.sb_exec.specs.Simulation.{named_answer, WhereOk, StoresKeep, IsAnywhere, IsIn, BytesAgreeIn, AgreeFrom, AgreeAt, AgreeAlong, RowsIn}
 use Rattle.sb_exec.proofs.Simulation.{where_ok_map, anywhere, access_related, rows_agreeing}
 
 in_first : {Value Next : Type 0} (out : BusStop → Bool) (answer : Result Value BusStop) (next : Value → Result Next BusStop)
@@ -32,7 +32,7 @@ in_done out (Ok others) given = tt
 in_done out (Err stop) given = given
 
 from_in : (naming : BusStop → BusStop) (out : BusStop → Bool) (left right : ℕ → Result ℕ BusStop)
-    → ((address : ℕ) → IsIn out (left address) → right address ≡ told naming (left address)) → (address count : ℕ)
+    → ((address : ℕ) → IsIn out (left address) → right address ≡ named_answer naming (left address)) → (address count : ℕ)
     → IsIn out (bytes_from left address count) → AgreeFrom naming left right address count
 unfolding AgreeFrom bytes_from
 from_in naming out left right same address zero given = tt
@@ -44,8 +44,8 @@ from_in naming out left right same address (suc count) given = (
 )
 
 to_write_in : (naming : BusStop → BusStop) (out : BusStop → Bool) (write read write' read' : Result ℕ BusStop)
-    → (IsIn out write → write' ≡ told naming write) → (IsIn out read → read' ≡ told naming read)
-    → IsIn out (and_then write (λ _. read)) → and_then write' (λ _. read') ≡ told naming (and_then write (λ _. read))
+    → (IsIn out write → write' ≡ named_answer naming write) → (IsIn out read → read' ≡ named_answer naming read)
+    → IsIn out (and_then write (λ _. read)) → and_then write' (λ _. read') ≡ named_answer naming (and_then write (λ _. read))
 to_write_in naming out (Ok lowest) read write' read' equal also given = rw (equal tt, also given) refl
 to_write_in naming out (Err stop) read write' read' equal also given = rw (equal given) refl
 

@@ -14,7 +14,8 @@ use Rattle.sb_alu.specs.declared.operation.Operation.TheVariants as operation
 use Rattle.sb_exec.specs.declared.action.Exchange.TheVariants as exchange
 use Rattle.sb_exec.specs.declared.action.Action.{Action}
 use Rattle.sb_exec.specs.declared.action.Action.TheVariants.{Compute, ZeroExtend, LoadAddress, Exchange, Push, Pop, Return, Jump, JumpIf, Call, Pass, Stop}
-use Rattle.sb_exec.specs.Operand.{operand_size, last_opcode_byte}
+use Rattle.sb_exec.specs.Operand.{operand_size}
+use Rattle.sb_insn.specs.RegisterNumbers.{last_opcode_byte}
 
 -- ---- what the table looks at beside the instruction
 

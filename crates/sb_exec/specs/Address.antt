@@ -7,9 +7,10 @@ use Rattle.sb_insn.specs.declared.insn.Disp.{Disp}
 use Rattle.sb_insn.specs.declared.insn.Disp.TheVariants as disp
 use Rattle.sb_insn.specs.declared.registers.Regs.{Regs}
 use Rattle.sb_insn.specs.Fields.{mod_field, rm_field, scale, index, base, rex_x, rex_b}
+use Rattle.sb_insn.specs.RegisterNumbers.{register_number, modrm_of}
 use Rattle.sb_exec.specs.declared.action.Location.{Location}
 use Rattle.sb_exec.specs.declared.action.Location.TheVariants.{Register, Memory}
-use Rattle.sb_exec.specs.Operand.{modrm_of, rm_number, general, next_rip}
+use Rattle.sb_exec.specs.Operand.{rm_number, general, next_rip}
 
 -- ---- the SIB byte: scale, index and base
 
@@ -19,11 +20,11 @@ sib_of insn = unwrap_or insn.sib 0
 
 -- the register that index names; 4 is no index
 abbrev pub index_number : Insn → ℕ
-index_number insn = index (sib_of insn) + 8 * rex_x insn.rex
+index_number insn = register_number (index (sib_of insn)) (rex_x insn.rex)
 
 -- the register that base names
 abbrev pub base_number : Insn → ℕ
-base_number insn = base (sib_of insn) + 8 * rex_b insn.rex
+base_number insn = register_number (base (sib_of insn)) (rex_b insn.rex)
 
 -- the index times 1, 2, 4 or 8
 abbrev pub scaled_index : Insn → Regs → ℕ

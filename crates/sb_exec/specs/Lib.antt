@@ -6,9 +6,9 @@ pub mod Operand
 pub mod Address
 pub use Rattle.sb_alu.specs.Arithmetic
 pub use Rattle.sb_alu.specs.Shift
-pub use Rattle.sb_alu.specs.Operated
+pub use Rattle.sb_alu.specs.Outcome
 pub mod WriteBack
-pub mod Exchanged
+pub mod Exchange
 pub mod Branch
 pub mod Row
 pub mod Execution

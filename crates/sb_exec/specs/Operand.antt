@@ -1,11 +1,10 @@
 -- The fields of an instruction as numbers, and registers at a size (SDM volume 2, sections 2.1 and 2.2.1).
-use Rattle.std.specs.Prelude.{ℕ, ◌+◌, ◌*◌, ◌/◌, ◌%◌, ◌^◌, ◌==◌, ◌<◌, if◌then◌else◌, length, slice_index, slice_set, unwrap_or}
+use Rattle.std.specs.Prelude.{ℕ, ◌+◌, ◌*◌, ◌/◌, ◌%◌, ◌^◌, ◌==◌, ◌<◌, if◌then◌else◌, length, slice_index, slice_set}
 use Rattle.sb_insn.specs.declared.insn.Insn.{Insn}
-use Rattle.sb_insn.specs.declared.insn.Op.{Op}
-use Rattle.sb_insn.specs.declared.insn.Op.TheVariants.{One, Two, Endbr, Vmfunc}
 use Rattle.sb_insn.specs.declared.registers.Regs.{Regs}
 use Rattle.sb_insn.specs.Spelling.{spelling}
-use Rattle.sb_insn.specs.Fields.{reg_field, rm_field, rex_w, rex_r, rex_b}
+use Rattle.sb_insn.specs.Fields.{rm_field, rex_w, rex_b}
+use Rattle.sb_insn.specs.RegisterNumbers.{register_number, modrm_of}
 use Rattle.sb_alu.specs.declared.size.Size.{Size}
 use Rattle.sb_alu.specs.declared.size.Size.TheVariants.{Byte, Doubleword, Quadword}
 use Rattle.sb_exec.specs.declared.action.Location.{Location}
@@ -14,28 +13,9 @@ use Rattle.sb_alu.specs.Size.{low}
 
 -- ---- fields
 
--- the ModRM byte, 0 where there is none
-abbrev pub modrm_of : Insn → ℕ
-modrm_of insn = unwrap_or insn.modrm 0
-
--- the register that reg names
-abbrev pub reg_number : Insn → ℕ
-reg_number insn = reg_field (modrm_of insn) + 8 * rex_r insn.rex
-
 -- the register that rm names
 abbrev pub rm_number : Insn → ℕ
-rm_number insn = rm_field (modrm_of insn) + 8 * rex_b insn.rex
-
--- the last byte of the opcode
-abbrev pub last_opcode_byte : Op → ℕ
-last_opcode_byte (One opcode) = opcode
-last_opcode_byte (Two opcode) = opcode
-last_opcode_byte Endbr = 0xFA
-last_opcode_byte Vmfunc = 0xD4
-
--- the register that the opcode names
-abbrev pub opcode_number : Insn → ℕ
-opcode_number insn = last_opcode_byte insn.op % 8 + 8 * rex_b insn.rex
+rm_number insn = register_number (rm_field (modrm_of insn)) (rex_b insn.rex)
 
 -- 64 bits with REX.W, else 32
 abbrev pub operand_size : Insn → Size

@@ -5,14 +5,14 @@ use Rattle.sb_exec.specs.declared.action.Load.{Load}
 use Rattle.sb_exec.specs.declared.action.Load.TheVariants as load
 use Rattle.sb_exec.specs.declared.action.Store.{Store}
 use Rattle.sb_exec.specs.declared.action.Store.TheVariants as store
-use Rattle.sb_exec.specs.declared.action.After.{After}
+use Rattle.sb_exec.specs.declared.action.RowResult.{RowResult}
 use Rattle.sb_alu.specs.Size.{size_bytes}
 
 -- what is loaded, what is stored after it, the registers and the stored number by the loaded one, and the effect
 pub record Row : Type 0 where
   pub load : Load
   pub store : Store
-  pub after : ℕ → After
+  pub after : ℕ → RowResult
   pub effect : Effect
 
 -- an access to memory; what is stored may depend on what was loaded before
@@ -28,7 +28,7 @@ load_accesses (load.Read address size) = Loads address.0 (size_bytes size) ∷ [
 load_accesses (load.ReadForWrite address size) = LoadsForWrite address.0 (size_bytes size) ∷ []
 
 -- what is stored, as an access
-abbrev pub store_accesses : Store → (ℕ → After) → List MemoryAccess
+abbrev pub store_accesses : Store → (ℕ → RowResult) → List MemoryAccess
 store_accesses store.Nothing after = []
 store_accesses (store.At address size) after =
     Stores address.0 (size_bytes size) (λ loaded. (after loaded).stored) ∷ []

@@ -21,11 +21,12 @@ use Rattle.sb_exec.specs.declared.action.Load.{Load}
 use Rattle.sb_exec.specs.declared.action.Load.TheVariants as load
 use Rattle.sb_exec.specs.declared.action.Store.{Store}
 use Rattle.sb_exec.specs.declared.action.Store.TheVariants as store
-use Rattle.sb_exec.specs.declared.action.After.{After}
-use Rattle.sb_exec.specs.Operand.{reg_number, opcode_number, general, with_register, next_rip}
+use Rattle.sb_exec.specs.declared.action.RowResult.{RowResult}
+use Rattle.sb_exec.specs.Operand.{general, with_register, next_rip}
+use Rattle.sb_insn.specs.RegisterNumbers.{reg_number, opcode_number}
 use Rattle.sb_exec.specs.Address.{linear, operand_address, rm_location}
 use Rattle.sb_exec.specs.WriteBack.{regs_at_next, without_store, with_store, rm_value, last_operand, compute_result}
-use Rattle.sb_exec.specs.Exchanged.{exchange_after}
+use Rattle.sb_exec.specs.Exchange.{exchange_after}
 use Rattle.sb_exec.specs.Branch.{rsp_after_push, regs_after_push, regs_after_pop, regs_after_pop_into, at_rip, target_of, regs_after_jcc}
 use Rattle.sb_exec.specs.Row.{Row}
 use Rattle.sb_exec.specs.Actions.{action_of}
@@ -33,11 +34,11 @@ use Rattle.sb_exec.specs.Actions.{action_of}
 -- ---- registers, and the number that is stored
 
 -- a value that is written to the register that reg names
-abbrev pub into_reg : Size → ℕ → Insn → Regs → After
+abbrev pub into_reg : Size → ℕ → Insn → Regs → RowResult
 into_reg size value insn regs = without_store (with_register size (reg_number insn) value (regs_at_next insn regs))
 
 -- what is left after an action that loaded this number
-unfoldable pub after_action : Action → Insn → Regs → ℕ → After
+unfoldable pub after_action : Action → Insn → Regs → ℕ → RowResult
 after_action (Compute operation form size) insn regs loaded = compute_result operation form size insn regs loaded
 after_action (ZeroExtend size) insn regs loaded = into_reg size (rm_value Byte insn regs loaded) insn regs
 after_action (LoadAddress size) insn regs loaded = into_reg size (operand_address insn regs) insn regs

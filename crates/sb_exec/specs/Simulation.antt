@@ -12,9 +12,9 @@ use Rattle.sb_exec.specs.Row.{Row, MemoryAccess, Loads, LoadsForWrite, Stores, a
 use Rattle.sb_exec.specs.Execution.{Execution, Executes, execution_of, access_answer, meaning_after}
 
 -- an answer whose stop is told by another name
-abbrev pub told : {Value : Type 0} → (BusStop → BusStop) → Result Value BusStop → Result Value BusStop
-told naming (Ok value) = Ok value
-told naming (Err stop) = Err (naming stop)
+abbrev pub named_answer : {Value : Type 0} → (BusStop → BusStop) → Result Value BusStop → Result Value BusStop
+named_answer naming (Ok value) = Ok value
+named_answer naming (Err stop) = Err (naming stop)
 
 -- a claim where there is an answer
 abbrev pub WhereOk : {Value : Type 0} → Result Value BusStop → (Value → Type 0) → Type 0
@@ -24,7 +24,8 @@ WhereOk (Err stop) claim = Unit {0}
 -- an access to data; what is fetched may differ
 abbrev pub IsData : Access → Type 0
 IsData access.Fetch = ⊥
-IsData _ = Unit {0}
+IsData access.Read = Unit {0}
+IsData access.Write = Unit {0}
 
 -- ---- of which accesses something is said, by their addresses and sizes
 
@@ -61,7 +62,7 @@ StoresKeep Related left right = StoresKeepAt IsAnywhere Related left right
 pub record BytesAgree {M N A B : Type 0} (Related : M → N → Type 0) (naming : BusStop → BusStop)
     (left : Interface M A) (right : Interface N B) : Type 0 where
   pub byte : (first : M) (second : N) → Related first second → (address : ℕ) (how : Access) → IsData how
-      → right.byte second address how ≡ told naming (left.byte first address how)
+      → right.byte second address how ≡ named_answer naming (left.byte first address how)
 
 -- ---- agreement at what is accessed alone
 
@@ -69,7 +70,7 @@ pub record BytesAgree {M N A B : Type 0} (Related : M → N → Type 0) (naming 
 unfoldable pub AgreeFrom : (BusStop → BusStop) → (ℕ → Result ℕ BusStop) → (ℕ → Result ℕ BusStop) → ℕ → ℕ → Type 0
 AgreeFrom naming left right address zero = Unit {0}
 AgreeFrom naming left right address (suc count) =
-    (right address ≡ told naming (left address))
+    (right address ≡ named_answer naming (left address))
     × WhereOk (left address) (λ _. AgreeFrom naming left right ((address + 1) % 2 ^ 64) count)
 
 -- the bytes of an access agree
@@ -102,7 +103,7 @@ pub record AccessesAgreeAt {M N A B : Type 0} (At : ℕ → ℕ → Type 0) (Rel
 -- two executions end alike: the stop by its other name, the same registers, related meanings
 pub record SameExecution {M N A B : Type 0} (Related : M → N → Type 0) (naming : BusStop → BusStop)
     (left : Execution M A) (right : Execution N B) : Type 0 where
-  pub answer : right.answer ≡ told naming left.answer
+  pub answer : right.answer ≡ named_answer naming left.answer
   pub registers : right.registers ≡ left.registers
   pub related : Related left.meaning right.meaning
 
@@ -148,7 +149,7 @@ RowsAlike {M} {N} {A} {B} Related left right =
 -- registers, meanings and results of two executions
 pub record SameEnd {M N : Type 0} (Related : M → N → Type 0) (naming : BusStop → BusStop)
     (regs regs' : Regs) (first : M) (second : N) (result result' : Result Effect BusStop) : Type 0 where
-  pub answer : result' ≡ told naming result
+  pub answer : result' ≡ named_answer naming result
   pub registers : regs' ≡ regs
   pub related : Related first second
 
@@ -184,7 +185,7 @@ IsIn out (Err stop) = out stop ≡ false
 pub record BytesAgreeIn {M N A B : Type 0} (Related : M → N → Type 0) (naming : BusStop → BusStop) (out : BusStop → Bool)
     (left : Interface M A) (right : Interface N B) : Type 0 where
   pub byte : (first : M) (second : N) → Related first second → (address : ℕ) (how : Access) → IsData how
-      → IsIn out (left.byte first address how) → right.byte second address how ≡ told naming (left.byte first address how)
+      → IsIn out (left.byte first address how) → right.byte second address how ≡ named_answer naming (left.byte first address how)
 
 -- a row whose answer on the left is not left out is executed alike on both
 abbrev pub RowsIn : {M N A B : Type 0} → (M → N → Type 0) → Interface M A → Interface N B → Type 0

@@ -12,12 +12,13 @@ use Rattle.sb_alu.specs.declared.size.Size.TheVariants.{Byte}
 use Rattle.sb_alu.specs.declared.operation.Operation.{Operation}
 use Rattle.sb_exec.specs.declared.action.Location.{Location}
 use Rattle.sb_exec.specs.declared.action.Location.TheVariants.{Register, Memory}
-use Rattle.sb_alu.specs.declared.operation.Outcome.{Outcome}
-use Rattle.sb_exec.specs.declared.action.After.{After}
+use Rattle.sb_alu.specs.declared.operation.OperationOutcome.{OperationOutcome}
+use Rattle.sb_exec.specs.declared.action.RowResult.{RowResult}
 use Rattle.sb_alu.specs.Size.{low}
-use Rattle.sb_exec.specs.Operand.{reg_number, opcode_number, operand_value, register_value, with_register, next_rip}
+use Rattle.sb_exec.specs.Operand.{operand_value, register_value, with_register, next_rip}
+use Rattle.sb_insn.specs.RegisterNumbers.{reg_number, opcode_number}
 use Rattle.sb_exec.specs.Address.{rm_location}
-use Rattle.sb_alu.specs.Operated.{operation_outcome}
+use Rattle.sb_alu.specs.Outcome.{operation_outcome}
 
 -- ---- registers after an instruction
 
@@ -30,15 +31,15 @@ abbrev pub with_flags : Flags → Regs → Regs
 with_flags flags regs = record regs { flags = flags }
 
 -- nothing is stored
-abbrev pub without_store : Regs → After
+abbrev pub without_store : Regs → RowResult
 without_store regs = record { regs = regs; stored = 0 }
 
 -- this number is stored
-abbrev pub with_store : Regs → ℕ → After
+abbrev pub with_store : Regs → ℕ → RowResult
 with_store regs value = record { regs = regs; stored = value }
 
 -- a value that is written to a place: into its register, or as what is stored
-unfoldable pub write_result : Size → Location → ℕ → Regs → After
+unfoldable pub write_result : Size → Location → ℕ → Regs → RowResult
 write_result size (Register number) value regs = without_store (with_register size number value regs)
 write_result size (Memory address) value regs = with_store regs value
 
@@ -99,16 +100,16 @@ last_operand Nothing size insn regs loaded = 0
 -- ---- write back
 
 -- a result that is written back, if there is one
-unfoldable pub result_or_nothing : Size → Location → Option ℕ → Regs → After
+unfoldable pub result_or_nothing : Size → Location → Option ℕ → Regs → RowResult
 result_or_nothing size place None regs = without_store regs
 result_or_nothing size place (Some value) regs = write_result size place value regs
 
 -- an outcome that is written back, with its flags
-abbrev pub write_back : Size → Location → Outcome → Regs → After
+abbrev pub write_back : Size → Location → OperationOutcome → Regs → RowResult
 write_back size place outcome regs = result_or_nothing size place outcome.value (with_flags outcome.flags regs)
 
 -- the result of an operation on the operands of a form, written back
-unfoldable pub compute_result : Operation → OperandForm → Size → Insn → Regs → ℕ → After
+unfoldable pub compute_result : Operation → OperandForm → Size → Insn → Regs → ℕ → RowResult
 compute_result operation form size insn regs loaded =
     write_back size (destination form insn regs)
     (operation_outcome operation size (first_operand form size insn regs loaded)

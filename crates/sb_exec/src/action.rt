@@ -96,7 +96,7 @@ pub enum Store {
 
 /// What an instruction leaves once its load is done.
 #[derive(Clone, Copy, Debug, PartialEq, Eq)]
-pub struct After {
+pub struct RowResult {
     pub regs: Regs,
     /// The number that is stored, 0 where nothing is.
     pub stored: u64,

@@ -15,14 +15,17 @@ ghost use Rattle.sb_exec.specs.Address.{
 };
 
 use crate::action::Location;
-use crate::operand::{modrm, next_rip, rm_number};
-use sb_insn::{Disp, Insn, Regs, base, index, mod_field, rex_b, rex_x, rm_field, scale};
+use crate::operand::{next_rip, rm_number};
+use sb_insn::{
+    Disp, Insn, Regs, base, index, mod_field, modrm_of, register_number, rex_b, rex_x, rm_field,
+    scale,
+};
 use sb_memory::Linear;
 
 // ---- the SIB byte
 
 /// The SIB byte, 0 where there is none.
-fn sib(insn: &Insn) -> u8
+fn sib_of(insn: &Insn) -> u8
     ensures { result ≡ sib_of insn.now }
 {
     insn.sib.unwrap_or(0)
@@ -33,7 +36,7 @@ fn index_number(insn: &Insn) -> usize
     ensures value { result ≡ index_number insn.now }
     ensures range { result < 16 }
 {
-    usize::from(index(sib(insn)) + 8 * rex_x(insn.rex))
+    usize::from(register_number(index(sib_of(insn)), rex_x(insn.rex)))
 }
 
 /// The register that base names.
@@ -41,7 +44,7 @@ fn base_number(insn: &Insn) -> usize
     ensures value { result ≡ base_number insn.now }
     ensures range { result < 16 }
 {
-    usize::from(base(sib(insn)) + 8 * rex_b(insn.rex))
+    usize::from(register_number(base(sib_of(insn)), rex_b(insn.rex)))
 }
 
 /// The index times 1, 2, 4 or 8.
@@ -52,7 +55,7 @@ fn scaled_index(insn: &Insn, regs: &Regs) -> u64
     if number == 4 {
         0
     } else {
-        regs.general[number] << scale(sib(insn))
+        regs.general[number] << scale(sib_of(insn))
     }
 }
 
@@ -60,7 +63,7 @@ fn scaled_index(insn: &Insn, regs: &Regs) -> u64
 fn sib_base(insn: &Insn, regs: &Regs) -> u64
     ensures { result ≡ sib_base insn.now regs.now }
 {
-    if mod_field(modrm(insn)) == 0 && base(sib(insn)) == 5 {
+    if mod_field(modrm_of(insn)) == 0 && base(sib_of(insn)) == 5 {
         0
     } else {
         regs.general[base_number(insn)]
@@ -84,8 +87,8 @@ fn disp_value(disp: Disp) -> u64
 fn base_value(insn: &Insn, regs: &Regs) -> u64
     ensures { result ≡ base_value insn.now regs.now }
 {
-    let rm = rm_field(modrm(insn));
-    if mod_field(modrm(insn)) == 0 && rm == 5 {
+    let rm = rm_field(modrm_of(insn));
+    if mod_field(modrm_of(insn)) == 0 && rm == 5 {
         next_rip(insn, regs)
     } else if rm == 4 {
         sib_base(insn, regs).wrapping_add(scaled_index(insn, regs))
@@ -108,7 +111,7 @@ pub fn rm_location(insn: &Insn, regs: &Regs) -> Location
     ensures value { result ≡ rm_location insn.now regs.now }
     ensures range { IsPlace result }
 {
-    if mod_field(modrm(insn)) == 3 {
+    if mod_field(modrm_of(insn)) == 3 {
         Location::Register(rm_number(insn))
     } else {
         Location::Memory(Linear(operand_address(insn, regs)))

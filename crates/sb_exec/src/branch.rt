@@ -30,7 +30,7 @@ pub fn stack_top(regs: &Regs) -> u64
 }
 
 /// The top of the stack after 8 bytes are pushed.
-pub fn top_pushed(regs: &Regs) -> u64
+pub fn rsp_after_push(regs: &Regs) -> u64
     ensures { result ≡ rsp_after_push regs.now }
 {
     stack_top(regs).wrapping_sub(8)
@@ -40,7 +40,7 @@ pub fn top_pushed(regs: &Regs) -> u64
 pub fn regs_after_push(mut regs: Regs) -> Regs
     ensures { result ≡ regs_after_push regs }
 {
-    let top = top_pushed(&regs);
+    let top = rsp_after_push(&regs);
     set_register(Size::Quadword, RSP, top, &mut regs);
     regs
 }
@@ -55,7 +55,7 @@ pub fn regs_after_pop(mut regs: Regs) -> Regs
 }
 
 /// The registers after 8 bytes are popped into one of them, which is written last.
-pub fn popped_into(number: usize, value: u64, regs: Regs) -> Regs
+pub fn regs_after_pop_into(number: usize, value: u64, regs: Regs) -> Regs
     requires { number < 16 }
     ensures { result ≡ regs_after_pop_into number value regs }
 {
@@ -67,7 +67,7 @@ pub fn popped_into(number: usize, value: u64, regs: Regs) -> Regs
 // ---- jumps
 
 /// Where a jump or call leads.
-pub fn target(form: OperandForm, insn: &Insn, regs: &Regs, loaded: u64) -> u64
+pub fn target_of(form: OperandForm, insn: &Insn, regs: &Regs, loaded: u64) -> u64
     ensures { result ≡ target_of form insn.now regs.now loaded }
 {
     last_operand(form, Size::Quadword, insn, regs, loaded)
@@ -97,11 +97,11 @@ fn condition(number: u8, flags: &Flags) -> bool
 }
 
 /// The registers after a jump that is made where the condition holds.
-pub fn jumped_if(number: u8, insn: &Insn, regs: &Regs) -> Regs
+pub fn regs_after_jcc(number: u8, insn: &Insn, regs: &Regs) -> Regs
     ensures { result ≡ regs_after_jcc number insn.now regs.now }
 {
     let rip = if condition(number, &regs.flags) {
-        target(OperandForm::Relative, insn, regs, 0)
+        target_of(OperandForm::Relative, insn, regs, 0)
     } else {
         next_rip(insn, regs)
     };

@@ -7,13 +7,13 @@ ghost use Rattle.sb_exec.specs.LoadThenStore.{row_load_answer, row_load_account,
 ghost use Rattle.sb_exec.specs.Rows.{row_of};
 
 use crate::action::{Effect, Load, Store};
-use crate::rows::{after, effect, load, store};
-use crate::table::action;
+use crate::rows::{after_action, effect_of, load_of, store_of};
+use crate::table::action_of;
 use sb_bus::{Bus, BusStop};
 use sb_insn::{Insn, Op, Regs};
 
 /// Loads a number, 0 where nothing is loaded.
-fn loaded<B: Bus>(load: Load, bus: &mut B) -> Result<u64, BusStop>
+fn make_load<B: Bus>(load: Load, bus: &mut B) -> Result<u64, BusStop>
     ensures answer { result ≡ row_load_answer B.interface load (B.meaning bus.old) }
     ensures same { B.meaning bus.new ≡ B.meaning bus.old }
     ensures account { B.account bus.new ≡ row_load_account B.interface load (B.meaning bus.old) (B.account bus.old) }
@@ -27,7 +27,7 @@ fn loaded<B: Bus>(load: Load, bus: &mut B) -> Result<u64, BusStop>
 }
 
 /// Stores a number, if one is stored.
-fn stored<B: Bus>(store: Store, value: u64, bus: &mut B) -> Result<(), BusStop>
+fn make_store<B: Bus>(store: Store, value: u64, bus: &mut B) -> Result<(), BusStop>
     ensures answer { result ≡ row_store_answer B.interface store (B.meaning bus.old) }
     ensures meaning { B.meaning bus.new ≡ row_store_meaning B.interface store value (B.meaning bus.old) }
     ensures account { B.account bus.new ≡ row_store_account B.interface store value (B.meaning bus.old) (B.account bus.old) }
@@ -46,18 +46,22 @@ fn execute_row<B: Bus>(insn: &Insn, regs: &mut Regs, bus: &mut B) -> Result<Effe
         (B.meaning bus.old) (B.meaning bus.new) (B.account bus.old) (B.account bus.new) result }
     ensures kept { B.kept bus.new ≡ B.kept bus.old }
 {
-    let action = action(insn);
-    let value = loaded(load(action, insn, regs), bus)?;
-    let after = after(action, insn, regs, value);
-    stored(store(action, insn, regs), after.stored, bus)?;
+    let action = action_of(insn);
+    let value = make_load(load_of(action, insn, regs), bus)?;
+    let after = after_action(action, insn, regs, value);
+    make_store(store_of(action, insn, regs), after.stored, bus)?;
     *regs = after.regs;
-    Ok(effect(action))
+    Ok(effect_of(action))
 }
 
 /// Executes a valid instruction.
 ///
-/// `Err` is the first byte that fails, of the first access that fails. It, and each effect but `Next`, leave registers
-/// and memory as they were: SYSCALL, VMFUNC and UD2 are the caller's to do, from RIP at the instruction itself.
+/// Each effect but `Next` leaves registers and memory as they were: SYSCALL, VMFUNC and UD2 are the caller's to do, from
+/// RIP at the instruction itself.
+///
+/// # Errors
+///
+/// The first byte that fails, of the first access that fails. It leaves registers and memory as they were.
 #[tactic(auto, using(crate::proofs::Laws::execute_laws))]
 pub fn execute<B: Bus>(insn: &Insn, regs: &mut Regs, bus: &mut B) -> Result<Effect, BusStop>
     requires { IsValid insn.now }

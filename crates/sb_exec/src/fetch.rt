@@ -14,9 +14,12 @@ const LONGEST: usize = 13;
 
 /// The instruction at an address.
 ///
-/// Bytes are fetched one after another, modulo 2^64, as long as those so far are a proper prefix of an instruction. `Err`
-/// is what the bus answers at the first byte that fails, or fault `undefined` at `rip` where no instruction begins with
-/// the bytes.
+/// Bytes are fetched one after another, modulo 2^64, as long as those so far are a proper prefix of an instruction.
+///
+/// # Errors
+///
+/// What the bus answers at the first byte that fails, or fault `undefined` at `rip` where no instruction begins with the
+/// bytes.
 pub fn fetch_insn<B: Bus>(bus: &mut B, rip: u64) -> Result<Insn, BusStop>
     ensures fetched { FetchesOn B.interface (B.meaning bus.old) rip (B.account bus.old) (B.account bus.new) result }
     ensures valid { IfOk result (λ insn. IsValid insn) }

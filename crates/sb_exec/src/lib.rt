@@ -23,7 +23,7 @@
 mod action;
 mod address;
 mod branch;
-mod exchanged;
+mod exchange;
 mod execution;
 mod fetch;
 mod operand;
@@ -33,12 +33,12 @@ mod table;
 mod words;
 mod write_back;
 
-pub use action::{Action, After, Effect, Exchange, Load, Location, MemoryUse, Store};
+pub use action::{Action, Effect, Exchange, Load, Location, MemoryUse, RowResult, Store};
 pub use execution::execute;
 pub use fetch::{fetch_insn, first_insn, one_fetch, one_fetch_on};
 pub use pair::{
     Pair, executes_agreeing, executes_told, rows_agreeing, rows_alike, rows_in, rows_told,
 };
-pub use sb_alu::{Operation, Outcome, Size};
+pub use sb_alu::{Operation, OperationOutcome, Size};
 pub use sb_bus::{Bus, BusStop, FaultKind};
 pub use words::{executions_keep_words, rows_keep_words};

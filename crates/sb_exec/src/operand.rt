@@ -3,11 +3,7 @@
 ghost use Rattle.std.specs.Prelude.{◌≡◌, ◌<◌};
 ghost use Rattle.sb_alu.specs.Size.{modulus};
 ghost use Rattle.sb_exec.specs.Operand.{
-  modrm_of,
-  reg_number,
   rm_number,
-  last_opcode_byte,
-  opcode_number,
   operand_size,
   next_rip,
   register_value,
@@ -19,50 +15,16 @@ ghost use Rattle.sb_exec.specs.Operand.{
 
 use crate::action::Location;
 use sb_alu::Size;
-use sb_insn::{Insn, Op, Regs, reg_field, rex_b, rex_r, rex_w, rm_field};
+use sb_insn::{Insn, Regs, modrm_of, register_number, rex_b, rex_w, rm_field};
 
 // ---- fields
-
-/// The ModRM byte, 0 where there is none.
-pub fn modrm(insn: &Insn) -> u8
-    ensures { result ≡ modrm_of insn.now }
-{
-    insn.modrm.unwrap_or(0)
-}
-
-/// The register that reg names.
-pub fn reg_number(insn: &Insn) -> usize
-    ensures value { result ≡ reg_number insn.now }
-    ensures range { result < 16 }
-{
-    usize::from(reg_field(modrm(insn)) + 8 * rex_r(insn.rex))
-}
 
 /// The register that rm names.
 pub fn rm_number(insn: &Insn) -> usize
     ensures value { result ≡ rm_number insn.now }
     ensures range { result < 16 }
 {
-    usize::from(rm_field(modrm(insn)) + 8 * rex_b(insn.rex))
-}
-
-/// The last byte of the opcode.
-pub fn opcode(op: Op) -> u8
-    ensures { result ≡ last_opcode_byte op }
-{
-    match op {
-        Op::One(opcode) | Op::Two(opcode) => opcode,
-        Op::Endbr => 0xFA,
-        Op::Vmfunc => 0xD4,
-    }
-}
-
-/// The register that the opcode names.
-pub fn opcode_number(insn: &Insn) -> usize
-    ensures value { result ≡ opcode_number insn.now }
-    ensures range { result < 16 }
-{
-    usize::from(opcode(insn.op) % 8 + 8 * rex_b(insn.rex))
+    usize::from(register_number(rm_field(modrm_of(insn)), rex_b(insn.rex)))
 }
 
 /// 64 bits with REX.W, else 32.

@@ -16,39 +16,40 @@ ghost use Rattle.sb_exec.specs.Rows.{
   effect_of,
 };
 
-use crate::action::{Action, After, Effect, Load, Location, MemoryUse, Store};
+use crate::action::{Action, Effect, Load, Location, MemoryUse, RowResult, Store};
 use crate::address::{operand_address, rm_location};
 use crate::branch::{
-    jumped_if, popped_into, regs_after_pop, regs_after_push, stack_top, target, top_pushed,
+    regs_after_jcc, regs_after_pop, regs_after_pop_into, regs_after_push, rsp_after_push,
+    stack_top, target_of,
 };
-use crate::exchanged::exchange_after;
-use crate::operand::{next_rip, opcode_number, reg_number, set_register};
+use crate::exchange::exchange_after;
+use crate::operand::{next_rip, set_register};
 use crate::write_back::{compute_result, last_operand, regs_at_next, rm_value};
 use sb_alu::{Operation, Size};
-use sb_insn::{Insn, OperandForm, Regs};
+use sb_insn::{Insn, OperandForm, Regs, opcode_number, reg_number};
 use sb_memory::Linear;
 
 // ---- registers, and the number that is stored
 
 /// Nothing is stored.
-fn keeping(regs: Regs) -> After
+fn without_store(regs: Regs) -> RowResult
     ensures { result ≡ without_store regs }
 {
-    After { regs, stored: 0 }
+    RowResult { regs, stored: 0 }
 }
 
 /// A value that is written to the register that reg names.
-fn into_reg(size: Size, value: u64, insn: &Insn, regs: &Regs) -> After
+fn into_reg(size: Size, value: u64, insn: &Insn, regs: &Regs) -> RowResult
     ensures { result ≡ into_reg size value insn.now regs.now }
 {
     let mut next = regs_at_next(insn, regs);
-    set_register(size, reg_number(insn), value, &mut next);
-    keeping(next)
+    set_register(size, usize::from(reg_number(insn)), value, &mut next);
+    without_store(next)
 }
 
 /// What is left after an action that loaded this number.
 #[tactic(auto, unfolding(crate::specs::Rows::after_action))]
-pub fn after(action: Action, insn: &Insn, regs: &Regs, loaded: u64) -> After
+pub fn after_action(action: Action, insn: &Insn, regs: &Regs, loaded: u64) -> RowResult
     ensures { result ≡ after_action action insn.now regs.now loaded }
 {
     match action {
@@ -63,29 +64,33 @@ pub fn after(action: Action, insn: &Insn, regs: &Regs, loaded: u64) -> After
         ),
         Action::LoadAddress(size) => into_reg(size, operand_address(insn, regs), insn, regs),
         Action::Exchange(kind, size) => exchange_after(kind, size, insn, regs, loaded),
-        Action::Push(form) => After {
+        Action::Push(form) => RowResult {
             regs: regs_after_push(regs_at_next(insn, regs)),
             stored: last_operand(form, Size::Quadword, insn, regs, loaded),
         },
-        Action::Pop => keeping(popped_into(opcode_number(insn), loaded, regs_at_next(insn, regs))),
-        Action::Return => keeping(Regs {
+        Action::Pop => without_store(regs_after_pop_into(
+            usize::from(opcode_number(insn)),
+            loaded,
+            regs_at_next(insn, regs),
+        )),
+        Action::Return => without_store(Regs {
             rip: loaded,
             ..regs_after_pop(*regs)
         }),
-        Action::Jump(form) => keeping(Regs {
-            rip: target(form, insn, regs, loaded),
+        Action::Jump(form) => without_store(Regs {
+            rip: target_of(form, insn, regs, loaded),
             ..*regs
         }),
-        Action::JumpIf(number) => keeping(jumped_if(number, insn, regs)),
-        Action::Call(form) => After {
+        Action::JumpIf(number) => without_store(regs_after_jcc(number, insn, regs)),
+        Action::Call(form) => RowResult {
             regs: Regs {
-                rip: target(form, insn, regs, loaded),
+                rip: target_of(form, insn, regs, loaded),
                 ..regs_after_push(*regs)
             },
             stored: next_rip(insn, regs),
         },
-        Action::Pass => keeping(regs_at_next(insn, regs)),
-        Action::Stop(_) => keeping(*regs),
+        Action::Pass => without_store(regs_at_next(insn, regs)),
+        Action::Stop(_) => without_store(*regs),
     }
 }
 
@@ -176,7 +181,7 @@ fn load_source(form: OperandForm, insn: &Insn, regs: &Regs) -> Load
 
 /// What an action loads.
 #[tactic(auto, unfolding(crate::specs::Rows::load_of))]
-pub fn load(action: Action, insn: &Insn, regs: &Regs) -> Load
+pub fn load_of(action: Action, insn: &Insn, regs: &Regs) -> Load
     ensures { result ≡ load_of action insn.now regs.now }
 {
     match action {
@@ -200,12 +205,12 @@ pub fn load(action: Action, insn: &Insn, regs: &Regs) -> Load
 fn store_below(regs: &Regs) -> Store
     ensures { result ≡ store_below regs.now }
 {
-    Store::At(Linear(top_pushed(regs)), Size::Quadword)
+    Store::At(Linear(rsp_after_push(regs)), Size::Quadword)
 }
 
 /// What an action stores.
 #[tactic(auto, unfolding(crate::specs::Rows::store_of))]
-pub fn store(action: Action, insn: &Insn, regs: &Regs) -> Store
+pub fn store_of(action: Action, insn: &Insn, regs: &Regs) -> Store
     ensures { result ≡ store_of action insn.now regs.now }
 {
     match action {
@@ -229,7 +234,7 @@ pub fn store(action: Action, insn: &Insn, regs: &Regs) -> Store
 
 /// What follows an action.
 #[tactic(auto, unfolding(crate::specs::Rows::effect_of))]
-pub fn effect(action: Action) -> Effect
+pub fn effect_of(action: Action) -> Effect
     ensures { result ≡ effect_of action }
 {
     match action {

@@ -4,9 +4,9 @@ ghost use Rattle.std.specs.Prelude.{◌≡◌};
 ghost use Rattle.sb_exec.specs.Actions.{moved_size, condition_number, action_by, action_of};
 
 use crate::action::{Action, Effect, Exchange};
-use crate::operand::{opcode, operand_size};
+use crate::operand::operand_size;
 use sb_alu::{Operation, Size};
-use sb_insn::{Insn, Mnemonic, OperandForm, instruction_of, modrm_opcode_of};
+use sb_insn::{Insn, Mnemonic, OperandForm, instruction_of, last_opcode_byte, modrm_opcode_of};
 
 /// The size of what MOV moves: a byte where the opcode says so.
 fn moved_size(insn: &Insn) -> Size
@@ -28,12 +28,12 @@ fn moved_size(insn: &Insn) -> Size
 fn condition_number(insn: &Insn) -> u8
     ensures { result ≡ condition_number insn.now }
 {
-    opcode(insn.op) % 16
+    last_opcode_byte(insn.op) % 16
 }
 
 /// What an instruction of this name does to operands of this form.
 #[tactic(auto, unfolding(crate::specs::Actions::action_by))]
-fn named_action(mnemonic: Mnemonic, form: OperandForm, insn: &Insn) -> Action
+fn action_by(mnemonic: Mnemonic, form: OperandForm, insn: &Insn) -> Action
     ensures { result ≡ action_by mnemonic form insn.now }
 {
     let size = operand_size(insn);
@@ -75,11 +75,11 @@ fn named_action(mnemonic: Mnemonic, form: OperandForm, insn: &Insn) -> Action
 
 /// What an instruction does; what is not in the opcode maps is undefined.
 #[tactic(auto, unfolding(crate::specs::Actions::action_of))]
-pub fn action(insn: &Insn) -> Action
+pub fn action_of(insn: &Insn) -> Action
     ensures { result ≡ action_of insn.now }
 {
     match instruction_of(insn) {
-        Some(instruction) => named_action(instruction.mnemonic, instruction.form, insn),
+        Some(instruction) => action_by(instruction.mnemonic, instruction.form, insn),
         None => Action::Stop(Effect::Undefined),
     }
 }

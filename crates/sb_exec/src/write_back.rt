@@ -14,14 +14,12 @@ ghost use Rattle.sb_exec.specs.WriteBack.{
   compute_result,
 };
 
-use crate::action::{After, Location};
+use crate::action::{Location, RowResult};
 use crate::address::rm_location;
-use crate::operand::{
-    next_rip, opcode_number, operand_value, reg_number, register_value, set_register,
-};
-use sb_alu::{Operation, Size, operate};
+use crate::operand::{next_rip, operand_value, register_value, set_register};
+use sb_alu::{Operation, Size, operation_outcome};
 use sb_insn::registers::{RAX, RCX};
-use sb_insn::{Insn, OperandForm, Regs};
+use sb_insn::{Insn, OperandForm, Regs, opcode_number, reg_number};
 
 /// The registers at the next instruction.
 pub fn regs_at_next(insn: &Insn, regs: &Regs) -> Regs
@@ -35,16 +33,16 @@ pub fn regs_at_next(insn: &Insn, regs: &Regs) -> Regs
 
 /// A value that is written to a place: into its register, or as what is stored.
 #[tactic(auto, unfolding(crate::specs::WriteBack::write_result))]
-pub fn written(size: Size, place: Location, value: u64, mut regs: Regs) -> After
+pub fn write_result(size: Size, place: Location, value: u64, mut regs: Regs) -> RowResult
     requires { IsPlace place }
     ensures { result ≡ write_result size place value regs }
 {
     match place {
         Location::Register(number) => {
             set_register(size, number, value, &mut regs);
-            After { regs, stored: 0 }
+            RowResult { regs, stored: 0 }
         }
-        Location::Memory(_) => After {
+        Location::Memory(_) => RowResult {
             regs,
             stored: value,
         },
@@ -73,8 +71,12 @@ fn destination(form: OperandForm, insn: &Insn, regs: &Regs) -> Location
         | OperandForm::RmCount
         | OperandForm::RmCl
         | OperandForm::Rm => rm_location(insn, regs),
-        OperandForm::RegRm | OperandForm::RegRmImm => Location::Register(reg_number(insn)),
-        OperandForm::OpcodeImm | OperandForm::Opcode => Location::Register(opcode_number(insn)),
+        OperandForm::RegRm | OperandForm::RegRmImm => Location::Register(usize::from(reg_number(
+            insn,
+        ))),
+        OperandForm::OpcodeImm | OperandForm::Opcode => Location::Register(usize::from(
+            opcode_number(insn),
+        )),
         OperandForm::AccImm | OperandForm::Imm | OperandForm::Relative | OperandForm::Nothing =>
             Location::Register(RAX),
     }
@@ -112,7 +114,7 @@ pub fn last_operand(form: OperandForm, size: Size, insn: &Insn, regs: &Regs, loa
     ensures range { result < modulus size }
 {
     match form {
-        OperandForm::RmReg => register_value(size, reg_number(insn), regs),
+        OperandForm::RmReg => register_value(size, usize::from(reg_number(insn)), regs),
         OperandForm::RegRm | OperandForm::Rm => rm_value(size, insn, regs, loaded),
         OperandForm::RmImm
         | OperandForm::AccImm
@@ -121,7 +123,7 @@ pub fn last_operand(form: OperandForm, size: Size, insn: &Insn, regs: &Regs, loa
         | OperandForm::Imm => size.low(insn.imm.value()),
         OperandForm::RmCount => Size::Byte.low(insn.imm.value()),
         OperandForm::RmCl => register_value(Size::Byte, RCX, regs),
-        OperandForm::Opcode => register_value(size, opcode_number(insn), regs),
+        OperandForm::Opcode => register_value(size, usize::from(opcode_number(insn)), regs),
         OperandForm::Relative => size.low(next_rip(insn, regs).wrapping_add(insn.imm.value())),
         OperandForm::Nothing => 0,
     }
@@ -131,13 +133,13 @@ pub fn last_operand(form: OperandForm, size: Size, insn: &Insn, regs: &Regs, loa
 
 /// A result that is written back, if there is one.
 #[tactic(auto, unfolding(crate::specs::WriteBack::result_or_nothing))]
-fn written_back(size: Size, place: Location, value: Option<u64>, regs: Regs) -> After
+fn result_or_nothing(size: Size, place: Location, value: Option<u64>, regs: Regs) -> RowResult
     requires { IsPlace place }
     ensures { result ≡ result_or_nothing size place value regs }
 {
     match value {
-        Some(value) => written(size, place, value, regs),
-        None => After { regs, stored: 0 },
+        Some(value) => write_result(size, place, value, regs),
+        None => RowResult { regs, stored: 0 },
     }
 }
 
@@ -150,15 +152,15 @@ pub fn compute_result(
     insn: &Insn,
     regs: &Regs,
     loaded: u64,
-) -> After
+) -> RowResult
     ensures { result ≡ compute_result operation form size insn.now regs.now loaded }
 {
     let first = first_operand(form, size, insn, regs, loaded);
     let last = last_operand(form, size, insn, regs, loaded);
-    let outcome = operate(operation, size, first, last, regs.flags);
+    let outcome = operation_outcome(operation, size, first, last, regs.flags);
     let next = Regs {
         flags: outcome.flags,
         ..regs_at_next(insn, regs)
     };
-    written_back(size, destination(form, insn, regs), outcome.value, next)
+    result_or_nothing(size, destination(form, insn, regs), outcome.value, next)
 }

@@ -27,7 +27,8 @@ pub struct Board<'a> {
 /// The byte at an address.
 #[tactic(auto, unfolding(crate::specs::TestBus::test_byte, crate::specs::TestBus::data_byte))]
 fn byte(board: &Board<'_>, at: Linear, access: Access) -> Result<u8, BusStop>
-    ensures { result ≡ test_byte (test_memory board.now.text.now board.now.bytes.now board.now.writable board.now.noted) at.0 access }
+    ensures { result
+        ≡ test_byte (test_memory board.now.text.now board.now.bytes.now board.now.writable board.now.noted) at.0 access }
 {
     let found = match access {
         Access::Fetch => board.text.get(at.0 as usize),
@@ -47,7 +48,10 @@ fn byte(board: &Board<'_>, at: Linear, access: Access) -> Result<u8, BusStop>
 #[tactic(auto, using(sb_bus::proofs::Loads::loaded_none, sb_bus::proofs::Loads::loaded_stop, sb_bus::proofs::Loads::loaded_stop_later, sb_bus::proofs::Loads::loaded_more, sb_bus::proofs::Loads::number_fits, sb_bus::proofs::Loads::number_below))]
 fn number(board: &Board<'_>, at: Linear, size: u8, access: Access) -> Result<u64, BusStop>
     requires { size ≤ 8 }
-    ensures answer { result ≡ loaded_from (byte_for (test_byte (test_memory board.now.text.now board.now.bytes.now board.now.writable board.now.noted)) access) at.0 size }
+    ensures answer { result
+        ≡ loaded_from (byte_for
+        (test_byte (test_memory board.now.text.now board.now.bytes.now board.now.writable board.now.noted)) access)
+        at.0 size }
     ensures range { IfOk result (λ number. number < 256 ^ size) }
 {
     if size == 0 {

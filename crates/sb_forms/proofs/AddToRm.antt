@@ -10,7 +10,7 @@ use Rattle.sb_insn.specs.declared.insn.Disp.TheVariants as disp
 use Rattle.sb_insn.specs.declared.insn.Imm.{Imm}
 use Rattle.sb_insn.specs.declared.insn.Imm.TheVariants as imm
 use Rattle.sb_insn.specs.OpcodeMap.{one_byte, cell_of}
-use Rattle.sb_insn.specs.Fields.{is_none, permits, has_sib, modrm_disp, is_modrm_field, is_sib_field, disp_kind_of, kind_of_disp, rule_of, imm_kind_of, kind_of_imm}
+use Rattle.sb_insn.specs.Fields.{is_none, modrm_opcode_permits, has_sib, modrm_disp, is_modrm_field, is_sib_field, disp_kind_of, kind_of_disp, rule_of, imm_kind_of, kind_of_imm}
 use Rattle.sb_insn.specs.Grammar.{IsValid}
 use Rattle.sb_forms.specs.Table.{is_one_byte, is_modrm, is_add_esp_edx}
 use Rattle.sb_forms.proofs.Operands.{modrm_is}
@@ -44,7 +44,7 @@ IsAddToRm lock rex sib displacement immediate op modrm =
 
 add_fields : (lock : Bool) (rex sib : Option ℕ) (displacement : Disp) (immediate : Imm)
     → IsAddToRm lock rex sib displacement immediate (One 0x01) (Some 0xD4)
-unfolding one_byte permits has_sib modrm_disp
+unfolding one_byte modrm_opcode_permits has_sib modrm_disp
 add_fields lock (Some rex) sib displacement immediate none e s d i = absurd cc
 add_fields true None sib displacement immediate none e s d i = absurd cc
 add_fields false None (Some sib) displacement immediate none e s d i = absurd cc

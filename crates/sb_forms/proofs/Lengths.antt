@@ -13,7 +13,7 @@ use Rattle.sb_insn.specs.declared.opcode_map.OperandForm.{OperandForm}
 use Rattle.sb_insn.specs.declared.opcode_map.OperandForm.TheVariants.{AccImm, OpcodeImm}
 use Rattle.sb_insn.specs.Spelling.{lock_bytes, op_bytes, disp_bytes, imm_bytes, lead_bytes, spelling}
 use Rattle.sb_insn.specs.Grammar.{IsValid}
-use Rattle.sb_insn.proofs.Longest.{one_field, spelling_13}
+use Rattle.sb_insn.proofs.Longest.{one_field, spelling_13, one_lock}
 use Rattle.sb_forms.specs.declared.helper.Helper.{Helper}
 use Rattle.sb_insn.specs.Rex.{with_x_b_exchanged}
 use Rattle.sb_forms.specs.Pieces.{is_sib_0f, sib_exchanged}
@@ -40,10 +40,6 @@ spelling_length insn =
 
 -- ---- fields
 
-pub lock_1 : (lock : Bool) → length (lock_bytes lock) ≤ 1
-lock_1 true = omega arith
-lock_1 false = omega arith
-
 pub op_4 : (op : Op) → length (op_bytes op) ≤ 4
 op_4 (One opcode) = omega arith
 op_4 (Two opcode) = omega arith
@@ -56,7 +52,7 @@ pub with_helper_9 : (helper : Helper) (insn : Insn) → length (op_bytes insn.op
     → length (spelling (with_helper helper insn)) ≤ 9
 unfolding with_helper at_helper
 with_helper_9 helper insn short =
-    omega (arith, spelling_length (with_helper helper insn), lock_1 insn.lock, one_field (with_helper helper insn).rex)
+    omega (arith, spelling_length (with_helper helper insn), one_lock insn.lock, one_field (with_helper helper insn).rex)
 
 -- MOV of the product has three bytes at most
 pub product_3 : (insn : Insn) (helper : Helper) → length (spelling (move_product insn helper)) ≤ 3
@@ -68,7 +64,7 @@ unfolding behind_main
 behind_3 insn helper = omega (arith, product_3 insn helper, length-append (spelling (move_product insn helper)) [])
 
 behind_other : (lock : Bool) (one : ℕ) → length (lock_bytes lock) + length (op_bytes (One one)) + length (spelled_bytes []) ≤ 5
-behind_other lock one = omega (arith, lock_1 lock)
+behind_other lock one = omega (arith, one_lock lock)
 
 with_imul : (lock : Bool) (insn : Insn) (helper : Helper) → length (lock_bytes lock) ≡ 0
     → length (lock_bytes lock) + length (op_bytes (register_op mnemonic.Imul)) + length
@@ -122,7 +118,7 @@ alone_5 name form insn helper =
       arith,
       spelling_length (with_constant name insn (own_register form insn) helper),
       op_2 name,
-      lock_1 insn.lock,
+      one_lock insn.lock,
       bare form insn,
       one_field (with_constant name insn (own_register form insn) helper).rex,
     )
@@ -165,7 +161,7 @@ displaced_9 insn valid e =
     omega (
       arith,
       spelling_length (with_displacement insn),
-      lock_1 insn.lock,
+      one_lock insn.lock,
       one_field (with_displacement insn).rex,
       ap (λ sib. length (option_to_list sib)) (no_sib_0f insn.modrm insn.sib parts.0 valid.sib),
       short_5 insn valid (memory_0f insn.modrm parts.0),

@@ -18,7 +18,7 @@ use Rattle.sb_insn.specs.declared.opcode_map.Cell.TheVariants.{Absent, NoModRm, 
 use Rattle.sb_insn.specs.OpcodeMap.{one_byte, one_byte_rows, two_byte, two_byte_rows, cell_of}
 use Rattle.sb_insn.specs.Groups.{extensions, group_operand, modrm_opcode}
 use Rattle.sb_insn.specs.Spelling.{op_bytes, imm_bytes}
-use Rattle.sb_insn.specs.Fields.{is_none, is_register, permits_rm, needs_rex, permits, some_permits, is_modrm_field, reg_field, operand_rule, rule_of, imm_kind_of, kind_of_imm, has_memory}
+use Rattle.sb_insn.specs.Fields.{is_none, is_register, permits_rm, needs_rex, modrm_opcode_permits, some_permits, is_modrm_field, reg_field, operand_rule, rule_of, imm_kind_of, kind_of_imm, has_memory}
 use Rattle.sb_insn.specs.Lookup.{named_instruction, instruction_in, instruction_of}
 use Rattle.sb_insn.specs.Grammar.{IsValid}
 use Rattle.sb_insn.proofs.Rows.{looked_up, every_extension, some_holds, extended}
@@ -88,8 +88,8 @@ lockable Vmfunc = refl
 -- ---- LOCK never stands before IMUL
 
 locked_row : (operand : ModRmOpcode) (rex : Option ℕ) (modrm : ℕ) → is_lockable operand ≡ true
-    → permits operand true rex modrm ≡ true → operand.instruction.mnemonic ≡ mnemonic.Imul → ⊥
-unfolding permits
+    → modrm_opcode_permits operand true rex modrm ≡ true → operand.instruction.mnemonic ≡ mnemonic.Imul → ⊥
+unfolding modrm_opcode_permits
 locked_row operand rex modrm lockable e name =
     let parts =
     and_parts (operand.lock && not (is_register modrm))

@@ -20,7 +20,7 @@ use Rattle.sb_forms.specs.declared.helper.Helper.TheVariants.{Rcx, Rdx, Rbx, Rsi
 use Rattle.sb_scan.proofs.Held.{nothing_holds}
 use Rattle.sb_forms.specs.Holding.{begins_with, holds_pattern}
 use Rattle.sb_insn.specs.Rex.{with_r_b}
-use Rattle.sb_insn.specs.RegisterNumbers.{modrm_of, one_byte_opcode}
+use Rattle.sb_insn.specs.RegisterNumbers.{modrm_of, last_opcode_byte}
 use Rattle.sb_forms.specs.Registers.{number_of}
 use Rattle.sb_forms.specs.Mains.{at_helper, own_register, with_displacement, with_helper, register_op, with_constant, on_register, behind_main, move_product, load_target, load_word}
 use Rattle.sb_forms.specs.Table.{begins_with_01_d4}
@@ -100,7 +100,7 @@ own_holds AccImm name insn helper =
     (omega arith)
 own_holds OpcodeImm name insn helper =
     register_holds insn.lock insn.rex (rex_b insn.rex) (register_op name)
-    (0xC0 + one_byte_opcode insn.op % 8 + 8 * number_of helper) (b_1 insn.rex) (register_opcode name) (omega arith)
+    (0xC0 + last_opcode_byte insn.op % 8 + 8 * number_of helper) (b_1 insn.rex) (register_opcode name) (omega arith)
 own_holds _ name insn helper =
     register_holds insn.lock insn.rex (rex_b insn.rex) (register_op name) (0xC0 + rm_field (modrm_of insn) + 8 * number_of helper)
     (b_1 insn.rex) (register_opcode name) (omega arith)
@@ -170,7 +170,7 @@ load_word_quiet insn =
     false
     (Some (0x48 + 4 * rex_b insn.rex))
     (One 0x8B)
-    (8 * (one_byte_opcode insn.op % 8) + 4)
+    (8 * (last_opcode_byte insn.op % 8) + 4)
     (0x25 ∷ 0x10 ∷ 0x40 ∷ 0x00 ∷ 0x70 ∷ [])
     (omega (arith, b_1 insn.rex), omega (arith, b_1 insn.rex))
     (λ is. omega (arith, is), λ is. omega (arith, is))

@@ -1,5 +1,6 @@
 -- The instructions around a main one are quiet.
 use Rattle.std.proofs.Common.{◌≡◌, ℕ, suc, ◌+◌, ◌-◌, ◌*◌, ◌/◌, ◌%◌, ◌≤◌, ◌<◌, true, false, List, [], ◌∷◌, ◌++◌, Option, Some, None, refl, sym, ap, ◌∙◌, arith, subst, ⊎_elim, FitsSigned, ℤ, pos, negsuc, ◌-ℤ◌, ltb}
+use Rattle.std.specs.Prelude.{unwrap_or}
 use Rattle.std.specs.Int.{w8, w32, cast_unsigned}
 use Rattle.std.specs.Option.{option_to_list}
 use Rattle.std.proofs.lemmas.Bool.{cond_both, cond-false, cases_eq, eqb-false, le-ltb, false_from_ne_true, false≢true}
@@ -14,7 +15,7 @@ use Rattle.sb_forms.specs.declared.helper.Helper.{Helper}
 use Rattle.sb_forms.specs.declared.helper.Helper.TheVariants.{Rcx, Rdx, Rbx, Rsi, Rdi}
 use Rattle.sb_scan.proofs.Held.{nothing_holds, byte_holds}
 use Rattle.sb_forms.specs.Holding.{holds_pattern}
-use Rattle.sb_insn.specs.RegisterNumbers.{byte_of, modrm_of}
+use Rattle.sb_insn.specs.RegisterNumbers.{modrm_of}
 use Rattle.sb_forms.specs.Registers.{number_of}
 use Rattle.sb_forms.specs.Pieces.{first_saved, second_saved, scratch_word, upper_half, save, restore, save_half, load_number, add_number, lowered_displacement, lacking, add_step_back, load_constant, sib_exchanged, is_sib_0f, without_sib_0f, load_address, address_from, address_at, address_by, load_address_of_operand, jump_insn, jump_through}
 use Rattle.sb_forms.proofs.Lowered.{in_four, lowered_holds}
@@ -220,7 +221,7 @@ number_7 Rdi = omega arith
 
 bare_by : (modrm sib : Option ℕ) (displacement : Disp) (helper : Helper) → is_sib_field modrm sib ≡ true
     → kind_of_disp displacement ≡ disp_kind_of modrm sib
-    → 64 * mod_field (byte_of modrm) + 8 * number_of helper + rm_field (byte_of modrm) ≡ 0x0F
+    → 64 * mod_field (unwrap_or modrm 0) + 8 * number_of helper + rm_field (unwrap_or modrm 0) ≡ 0x0F
     → (sib ≡ None) × (displacement ≡ disp.None)
 bare_by None sib displacement helper stands kind is = absurd (omega (arith, is, number_1 helper))
 bare_by (Some modrm) sib displacement helper stands kind is =

@@ -12,7 +12,7 @@ use Rattle.sb_insn.specs.declared.opcode_map.Mnemonic.{Mnemonic}
 use Rattle.sb_insn.specs.declared.opcode_map.Mnemonic.TheVariants as mnemonic
 use Rattle.sb_insn.specs.declared.opcode_map.OperandForm.{OperandForm}
 use Rattle.sb_insn.specs.declared.opcode_map.Instruction.{Instruction}
-use Rattle.sb_insn.specs.Spelling.{disp_bytes, imm_bytes, spelling}
+use Rattle.sb_insn.specs.Spelling.{imm_bytes, spelling}
 use Rattle.sb_insn.specs.Lookup.{instruction_of}
 use Rattle.sb_insn.specs.Grammar.{IsValid}
 use Rattle.sb_forms.specs.declared.helper.Helper.{Helper}
@@ -25,7 +25,7 @@ use Rattle.sb_forms.specs.Mains.{at_helper, with_displacement, with_helper, with
 use Rattle.sb_insn.specs.Fields.{has_memory, is_from_next}
 use Rattle.sb_forms.specs.Table.{spelled_bytes, move_outcome, bytes_of, begins_at_modrm, site_of, form_of, jump_form, wide_constant_form, address_and_constant_form, address_form, constant_form}
 use Rattle.sb_forms.specs.Answers.{IsSmall}
-use Rattle.sb_insn.proofs.Longest.{one_field}
+use Rattle.sb_insn.proofs.Longest.{one_field, any_disp}
 use Rattle.sb_forms.proofs.Lengths.{spelling_length, with_helper_9, constant_main_8, alone_5, displaced_9}
 use Rattle.sb_scan.proofs.Held.{nothing_holds, byte_holds}
 use Rattle.sb_forms.proofs.Behind.{imm_holds}
@@ -72,14 +72,9 @@ pub word_8 : (insn : Insn) → length (spelling (load_word insn)) ≡ 8
 unfolding load_word
 word_8 insn = refl
 
-disp_4 : (d : Disp) → length (disp_bytes d) ≤ 4
-disp_4 disp.None = omega arith
-disp_4 (disp.D8 value) = omega arith
-disp_4 (disp.D32 value) = omega arith
-
 lea_8 : (helper : Helper) (insn : Insn) (d : Disp) → length (spelling (load_address helper insn d)) ≤ 8
 unfolding load_address
-lea_8 helper insn d = omega (arith, spelling_length (load_address helper insn d), one_field insn.sib, disp_4 d)
+lea_8 helper insn d = omega (arith, spelling_length (load_address helper insn d), one_field insn.sib, any_disp d)
 
 -- ---- pieces one after another
 

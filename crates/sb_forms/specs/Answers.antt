@@ -30,8 +30,10 @@ pub record FitsSlot (pre main post : List ℕ) : Type 0 where
   pub whole : length pre + length main + length post ≤ 74
 
 abbrev pub IsSmall : Form → Type 0
+IsSmall form.Keep = Unit {0}
+IsSmall (form.InPlace bytes) = Unit {0}
 IsSmall (form.Moved pre main post) = FitsSlot pre main post
-IsSmall _ = Unit {0}
+IsSmall form.Unmovable = Unit {0}
 
 -- In place stand as many bytes as the instruction has; one that is moved has room for a jump of five bytes.
 abbrev pub HasRoom : Insn → Form → Type 0

@@ -18,7 +18,7 @@ use Rattle.sb_insn.specs.Fields.{reg_field, rm_field, rex_r, rex_b}
 use Rattle.sb_forms.specs.declared.helper.Helper.{Helper}
 use Rattle.sb_forms.specs.declared.mains.RmOperand.{RmOperand}
 use Rattle.sb_insn.specs.Rex.{with_r_b}
-use Rattle.sb_insn.specs.RegisterNumbers.{modrm_of, one_byte_opcode}
+use Rattle.sb_insn.specs.RegisterNumbers.{modrm_of, last_opcode_byte}
 use Rattle.sb_forms.specs.Registers.{number_of}
 use Rattle.sb_forms.specs.Pieces.{opcode_alone, wide, wide_at_address, scratch_word}
 
@@ -31,7 +31,7 @@ at_helper helper = record { mod_rm = 0x40 + number_of helper; disp = disp.D8 (po
 -- the register that the instruction has as its operand beside reg and the immediate: RAX, the one in the opcode, or rm
 unfoldable pub own_register : OperandForm → Insn → RmOperand
 own_register AccImm insn = record { mod_rm = 0xC0; disp = disp.None; rex_b = 0 }
-own_register OpcodeImm insn = record { mod_rm = 0xC0 + one_byte_opcode insn.op % 8; disp = disp.None; rex_b = rex_b insn.rex }
+own_register OpcodeImm insn = record { mod_rm = 0xC0 + last_opcode_byte insn.op % 8; disp = disp.None; rex_b = rex_b insn.rex }
 own_register RmReg insn = record { mod_rm = 0xC0 + rm_field (modrm_of insn); disp = disp.None; rex_b = rex_b insn.rex }
 own_register RegRm insn = record { mod_rm = 0xC0 + rm_field (modrm_of insn); disp = disp.None; rex_b = rex_b insn.rex }
 own_register RmImm insn = record { mod_rm = 0xC0 + rm_field (modrm_of insn); disp = disp.None; rex_b = rex_b insn.rex }
@@ -195,4 +195,4 @@ load_target helper = record (wide 0x8B (0x40 + 9 * number_of helper)) { disp = d
 -- mov of the word in the scratch page to the register in the opcode
 unfoldable pub load_word : Insn → Insn
 load_word insn =
-    record (wide_at_address 0x8B (one_byte_opcode insn.op % 8) scratch_word) { rex = Some (0x48 + 4 * rex_b insn.rex) }
+    record (wide_at_address 0x8B (last_opcode_byte insn.op % 8) scratch_word) { rex = Some (0x48 + 4 * rex_b insn.rex) }

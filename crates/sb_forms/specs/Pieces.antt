@@ -138,7 +138,8 @@ address_at helper insn next distance =
 
 abbrev pub address_by : Helper → Insn → ℕ → Disp → List Insn
 address_by helper insn next (disp.D32 distance) = address_at helper insn next distance
-address_by helper insn next displacement = load_address helper insn displacement ∷ []
+address_by helper insn next (disp.D8 distance) = load_address helper insn (disp.D8 distance) ∷ []
+address_by helper insn next disp.None = load_address helper insn disp.None ∷ []
 
 -- the address of the instruction's memory operand; `next` is the address of the next instruction
 unfoldable pub load_address_of_operand : Helper → Insn → ℕ → List Insn

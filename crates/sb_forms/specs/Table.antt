@@ -4,7 +4,7 @@ use Rattle.std.specs.Prelude.{flat_map, Option, Some, None, ℤ}
 use Rattle.std.specs.Int.{w32}
 use Rattle.sb_insn.specs.declared.insn.Insn.{Insn}
 use Rattle.sb_insn.specs.declared.insn.Op.{Op}
-use Rattle.sb_insn.specs.declared.insn.Op.TheVariants.{One, Vmfunc}
+use Rattle.sb_insn.specs.declared.insn.Op.TheVariants.{One, Two, Endbr, Vmfunc}
 use Rattle.sb_insn.specs.declared.insn.Imm.{Imm}
 use Rattle.sb_insn.specs.declared.insn.Imm.TheVariants as imm
 use Rattle.sb_insn.specs.declared.opcode_map.Mnemonic.{Mnemonic}
@@ -46,12 +46,16 @@ move_outcome site pre main post =
 -- ---- tests
 
 abbrev pub is_vmfunc : Op → Bool
+is_vmfunc (One opcode) = false
+is_vmfunc (Two opcode) = false
+is_vmfunc Endbr = false
 is_vmfunc Vmfunc = true
-is_vmfunc _ = false
 
 abbrev pub is_one_byte : ℕ → Op → Bool
 is_one_byte opcode (One other) = opcode == other
-is_one_byte opcode _ = false
+is_one_byte opcode (Two other) = false
+is_one_byte opcode Endbr = false
+is_one_byte opcode Vmfunc = false
 
 abbrev pub is_modrm : ℕ → Option ℕ → Bool
 is_modrm modrm None = false
@@ -68,7 +72,9 @@ completes_pattern insn after_0f = is_add_esp_edx insn && after_0f
 -- an immediate of four bytes begins with 01 D4
 abbrev pub begins_with_01_d4 : Imm → Bool
 begins_with_01_d4 (imm.I32 value) = begins_with (0x01 ∷ 0xD4 ∷ []) (number w32 value)
-begins_with_01_d4 _ = false
+begins_with_01_d4 imm.None = false
+begins_with_01_d4 (imm.I8 value) = false
+begins_with_01_d4 (imm.I64 value) = false
 
 -- The pattern begins at ModRM 0F, which has no SIB byte and no displacement behind it.
 abbrev pub begins_at_modrm : Insn → Bool
@@ -146,7 +152,8 @@ form_by instruction insn site (imm.I32 value) =
     (if holds_pattern (number w32 value) then address_and_constant_form instruction insn site value else address_form instruction
     insn site)
     else constant_form instruction insn site value
-form_by instruction insn site _ = address_form instruction insn site
+form_by instruction insn site (imm.I8 value) = address_form instruction insn site
+form_by instruction insn site imm.None = address_form instruction insn site
 
 -- an instruction that holds the pattern in a field behind ModRM
 unfoldable pub slot_form : Instruction → Insn → Site → Replacement

@@ -22,8 +22,8 @@ use crate::code::Code;
 use crate::helper::Helper;
 use crate::pieces::{SCRATCH_WORD, opcode_alone, wide, wide_at_address};
 use sb_insn::{
-    Disp, Imm, Insn, Mnemonic, Op, OperandForm, modrm_of, one_byte_opcode, reg_field, rex_b, rex_r,
-    rm_field, with_r_b,
+    Disp, Imm, Insn, Mnemonic, Op, OperandForm, last_opcode_byte, modrm_of, reg_field, rex_b,
+    rex_r, rm_field, with_r_b,
 };
 
 /// A displacement of one byte 00.
@@ -68,7 +68,7 @@ fn own_register(form: OperandForm, insn: &Insn) -> RmOperand
             rex_b: 0,
         },
         OperandForm::OpcodeImm => RmOperand {
-            mod_rm: 0xC0 + one_byte_opcode(insn.op) % 8,
+            mod_rm: 0xC0 + last_opcode_byte(insn.op) % 8,
             disp: Disp::None,
             rex_b: rex_b(insn.rex),
         },
@@ -317,6 +317,6 @@ pub fn load_word(insn: &Insn) -> Insn
 {
     Insn {
         rex: Some(0x48 + 4 * rex_b(insn.rex)),
-        ..wide_at_address(0x8B, one_byte_opcode(insn.op) % 8, SCRATCH_WORD)
+        ..wide_at_address(0x8B, last_opcode_byte(insn.op) % 8, SCRATCH_WORD)
     }
 }

@@ -29,6 +29,7 @@ ghost use Rattle.sb_forms.specs.Pieces.{
   jump_insn,
   jump_through,
 };
+ghost use Rattle.sb_forms.specs.Places.{text_end};
 ghost use Rattle.sb_forms.specs.Table.{spelled_bytes};
 
 use crate::code::Code;
@@ -282,7 +283,7 @@ fn load_address(helper: Helper, insn: &Insn, disp: Disp) -> Insn
 
 /// Adds the next instruction's address to the helper, and what the lowered distance lacks.
 fn add_next(helper: Helper, next: u64, distance: i32) -> Insn
-    requires { next ≤ 0x600010 }
+    requires { next ≤ text_end + 16 }
     ensures value { result ≡ add_number helper (pos (next + lacking distance)) }
     ensures size { length (spelling result) ≡ 7 }
 {
@@ -301,7 +302,7 @@ fn load_lowered_address(helper: Helper, insn: &Insn, distance: i32) -> Insn
 #[tactic(auto, unfolding(crate::specs::Pieces::address_from))]
 fn put_address_from(code: &mut Code, helper: Helper, next: u64, distance: i32)
     requires room { length code.old + 15 ≤ 64 }
-    requires next { next ≤ 0x600010 }
+    requires next { next ≤ text_end + 16 }
     ensures code { code.new ≡ code.old ++ spelled_bytes (address_from helper next distance) }
     ensures size { length code.new ≤ length code.old + 15 }
 {
@@ -313,7 +314,7 @@ fn put_address_from(code: &mut Code, helper: Helper, next: u64, distance: i32)
 #[tactic(auto, unfolding(crate::specs::Pieces::address_at))]
 fn put_address_at(code: &mut Code, helper: Helper, insn: &Insn, next: u64, distance: i32)
     requires room { length code.old + 15 ≤ 64 }
-    requires next { next ≤ 0x600010 }
+    requires next { next ≤ text_end + 16 }
     ensures code { code.new ≡ code.old ++ spelled_bytes (address_at helper insn.now next distance) }
     ensures size { length code.new ≤ length code.old + 15 }
 {
@@ -329,7 +330,7 @@ fn put_address_at(code: &mut Code, helper: Helper, insn: &Insn, next: u64, dista
 #[tactic(auto, unfolding(crate::specs::Pieces::load_address_of_operand))]
 pub fn put_address(code: &mut Code, helper: Helper, insn: &Insn, next: u64)
     requires room { length code.old + 15 ≤ 64 }
-    requires next { next ≤ 0x600010 }
+    requires next { next ≤ text_end + 16 }
     ensures code { code.new ≡ code.old ++ spelled_bytes (load_address_of_operand helper insn.now next) }
     ensures size { length code.new ≤ length code.old + 15 }
 {
@@ -343,8 +344,8 @@ pub fn put_address(code: &mut Code, helper: Helper, insn: &Insn, next: u64)
 /// `jmp` by a distance of four bytes, from where the jump itself stands.
 #[tactic(auto, unfolding(crate::specs::Pieces::jump_insn))]
 pub fn jump(from: u64, to: u64) -> Insn
-    requires from { from ≤ 0x600010 }
-    requires to { to ≤ 0x600010 }
+    requires from { from ≤ text_end + 16 }
+    requires to { to ≤ text_end + 16 }
     ensures value { result ≡ jump_insn from to }
     ensures size { length (spelling result) ≡ 5 }
 {
@@ -356,8 +357,8 @@ pub fn jump(from: u64, to: u64) -> Insn
 
 /// The bytes of a `jmp` from one address to another, both in the text or the rewrite area.
 pub fn jump_code(from: u64, to: u64) -> Code
-    requires from { from ≤ 0x600010 }
-    requires to { to ≤ 0x600010 }
+    requires from { from ≤ text_end + 16 }
+    requires to { to ≤ text_end + 16 }
     ensures { result ≡ spelling (jump_insn from to) }
 {
     Code::of(&jump(from, to))

@@ -44,7 +44,9 @@ fn moved(site: Site, pre: Code, main: &Insn, mut post: Code) -> Form
     requires main { length (spelling main.now) ≤ 9 }
     requires post { length post ≤ 19 }
     requires slot { length pre + length (spelling main.now) + length post ≤ 69 }
-    ensures moved { result ≡ Form.Moved pre (spelling main.now) (post ++ spelling (jump_insn (site.slot + length pre + length (spelling main.now) + length post) site.next)) }
+    ensures moved { result
+        ≡ Form.Moved pre (spelling main.now)
+        (post ++ spelling (jump_insn (site.slot + length pre + length (spelling main.now) + length post) site.next)) }
     ensures small { IsSmall result }
 {
     let main = Code::of(main);

@@ -1,12 +1,13 @@
 //! Which form applies to an instruction.
 
 ghost use Rattle.std.specs.Prelude.{◌≡◌, ◌+◌, ◌≤◌, true, false, [], ◌∷◌, length};
+ghost use Rattle.sb_abi.specs.declared.space.TheConstants.{AREA_ADDRESS};
 ghost use Rattle.sb_insn.specs.declared.opcode_map.Mnemonic.{Mnemonic};
 ghost use Rattle.sb_insn.specs.Spelling.{op_bytes, imm_bytes, spelling};
 ghost use Rattle.sb_insn.specs.Grammar.{IsValid};
 ghost use Rattle.sb_insn.specs.Lookup.{instruction_of};
-ghost use Rattle.sb_forms.specs.Answers.{IsSite, IsSmall, HasRoom, IsCleanForm};
-ghost use Rattle.sb_forms.specs.Places.{HasForm};
+ghost use Rattle.sb_forms.specs.Answers.{IsSite, IsSmall, HasRoom, IsCleanForm, area_end};
+ghost use Rattle.sb_forms.specs.Places.{HasForm, IsInText};
 ghost use Rattle.sb_insn.specs.Fields.{has_memory};
 ghost use Rattle.sb_forms.specs.Table.{
   nop,
@@ -222,8 +223,8 @@ fn table_form(insn: &Insn, site: Site, after_0f: bool) -> Form
 #[tactic(auto, using(sb_insn::proofs::Longest::spelling_13))]
 fn site_of(insn: &Insn, at: u64, slot: u64) -> Site
     requires valid { IsValid insn.now }
-    requires at { (0x400000 ≤ at) × (at ≤ 0x5FFFFF) }
-    requires slot { slot ≤ 0x11000 }
+    requires at { IsInText at }
+    requires slot { slot ≤ area_end }
     ensures value { result ≡ site_of insn.now at slot }
     ensures site { IsSite result }
 {
@@ -242,8 +243,8 @@ fn site_of(insn: &Insn, at: u64, slot: u64) -> Site
 pub fn form(insn: &Insn, at: u64, slot: u64, after_0f: bool) -> Form
     requires valid { IsValid insn.now }
     requires taken { HasForm insn.now }
-    requires at { (0x400000 ≤ at) × (at ≤ 0x5FFFFF) }
-    requires slot { (0x1000 ≤ slot) × (slot ≤ 0x11000) }
+    requires at { IsInText at }
+    requires slot { (AREA_ADDRESS ≤ slot) × (slot ≤ area_end) }
     ensures table { result ≡ form_of insn.now at slot after_0f }
     // In place stand as many bytes; one that is moved has room for a jump, and its slot is small.
     ensures room { HasRoom insn.now result }

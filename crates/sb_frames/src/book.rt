@@ -107,7 +107,8 @@ impl FrameBook {
 
 /// The first index of a free frame, from a given one on.
 fn first_free(holders: &[Option<(Kind, u32)>], from: usize) -> Option<usize>
-    ensures none { IfNone result ((index : ℕ) → from ≤ index → index < length holders.now → get_or holders.now index None ≢ None) }
+    ensures none { IfNone result ((index : ℕ) → from ≤ index → index < length holders.now
+        → get_or holders.now index None ≢ None) }
     ensures within { IfSome result (λ found. (from ≤ found) × (found < length holders.now)) }
     ensures free { IfSome result (λ found. get_or holders.now found None ≡ None) }
     ensures lowest { IfSome result (λ found. (index : ℕ) → from ≤ index → index < found → get_or holders.now index None ≢ None) }

@@ -141,7 +141,8 @@ any_imm (imm.I8 value) = omega arith
 any_imm (imm.I32 value) = omega arith
 any_imm (imm.I64 value) = omega arith
 
-any_disp : (displacement : Disp) → length (disp_bytes displacement) ≤ 4
+-- a displacement has four bytes at most
+pub any_disp : (displacement : Disp) → length (disp_bytes displacement) ≤ 4
 any_disp disp.None = omega arith
 any_disp (disp.D8 value) = omega arith
 any_disp (disp.D32 value) = omega arith
@@ -151,7 +152,8 @@ no_disp disp.None e = refl
 no_disp (disp.D8 value) e = absurd cc
 no_disp (disp.D32 value) e = absurd cc
 
-one_lock : (lock : Bool) → length (lock_bytes lock) ≤ 1
+-- LOCK is one byte at most
+pub one_lock : (lock : Bool) → length (lock_bytes lock) ≤ 1
 one_lock true = omega arith
 one_lock false = omega arith
 

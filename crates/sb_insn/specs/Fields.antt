@@ -98,14 +98,14 @@ needs_rex opcode modrm =
     || (opcode.byte_rm && (is_register modrm && nat_le 4 (rm_field modrm)))
 
 -- the operands permit this ModRM byte behind these prefixes
-unfoldable pub permits : ModRmOpcode → Bool → Option ℕ → ℕ → Bool
-permits opcode lock rex modrm =
+unfoldable pub modrm_opcode_permits : ModRmOpcode → Bool → Option ℕ → ℕ → Bool
+modrm_opcode_permits opcode lock rex modrm =
     (not lock || (opcode.lock && not (is_register modrm)))
     && (permits_rm opcode.rm modrm && not (is_none rex && needs_rex opcode modrm))
 
 abbrev pub some_permits : Option ModRmOpcode → Bool → Option ℕ → ℕ → Bool
 some_permits None lock rex modrm = false
-some_permits (Some opcode) lock rex modrm = permits opcode lock rex modrm
+some_permits (Some opcode) lock rex modrm = modrm_opcode_permits opcode lock rex modrm
 
 -- the opcode has no ModRM byte, and permits these prefixes
 abbrev pub stands_alone : Cell → Bool → Option ℕ → Bool

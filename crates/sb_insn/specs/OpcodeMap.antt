@@ -80,7 +80,8 @@ from_byte mnemonic form =
 
 -- no ModRM byte
 abbrev pub no_modrm : RexRule → Mnemonic → OperandForm → ImmRule → Cell
-no_modrm rex mnemonic form imm = NoModRm (record { rex = rex; imm = imm; instruction = record { mnemonic = mnemonic; form = form } })
+no_modrm rex mnemonic form imm =
+    NoModRm (record { rex = rex; imm = imm; instruction = record { mnemonic = mnemonic; form = form } })
 
 -- ---- rows
 

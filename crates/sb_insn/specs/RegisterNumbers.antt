@@ -1,5 +1,5 @@
 -- The registers that the fields of an instruction name, by their numbers, 0 to 15.
-use Rattle.std.specs.Prelude.{ℕ, ◌+◌, ◌*◌, ◌%◌, Option, Some, None}
+use Rattle.std.specs.Prelude.{ℕ, ◌+◌, ◌*◌, ◌%◌, Option, Some, None, unwrap_or}
 use Rattle.sb_insn.specs.declared.insn.Insn.{Insn}
 use Rattle.sb_insn.specs.declared.insn.Op.{Op}
 use Rattle.sb_insn.specs.declared.insn.Op.TheVariants.{One, Two, Endbr, Vmfunc}
@@ -9,21 +9,16 @@ use Rattle.sb_insn.specs.Fields.{reg_field, rm_field, index, base, rex_r, rex_x,
 abbrev pub register_number : ℕ → ℕ → ℕ
 register_number field extension = field + 8 * extension
 
--- a field of one byte, 0 where none stands
-abbrev pub byte_of : Option ℕ → ℕ
-byte_of None = 0
-byte_of (Some byte) = byte
-
--- the ModRM byte
+-- the ModRM byte, 0 where none stands
 abbrev pub modrm_of : Insn → ℕ
-modrm_of insn = byte_of insn.modrm
+modrm_of insn = unwrap_or insn.modrm 0
 
--- the opcode byte of the one-byte map
-abbrev pub one_byte_opcode : Op → ℕ
-one_byte_opcode (One opcode) = opcode
-one_byte_opcode (Two opcode) = 0
-one_byte_opcode Endbr = 0
-one_byte_opcode Vmfunc = 0
+-- the last byte of the opcode
+abbrev pub last_opcode_byte : Op → ℕ
+last_opcode_byte (One opcode) = opcode
+last_opcode_byte (Two opcode) = opcode
+last_opcode_byte Endbr = 0xFA
+last_opcode_byte Vmfunc = 0xD4
 
 -- the register that reg names
 abbrev pub reg_number : Insn → ℕ
@@ -31,7 +26,7 @@ reg_number insn = register_number (reg_field (modrm_of insn)) (rex_r insn.rex)
 
 -- the register in the opcode
 abbrev pub opcode_number : Insn → ℕ
-opcode_number insn = register_number (one_byte_opcode insn.op % 8) (rex_b insn.rex)
+opcode_number insn = register_number (last_opcode_byte insn.op % 8) (rex_b insn.rex)
 
 -- the register that rm names, if a ModRM byte stands
 abbrev pub rm_number : Option ℕ → Option ℕ → Option ℕ

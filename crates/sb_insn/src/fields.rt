@@ -16,7 +16,7 @@ ghost use Rattle.sb_insn.specs.Fields.{
   is_rex,
   permits_rex,
   permits_rm,
-  permits,
+  modrm_opcode_permits,
   is_register,
   has_memory,
   is_from_next,
@@ -214,9 +214,9 @@ fn permits_rm(rule: RmRule, modrm: u8) -> bool
 
 /// Whether an opcode with these operands permits this ModRM byte behind these prefixes.
 #[inline(always)]
-#[tactic(auto, unfolding(crate::specs::Fields::permits))]
-fn permits(opcode: &ModRmOpcode, lock: bool, rex: Option<u8>, modrm: u8) -> bool
-    ensures { result ≡ permits opcode.now lock rex modrm }
+#[tactic(auto, unfolding(crate::specs::Fields::modrm_opcode_permits))]
+fn modrm_opcode_permits(opcode: &ModRmOpcode, lock: bool, rex: Option<u8>, modrm: u8) -> bool
+    ensures { result ≡ modrm_opcode_permits opcode.now lock rex modrm }
 {
     (!lock || (opcode.lock && !is_register(modrm)))
         && (permits_rm(opcode.rm, modrm) && !(rex.is_none() && needs_rex(opcode, modrm)))
@@ -229,7 +229,7 @@ pub fn permits_modrm(cell: Cell, lock: bool, rex: Option<u8>, modrm: u8) -> bool
 {
     match modrm_opcode(cell, reg_field(modrm)) {
         None => false,
-        Some(opcode) => permits(&opcode, lock, rex, modrm),
+        Some(opcode) => modrm_opcode_permits(&opcode, lock, rex, modrm),
     }
 }
 
@@ -314,7 +314,7 @@ fn rule_of(cell: Cell, modrm: Option<u8>) -> ImmRule
     match modrm {
         None => match cell {
             Cell::NoModRm(opcode) => opcode.imm,
-            _ => ImmRule::None,
+            Cell::Absent | Cell::ModRm(_) | Cell::Extended(..) => ImmRule::None,
         },
         Some(modrm) => match modrm_opcode(cell, reg_field(modrm)) {
             None => ImmRule::None,

@@ -37,7 +37,8 @@ pub use opcode_map::{
 };
 pub use opcodes::cell_of;
 pub use register_numbers::{
-    base_number, index_number, modrm_of, one_byte_opcode, opcode_number, reg_number, rm_number,
+    base_number, index_number, last_opcode_byte, modrm_of, opcode_number, reg_number,
+    register_number, rm_number,
 };
 pub use registers::{Flags, Regs};
 pub use rex::{with_r_b, with_x_b_exchanged};

@@ -1,9 +1,9 @@
 //! The registers that the fields of an instruction name, by their numbers, 0 to 15.
 
-ghost use Rattle.std.specs.Prelude.{◌≡◌, ◌≤◌};
+ghost use Rattle.std.specs.Prelude.{◌≡◌, ◌≤◌, ◌<◌};
 ghost use Rattle.sb_insn.specs.RegisterNumbers.{
   modrm_of,
-  one_byte_opcode,
+  last_opcode_byte,
   register_number,
   reg_number,
   opcode_number,
@@ -22,37 +22,41 @@ pub fn modrm_of(insn: &Insn) -> u8
     insn.modrm.unwrap_or(0)
 }
 
-/// The opcode byte of the one-byte map, 0 for another opcode.
-pub fn one_byte_opcode(op: Op) -> u8
-    ensures { result ≡ one_byte_opcode op }
+/// The last byte of the opcode.
+pub fn last_opcode_byte(op: Op) -> u8
+    ensures { result ≡ last_opcode_byte op }
 {
     match op {
-        Op::One(opcode) => opcode,
-        Op::Two(_) | Op::Endbr | Op::Vmfunc => 0,
+        Op::One(opcode) | Op::Two(opcode) => opcode,
+        Op::Endbr => 0xFA,
+        Op::Vmfunc => 0xD4,
     }
 }
 
 /// The full number of a register: a field of three bits, and the bit of REX that extends it.
-fn register_number(field: u8, extension: u8) -> u8
+pub fn register_number(field: u8, extension: u8) -> u8
     requires field { field ≤ 7 }
     requires extension { extension ≤ 1 }
-    ensures { result ≡ register_number field extension }
+    ensures value { result ≡ register_number field extension }
+    ensures range { result < 16 }
 {
     field + 8 * extension
 }
 
 /// The register that reg names.
 pub fn reg_number(insn: &Insn) -> u8
-    ensures { result ≡ reg_number insn.now }
+    ensures value { result ≡ reg_number insn.now }
+    ensures range { result < 16 }
 {
     register_number(reg_field(modrm_of(insn)), rex_r(insn.rex))
 }
 
-/// The register in an opcode of the one-byte map.
+/// The register in the opcode.
 pub fn opcode_number(insn: &Insn) -> u8
-    ensures { result ≡ opcode_number insn.now }
+    ensures value { result ≡ opcode_number insn.now }
+    ensures range { result < 16 }
 {
-    register_number(one_byte_opcode(insn.op) % 8, rex_b(insn.rex))
+    register_number(last_opcode_byte(insn.op) % 8, rex_b(insn.rex))
 }
 
 /// The register that rm names, if a ModRM byte stands.

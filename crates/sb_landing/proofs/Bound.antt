@@ -7,6 +7,7 @@ use Rattle.sb_state.specs.declared.state.Binding.{Binding}
 use Rattle.sb_state.specs.declared.state.Flight.{Flight}
 use Rattle.sb_state.specs.declared.state.Registration.{Registration}
 use Rattle.sb_state.specs.declared.state.Thread.{Thread}
+use Rattle.sb_state.proofs.Cases.{some_there}
 use Rattle.sb_trace.specs.State.{State, Process, find_page, thread_at, flight_at, process_at, registration_of, registration_at}
 use Rattle.sb_trace.specs.KernelCall.{binding_with, handler_in}
 use Rattle.sb_trace.specs.Start.{record_bytes}
@@ -27,16 +28,12 @@ process_told : (found : Option Process) (registration : Registration) → regist
 process_told None registration is = absurd cc
 process_told (Some process) registration is = refl
 
-page_of : (found : Option Page) → is_some found ≡ true → (page : Page) × (found ≡ Some page)
-page_of None is = absurd cc
-page_of (Some page) is = (page, refl)
-
 -- its pool page is there
 pool_there : (state : State) (server : ℕ) (registration : Registration) → IsSound state
     → registration_at state server ≡ Some registration → (page : Page) × (find_page state.pages (Pool server) ≡ Some page)
 unfolding registration_at process_at is_in_table
 pool_there state server registration sound is =
-    page_of (find_page state.pages (Pool server))
+    some_there (find_page state.pages (Pool server))
     (sound.table.exactly (Pool server)
     ∙ (within state.processes server ∙ process_told (slice_get state.processes server) registration is))
 

@@ -6,7 +6,7 @@ use Rattle.sb_memory.specs.declared.address.Access.TheVariants.{Fetch}
 use Rattle.sb_insn.specs.Spelling.{spelling}
 use Rattle.sb_exec.proofs.OneFetch.{spelled_fetches}
 use Rattle.sb_exec.specs.Fetching.{bytes_from_fetch, FetchesOn, fetch_of, after_fetches}
-use Rattle.sb_tramp.specs.Page.{Row, StandsIn}
+use Rattle.sb_tramp.specs.Page.{PageRow, StandsIn}
 use Rattle.sb_tramp.specs.Server.{server_page}
 use Rattle.sb_state.specs.declared.page.PageName.TheVariants.{ServerTrampoline}
 use Rattle.sb_state.specs.declared.page.Mode.TheVariants as mode
@@ -54,7 +54,7 @@ row_byte page offset index bytes rest is below =
     sym (get_or-drop offset page index 0) ∙ ap (λ (t : List ℕ). get_or t index 0) is ∙ get_or_append_left bytes rest 0 index below
 
 -- the instruction of a row is fetched at its address
-pub row_fetches : (state : State) (thread view process : ℕ) (row : Row) → ArePagesSound state.pages → (view == 0) ≡ false
+pub row_fetches : (state : State) (thread view process : ℕ) (row : PageRow) → ArePagesSound state.pages → (view == 0) ≡ false
     → process_shown state.threads thread view ≡ Some process
     → StandsIn server_page row → FetchesOn (plain thread view) state (0x70000000 + row.offset) tt tt (Ok row.insn)
 row_fetches state thread view process row sound away shows stands = record {

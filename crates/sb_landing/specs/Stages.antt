@@ -1,5 +1,8 @@
 -- The registers at each phase of a landing (docs/FORMATS.md, "The landing").
 use Rattle.std.specs.Prelude.{ℕ, ◌+◌, ◌-◌, ◌*◌, ◌^◌, List, [], ◌∷◌, false, Option, Some, None, slice_index, bit_and}
+use Rattle.sb_abi.specs.Numbers.{status_number}
+use Rattle.sb_abi.specs.declared.call.CallStatus.TheVariants as status
+use Rattle.sb_abi.specs.declared.trampoline.TheConstants.{COMPARE_KEY, BRANCH_ON_KEY, LOAD_POOL, TEST_MASK, BRANCH_ON_POOL, LESS_ONE, DROP_BIT, FIND_STACK, EXCHANGE_POOL, BRANCH_ON_EXCHANGE, STACK_OFFSET, LOAD_BASE, ADD_OFFSET, CLEAR_OFFSET, CLEAR_INDEX, CLEAR_MASK, ENTER, STATUS_WRONG_KEY, SKIP, STATUS_POOL_EMPTY, LEAVE, HOME_INDEX, HOME_LEAF, JUMP_BACK, GO_HOME}
 use Rattle.sb_insn.specs.declared.registers.Flags.{Flags}
 use Rattle.sb_insn.specs.declared.registers.Regs.{Regs}
 use Rattle.sb_alu.specs.declared.size.Size.TheVariants.{Quadword}
@@ -98,48 +101,52 @@ cleared moved = record moved { r10 = 0; flags = zero_flags }
 
 abbrev pub undecided_stages : Landing → List Stage
 undecided_stages landing =
-    stage 0 (record (begun landing) { flags = landing.start.flags })
-    ∷ stage 1 (begun landing)
-    ∷ stage 2 (begun landing)
-    ∷ stage 3 (with_mask landing)
-    ∷ stage 4 (tested landing)
-    ∷ stage 5 (tested landing)
-    ∷ stage 6 (record (tested landing) { rcx = landing.mask - 1 })
-    ∷ stage 7 (without_bit landing)
-    ∷ stage 8 (with_bit landing)
-    ∷ stage 9 (begun landing)
+    stage COMPARE_KEY (record (begun landing) { flags = landing.start.flags })
+    ∷ stage BRANCH_ON_KEY (begun landing)
+    ∷ stage LOAD_POOL (begun landing)
+    ∷ stage TEST_MASK (with_mask landing)
+    ∷ stage BRANCH_ON_POOL (tested landing)
+    ∷ stage LESS_ONE (tested landing)
+    ∷ stage DROP_BIT (record (tested landing) { rcx = landing.mask - 1 })
+    ∷ stage FIND_STACK (without_bit landing)
+    ∷ stage EXCHANGE_POOL (with_bit landing)
+    ∷ stage BRANCH_ON_EXCHANGE (begun landing)
     ∷ []
 
 -- a refusal on its way home, with its status in R9
 abbrev pub refused_stages : Moved → List Stage
 refused_stages moved =
-    stage 20 moved
-    ∷ stage 21 (cleared moved)
-    ∷ stage 22 (record (cleared moved) { rcx = 0 })
-    ∷ stage 23 (record (cleared moved) { rcx = 0; rax = 0 })
-    ∷ stage 24 (record (cleared moved) { rcx = 0; rax = 0 })
+    stage LEAVE moved
+    ∷ stage HOME_INDEX (cleared moved)
+    ∷ stage HOME_LEAF (record (cleared moved) { rcx = 0 })
+    ∷ stage JUMP_BACK (record (cleared moved) { rcx = 0; rax = 0 })
+    ∷ stage GO_HOME (record (cleared moved) { rcx = 0; rax = 0 })
     ∷ []
 
 abbrev pub wrong_key_stages : Landing → List Stage
 wrong_key_stages landing =
-    stage 1 (begun landing) ∷ stage 17 (begun landing) ∷ stage 18 (record (begun landing) { r9 = 1 })
-    ∷ refused_stages (record (begun landing) { r9 = 1 })
+    stage BRANCH_ON_KEY (begun landing)
+    ∷ stage STATUS_WRONG_KEY (begun landing)
+    ∷ stage SKIP (record (begun landing) { r9 = status_number status.WrongKey })
+    ∷ refused_stages (record (begun landing) { r9 = status_number status.WrongKey })
 
 abbrev pub pool_empty_stages : Landing → List Stage
 pool_empty_stages landing =
-    stage 3 (with_mask landing) ∷ stage 4 (tested landing) ∷ stage 19 (tested landing)
-    ∷ refused_stages (record (tested landing) { r9 = 2 })
+    stage TEST_MASK (with_mask landing)
+    ∷ stage BRANCH_ON_POOL (tested landing)
+    ∷ stage STATUS_POOL_EMPTY (tested landing)
+    ∷ refused_stages (record (tested landing) { r9 = status_number status.PoolEmpty })
 
 abbrev pub entered_stages : Landing → List Stage
 entered_stages landing =
-    stage 9 (exchanged landing)
-    ∷ stage 10 (exchanged landing)
-    ∷ stage 11 (shifted landing)
-    ∷ stage 12 (record (shifted landing) { rsp = landing.base })
-    ∷ stage 13 (on_stack landing)
-    ∷ stage 14 (cleared (on_stack landing))
-    ∷ stage 15 (record (cleared (on_stack landing)) { rcx = 0 })
-    ∷ stage 16 (record (cleared (on_stack landing)) { rcx = 0; rax = 0 })
+    stage BRANCH_ON_EXCHANGE (exchanged landing)
+    ∷ stage STACK_OFFSET (exchanged landing)
+    ∷ stage LOAD_BASE (shifted landing)
+    ∷ stage ADD_OFFSET (record (shifted landing) { rsp = landing.base })
+    ∷ stage CLEAR_OFFSET (on_stack landing)
+    ∷ stage CLEAR_INDEX (cleared (on_stack landing))
+    ∷ stage CLEAR_MASK (record (cleared (on_stack landing)) { rcx = 0 })
+    ∷ stage ENTER (record (cleared (on_stack landing)) { rcx = 0; rax = 0 })
     ∷ []
 
 abbrev pub stages : Landing → Option Decision → List Stage

@@ -10,7 +10,7 @@ use Rattle.sb_bundle.specs.declared.bundle.Bundle.{Bundle}
 use Rattle.sb_bundle.specs.declared.bundle.Image.{Image}
 use Rattle.sb_bundle.specs.declared.bundle.CoreStart.{CoreStart}
 use Rattle.sb_bundle.specs.Limits.{IsBundle, IsImage, IsCoreStart, AllBelow}
-use Rattle.sb_rewrite.specs.Output.{Output}
+use Rattle.sb_rewrite.specs.RewrittenText.{RewrittenText}
 use Rattle.sb_rewrite.proofs.Length.{keeps_length}
 use Rattle.sb_load.specs.Loading.{Load, IsLoadable, AreAsLong, nothing, text_of, rewritten_of}
 use Rattle.sb_load.specs.Need.{need_of, have_of}
@@ -45,14 +45,14 @@ are_as_long load loadable process =
 -- ---- the text of a process
 
 -- what is known of what a text becomes
-pub record IsKnown (text : List ℕ) (made : Output) : Type 0 where
+pub record IsKnown (text : List ℕ) (made : RewrittenText) : Type 0 where
   pub size : length text ≤ 2097152
   pub most : length made.text ≤ length text
   pub least : length text ≤ length made.text
   pub area : length made.area ≤ 65536
   pub starts : IsStrictlyIncreasing made.starts
 
-known_prop : (text : List ℕ) (made : Output) → IsProp (IsKnown text made)
+known_prop : (text : List ℕ) (made : RewrittenText) → IsProp (IsKnown text made)
 known_prop text made = hlevel le_prop
 
 known_of : (load : Load) (process : ℕ) → process < length load.bundle.images → IsLoadable load
@@ -60,7 +60,7 @@ known_of : (load : Load) (process : ℕ) → process < length load.bundle.images
 known_of load process within known =
     let has = has_text load.bundle.images load.rewritten process within known.grammar.images known.texts in
     let text : List ℕ = text_of load.bundle.images process in
-    let made : Output = rewritten_of load.rewritten process in
+    let made : RewrittenText = rewritten_of load.rewritten process in
     let same : length made.text ≡ length text = keeps_length text made has.is_rewritten in
     record {
       size = has.size;
@@ -71,25 +71,26 @@ known_of load process within known =
     }
 
 -- what is read at the number of a process is what its text becomes
-pub is_of : (load : Load) (process : ℕ) (made : Output) → process < length load.bundle.images → ∥ IsLoadable load ∥₁
+pub is_of : (load : Load) (process : ℕ) (made : RewrittenText) → process < length load.bundle.images → ∥ IsLoadable load ∥₁
     → made ≡ get_or load.rewritten process made
     → made ≡ rewritten_of load.rewritten process
 is_of load process made within loadable is =
     let below : process < length load.rewritten = omega (arith, text_count load loadable) in
     ap (λ found. unwrap_or found nothing) (sym (slice_get_read load.rewritten (length load.rewritten) process made refl below is))
 
-pub known : (load : Load) (process : ℕ) (made : Output) → process < length load.bundle.images → ∥ IsLoadable load ∥₁
+pub known : (load : Load) (process : ℕ) (made : RewrittenText) → process < length load.bundle.images → ∥ IsLoadable load ∥₁
     → made ≡ get_or load.rewritten process made → IsKnown (text_of load.bundle.images process) made
 known load process made within loadable is =
     let text : List ℕ = text_of load.bundle.images process in
     subst
-    (λ (one : Output). IsKnown text one)
+    (λ (one : RewrittenText). IsKnown text one)
     (sym (is_of load process made within loadable is))
     (∥∥₁_elim loadable (known_prop text (rewritten_of load.rewritten process)) (λ all. known_of load process within all))
 
 -- ---- the grammar
 
-below_prop : (bound : ℕ) (numbers : List ℕ) → IsProp (AllBelow bound numbers)
+-- there is one proof at most that numbers are below a bound
+pub below_prop : (bound : ℕ) (numbers : List ℕ) → IsProp (AllBelow bound numbers)
 below_prop bound numbers = AllByRecursion-prop (λ n. n < bound) (λ n. le_prop) numbers
 
 image_prop : (image : Image) → IsProp (IsImage image)

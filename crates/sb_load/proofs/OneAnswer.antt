@@ -6,7 +6,7 @@ use Rattle.sb_bundle.specs.declared.bundle.Image.{Image}
 use Rattle.sb_bundle.specs.declared.bundle.CoreStart.{CoreStart}
 use Rattle.sb_rewrite.specs.declared.refusal.RewriteRefusal.{RewriteRefusal}
 use Rattle.sb_rewrite.specs.declared.refusal.RewriteRefusal.TheVariants as cause
-use Rattle.sb_rewrite.specs.Output.{Output}
+use Rattle.sb_rewrite.specs.RewrittenText.{RewrittenText}
 use Rattle.sb_rewrite.specs.Rewriting.{Rewrites}
 use Rattle.sb_rewrite.proofs.OneRewriting.{one_rewritten}
 use Rattle.sb_load.specs.declared.refusal.LoadRefusal.{LoadRefusal}
@@ -42,25 +42,25 @@ module _ {X : Type 0} (Good Bad : X → Type 0) (apart : (x : X) → Good x → 
 
 -- what one text is rewritten to
 abbrev Answer : Type 0
-Answer = Result Output RewriteRefusal
+Answer = Result RewrittenText RewriteRefusal
 
-abbrev done : Output → Answer
+abbrev done : RewrittenText → Answer
 done made = Ok made
 
 abbrev failed : RewriteRefusal → Answer
 failed why = Err why
 
-made_apart : (made : Output) (why : RewriteRefusal) (answer : Answer) → answer ≡ Ok made → answer ≡ Err why → ⊥
+made_apart : (made : RewrittenText) (why : RewriteRefusal) (answer : Answer) → answer ≡ Ok made → answer ≡ Err why → ⊥
 made_apart made why (Ok other) is refused = absurd cc
 made_apart made why (Err other) is refused = absurd cc
 
-made_is : (made : Output) → done made ≢ failed cause.Memory
+made_is : (made : RewrittenText) → done made ≢ failed cause.Memory
 made_is made is = made_apart made cause.Memory (done made) refl is
 
 refusal_is : (why : RewriteRefusal) → why ≢ cause.Memory → failed why ≢ failed cause.Memory
 refusal_is why not_memory is = not_memory (cc is)
 
-same_made : (text : List ℕ) (made made' : Output) → Rewrites text (Ok made) → Rewrites text (Ok made') → made ≡ made'
+same_made : (text : List ℕ) (made made' : RewrittenText) → Rewrites text (Ok made) → Rewrites text (Ok made') → made ≡ made'
 same_made text made made' one other = cc (one_rewritten text (Ok made) (Ok made') (made_is made) (made_is made') one other)
 
 same_cause : (text : List ℕ) (why why' : RewriteRefusal) → why ≢ cause.Memory → why' ≢ cause.Memory → Rewrites text (Err why)
@@ -69,7 +69,7 @@ same_cause text why why' some some' one other =
     cc (one_rewritten text (Err why) (Err why') (refusal_is why some) (refusal_is why' some') one other)
 
 abbrev IsMade : Image → Type 0
-IsMade image = (made : Output) × Rewrites image.text (Ok made)
+IsMade image = (made : RewrittenText) × Rewrites image.text (Ok made)
 
 abbrev IsRefused : Image → Type 0
 IsRefused image = (why : RewriteRefusal) × Rewrites image.text (Err why) × (why ≢ cause.Memory)
@@ -79,12 +79,14 @@ text_apart image (made, one) (why, refused, some) =
     made_apart made why (Ok made) refl
     (one_rewritten image.text (Ok made) (Err why) (made_is made) (refusal_is why some) one refused)
 
-each_is_made : (images : List Image) (rewritten : List Output) → AreRewritten images rewritten → AllByRecursion IsMade images
+each_is_made : (images : List Image) (rewritten : List RewrittenText) → AreRewritten images rewritten
+    → AllByRecursion IsMade images
 each_is_made [] rewritten are = tt
 each_is_made (image ∷ images) [] are = absurd are
 each_is_made (image ∷ images) (made ∷ others) are = ((made, are.0), each_is_made images others are.1)
 
-same_rewritten : (images : List Image) (first second : List Output) → AreRewritten images first → AreRewritten images second
+same_rewritten : (images : List Image) (first second : List RewrittenText) → AreRewritten images first
+    → AreRewritten images second
     → first ≡ second
 same_rewritten [] [] [] one other = refl
 same_rewritten [] (made ∷ first) second one other = absurd one
@@ -96,7 +98,7 @@ same_rewritten (image ∷ images) (made ∷ first) (made' ∷ second) one other 
     let tail : first ≡ second = same_rewritten images first second one.1 other.1 in
     λ i. head i ∷ tail i
 
-refused_apart : (images : List Image) (rewritten : List Output) (process : ℕ) (why : RewriteRefusal)
+refused_apart : (images : List Image) (rewritten : List RewrittenText) (process : ℕ) (why : RewriteRefusal)
     → AreRewritten images rewritten → IsFirstRefused images process why → ⊥
 refused_apart images rewritten process why are (before, image, after, cut, number, others, accepted, refused, some) =
     none_bad IsMade IsRefused text_apart before image after
@@ -125,17 +127,18 @@ same_refused images process process' why why' (before, image, after, cut, number
 
 -- ---- cores
 
-entry_apart : (rewritten : List Output) (core : CoreStart) → HasEntry rewritten core → (HasEntry rewritten core → ⊥) → ⊥
+entry_apart : (rewritten : List RewrittenText) (core : CoreStart) → HasEntry rewritten core → (HasEntry rewritten core → ⊥) → ⊥
 entry_apart rewritten core held wrong = wrong held
 
-bad_entry_apart : (rewritten : List Output) (cores : List CoreStart) (core at : ℕ) → AllByRecursion (HasEntry rewritten) cores
+bad_entry_apart : (rewritten : List RewrittenText) (cores : List CoreStart) (core at : ℕ)
+    → AllByRecursion (HasEntry rewritten) cores
     → IsFirstBadEntry rewritten cores core at → ⊥
 bad_entry_apart rewritten cores core at all (before, first, after, cut, number, good, wrong, entry) =
     none_bad (HasEntry rewritten) (λ one. HasEntry rewritten one
     → ⊥) (entry_apart rewritten) before first after
     (subst (λ (list : List CoreStart). AllByRecursion (HasEntry rewritten) list) cut all) wrong
 
-same_bad_entry : (rewritten : List Output) (cores : List CoreStart) (core core' at at' : ℕ)
+same_bad_entry : (rewritten : List RewrittenText) (cores : List CoreStart) (core core' at at' : ℕ)
     → IsFirstBadEntry rewritten cores core at → IsFirstBadEntry rewritten cores core' at' → (core ≡ core') × (at ≡ at')
 same_bad_entry rewritten cores core core' at at' (before, first, after, cut, number, good, wrong, entry) (
   before',
@@ -176,14 +179,14 @@ ok_apart bundle load (BadEntry core at) not_memory (is, loadable) (rewritten, te
     let entries : AllByRecursion (HasEntry load.rewritten) bundle.cores =
     subst (λ (one : Bundle). AllByRecursion (HasEntry load.rewritten) one.cores) is loadable.entries in
     bad_entry_apart load.rewritten bundle.cores core at entries
-    (subst (λ (list : List Output). IsFirstBadEntry list bundle.cores core at) same bad)
+    (subst (λ (list : List RewrittenText). IsFirstBadEntry list bundle.cores core at) same bad)
 ok_apart bundle load (NoFrames need have) not_memory (is, loadable) (rewritten, texts, entries, lacks) =
     let same : rewritten ≡ load.rewritten =
     same_rewritten bundle.images rewritten load.rewritten texts
     (subst (λ (one : Bundle). AreRewritten one.images load.rewritten) is loadable.texts) in
     let enough : need_of bundle load.rewritten ≤ have_of bundle =
     subst (λ (one : Bundle). need_of one load.rewritten ≤ have_of one) is loadable.enough in
-    let (needs, has, less) = subst (λ (list : List Output). LacksFrames bundle list need have) same lacks in
+    let (needs, has, less) = subst (λ (list : List RewrittenText). LacksFrames bundle list need have) same lacks in
     omega arith
 ok_apart bundle load Memory not_memory loads refused = not_memory refl
 
@@ -193,13 +196,13 @@ entries_apart : (bundle : Bundle) (core at need have : ℕ) → Loads bundle (Er
 entries_apart bundle core at need have (rewritten, texts, bad) (rewritten', texts', entries, lacks) =
     let same : rewritten ≡ rewritten' = same_rewritten bundle.images rewritten rewritten' texts texts' in
     bad_entry_apart rewritten' bundle.cores core at entries
-    (subst (λ (list : List Output). IsFirstBadEntry list bundle.cores core at) same bad)
+    (subst (λ (list : List RewrittenText). IsFirstBadEntry list bundle.cores core at) same bad)
 
 same_lack : (bundle : Bundle) (need need' have have' : ℕ) → Loads bundle (Err (NoFrames need have))
     → Loads bundle (Err (NoFrames need' have')) → (need ≡ need') × (have ≡ have')
 same_lack bundle need need' have have' (rewritten, texts, entries, lacks) (rewritten', texts', entries', lacks') =
     let same : rewritten ≡ rewritten' = same_rewritten bundle.images rewritten rewritten' texts texts' in
-    (lacks.0 ∙ ap (λ (list : List Output). need_of bundle list) same ∙ sym lacks'.0, lacks.1 ∙ sym lacks'.1)
+    (lacks.0 ∙ ap (λ (list : List RewrittenText). need_of bundle list) same ∙ sym lacks'.0, lacks.1 ∙ sym lacks'.1)
 
 same_refusal : (bundle : Bundle) (first second : LoadRefusal) → first ≢ Memory → second ≢ Memory → Loads bundle (Err first)
     → Loads bundle (Err second) → first ≡ second
@@ -216,7 +219,7 @@ same_refusal bundle (BadEntry core at) (BadEntry core' at') one other (rewritten
     let lists : rewritten' ≡ rewritten = same_rewritten bundle.images rewritten' rewritten texts' texts in
     let same =
     same_bad_entry rewritten bundle.cores core core' at at' bad
-    (subst (λ (list : List Output). IsFirstBadEntry list bundle.cores core' at') lists bad') in
+    (subst (λ (list : List RewrittenText). IsFirstBadEntry list bundle.cores core' at') lists bad') in
     λ i. BadEntry (same.0 i) (same.1 i)
 same_refusal bundle (BadEntry core at) (NoFrames need have) one other a b = absurd (entries_apart bundle core at need have a b)
 same_refusal bundle (NoFrames need have) (Process process why) one other a b =

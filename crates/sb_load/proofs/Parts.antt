@@ -6,7 +6,7 @@ use Rattle.sb_bundle.specs.declared.bundle.Image.{Image}
 use Rattle.sb_bundle.specs.declared.bundle.CoreStart.{CoreStart}
 use Rattle.sb_rewrite.specs.declared.refusal.RewriteRefusal.{RewriteRefusal}
 use Rattle.sb_rewrite.specs.declared.refusal.RewriteRefusal.TheVariants as cause
-use Rattle.sb_rewrite.specs.Output.{Output}
+use Rattle.sb_rewrite.specs.RewrittenText.{RewrittenText}
 use Rattle.sb_rewrite.specs.Rewriting.{Rewrites}
 use Rattle.sb_load.specs.Loading.{AreRewritten, HasEntry, IsFirstRefused, IsFirstBadEntry}
 use Rattle.sb_load.specs.Checks.{refusal_of, RewritesTexts}
@@ -17,13 +17,14 @@ cut_at xs k d within = sym (take-append-drop k xs) ∙ ap (λ behind. take k xs 
 
 -- ---- texts
 
-pub as_many : (images : List Image) (rewritten : List Output) → AreRewritten images rewritten → length rewritten ≡ length images
+pub as_many : (images : List Image) (rewritten : List RewrittenText) → AreRewritten images rewritten
+    → length rewritten ≡ length images
 as_many [] [] are = refl
 as_many [] (made ∷ others) are = absurd are
 as_many (image ∷ images) [] are = absurd are
 as_many (image ∷ images) (made ∷ others) are = ap (λ (n : ℕ). suc n) (as_many images others are.1)
 
-rewritten_push : (images : List Image) (rewritten : List Output) (image : Image) (made : Output)
+rewritten_push : (images : List Image) (rewritten : List RewrittenText) (image : Image) (made : RewrittenText)
     → AreRewritten images rewritten → Rewrites image.text (Ok made)
     → AreRewritten (images ++ image ∷ []) (rewritten ++ made ∷ [])
 rewritten_push [] [] image made are one = (one, tt)
@@ -32,7 +33,8 @@ rewritten_push (before ∷ images) [] image made are one = absurd are
 rewritten_push (before ∷ images) (other ∷ rewritten) image made are one =
     (are.0, rewritten_push images rewritten image made are.1 one)
 
-pub one_more_text : (images : List Image) (rewritten more : List Output) (k : ℕ) (image : Image) (text : List ℕ) (made : Output)
+pub one_more_text : (images : List Image) (rewritten more : List RewrittenText) (k : ℕ)
+    (image : Image) (text : List ℕ) (made : RewrittenText)
     → k < length images → image ≡ get_or images k image → text ≡ image.text
     → AreRewritten (take k images) rewritten → Rewrites text (Ok made) → more ≡ rewritten ++ made ∷ []
     → AreRewritten (take (k + 1) images) more
@@ -41,10 +43,10 @@ one_more_text images rewritten more k image text made within is its_text are one
     rewritten_push (take k images) rewritten image made are (subst (λ (bytes : List ℕ). Rewrites bytes (Ok made)) its_text one) in
     let prefix : take (k + 1) images ≡ take k images ++ image ∷ [] =
     take_more images k image within ∙ ap (λ (one : Image). take k images ++ one ∷ []) (sym is) in
-    subst (λ (list : List Output). AreRewritten (take (k + 1) images) list) (sym pushed)
+    subst (λ (list : List RewrittenText). AreRewritten (take (k + 1) images) list) (sym pushed)
     (subst (λ (list : List Image). AreRewritten list (rewritten ++ made ∷ [])) (sym prefix) longer)
 
-refused_at : (images : List Image) (rewritten : List Output) (k : ℕ) (why : RewriteRefusal) (image : Image)
+refused_at : (images : List Image) (rewritten : List RewrittenText) (k : ℕ) (why : RewriteRefusal) (image : Image)
     → k < length images → image ≡ get_or images k image
     → AreRewritten (take k images) rewritten → Rewrites image.text (Err why) → why ≢ cause.Memory → IsFirstRefused images k why
 refused_at images rewritten k why image within is are refused not_memory =
@@ -61,7 +63,7 @@ refused_at images rewritten k why image within is are refused not_memory =
       not_memory,
     )
 
-refused_by : (images : List Image) (rewritten : List Output) (k : ℕ) (why : RewriteRefusal) (image : Image)
+refused_by : (images : List Image) (rewritten : List RewrittenText) (k : ℕ) (why : RewriteRefusal) (image : Image)
     → k < length images → image ≡ get_or images k image
     → AreRewritten (take k images) rewritten → Rewrites image.text (Err why) → RewritesTexts images (Err (refusal_of k why))
 refused_by images rewritten k (cause.Undecoded at) image within is are refused =
@@ -76,7 +78,8 @@ refused_by images rewritten k (cause.Left at) image within is are refused =
     refused_at images rewritten k (cause.Left at) image within is are refused (λ same. absurd cc)
 refused_by images rewritten k cause.Memory image within is are refused = tt
 
-pub refused_text : (images : List Image) (rewritten : List Output) (k : ℕ) (why : RewriteRefusal) (image : Image) (text : List ℕ)
+pub refused_text : (images : List Image) (rewritten : List RewrittenText) (k : ℕ)
+    (why : RewriteRefusal) (image : Image) (text : List ℕ)
     → k < length images → image ≡ get_or images k image
     → text ≡ image.text → AreRewritten (take k images) rewritten → Rewrites text (Err why)
     → RewritesTexts images (Err (refusal_of k why))
@@ -85,7 +88,7 @@ refused_text images rewritten k why image text within is its_text are refused =
 
 -- ---- cores
 
-pub refused_core : (rewritten : List Output) (cores : List CoreStart) (k : ℕ) (d : CoreStart) → k < length cores
+pub refused_core : (rewritten : List RewrittenText) (cores : List CoreStart) (k : ℕ) (d : CoreStart) → k < length cores
     → AllByRecursion (HasEntry rewritten) (take k cores) → ¬ HasEntry rewritten (get_or cores k d)
     → IsFirstBadEntry rewritten cores k (get_or cores k d).entry
 refused_core rewritten cores k d within all wrong = (

@@ -8,8 +8,9 @@ use Rattle.sb_insn.specs.Spelling.{spelling}
 use Rattle.sb_bundle.specs.declared.bundle.Image.{Image}
 use Rattle.sb_bundle.specs.Limits.{IsImage}
 use Rattle.sb_rewrite.specs.Listing.{text_address}
-use Rattle.sb_rewrite.specs.Placing.{Placement, slot_bytes, place, places_from, places, area_address, area_end}
-use Rattle.sb_rewrite.specs.Output.{Output, area_bytes}
+use Rattle.sb_forms.specs.Answers.{area_end}
+use Rattle.sb_rewrite.specs.Placing.{Placement, slot_bytes, place, places_from, places, area_address}
+use Rattle.sb_rewrite.specs.RewrittenText.{RewrittenText, area_bytes}
 use Rattle.sb_rewrite.specs.Rewriting.{EndsBehindArea, NoneOf, Rewrites}
 use Rattle.sb_rewrite.proofs.Ordered.{ordered}
 use Rattle.sb_rewrite.proofs.Length.{keeps_length}
@@ -34,16 +35,16 @@ slots_within text at slot (insn ∷ insns) within none =
     slots_within text (at + length (spelling insn)) next insns fits none.1 in
     omega (arith, length-append (area_bytes first) (flat_map area_bytes later))
 
-pub small_area : (text : List ℕ) (made : Output) → Rewrites text (Ok made) → HasSmallArea made
+pub small_area : (text : List ℕ) (made : RewrittenText) → Rewrites text (Ok made) → HasSmallArea made
 small_area text made (of_text, are, fits, is, free) =
     let none : NoneOf EndsBehindArea (places text are.insns) =
     subst (λ (list : List Placement). NoneOf EndsBehindArea list) are.places_are fits.1 in
     let within = slots_within text text_address area_address are.insns (omega arith) none in
     let size : length made.area ≡ length (flat_map area_bytes (places text are.insns)) =
-    ap (λ (one : Output). length one.area) is ∙ ap (λ (list : List Placement). length (flat_map area_bytes list)) are.places_are in
+    ap (λ (one : RewrittenText). length one.area) is ∙ ap (λ (list : List Placement). length (flat_map area_bytes list)) are.places_are in
     omega arith
 
-pub small_areas : (images : List Image) (rewritten : List Output) → AreRewritten images rewritten → AllSmallAreas rewritten
+pub small_areas : (images : List Image) (rewritten : List RewrittenText) → AreRewritten images rewritten → AllSmallAreas rewritten
 small_areas [] [] are = tt
 small_areas [] (made ∷ others) are = absurd are
 small_areas (image ∷ images) [] are = absurd are
@@ -52,7 +53,7 @@ small_areas (image ∷ images) (made ∷ others) are = (small_area image.text ma
 -- ---- the texts
 
 -- what each text becomes is as long
-pub as_long : (images : List Image) (rewritten : List Output) (process : ℕ) → AreRewritten images rewritten
+pub as_long : (images : List Image) (rewritten : List RewrittenText) (process : ℕ) → AreRewritten images rewritten
     → length (rewritten_of rewritten process).text ≡ length (text_of images process)
 as_long [] [] process are = refl
 as_long [] (made ∷ others) process are = absurd are
@@ -62,18 +63,18 @@ as_long (image ∷ images) (made ∷ others) (suc process) are = as_long images 
 
 -- ---- the starts
 
-pub rising_starts : (text : List ℕ) (made : Output) → Rewrites text (Ok made) → IsStrictlyIncreasing made.starts
+pub rising_starts : (text : List ℕ) (made : RewrittenText) → Rewrites text (Ok made) → IsStrictlyIncreasing made.starts
 rising_starts text made (of_text, are, fits, is, free) =
-    subst (λ (one : Output). IsStrictlyIncreasing one.starts) (sym is) (ordered text of_text are).starts
+    subst (λ (one : RewrittenText). IsStrictlyIncreasing one.starts) (sym is) (ordered text of_text are).starts
 
 -- ---- by process
 
 -- the text of a process, which is rewritten so
-pub record HasText (text : List ℕ) (made : Output) : Type 0 where
+pub record HasText (text : List ℕ) (made : RewrittenText) : Type 0 where
   pub size : length text ≤ 2097152
   pub is_rewritten : Rewrites text (Ok made)
 
-pub has_text : (images : List Image) (rewritten : List Output) (process : ℕ) → process < length images
+pub has_text : (images : List Image) (rewritten : List RewrittenText) (process : ℕ) → process < length images
     → AllByRecursion IsImage images → AreRewritten images rewritten
     → HasText (text_of images process) (rewritten_of rewritten process)
 has_text [] rewritten process within good are = absurd (omega arith)

@@ -1,12 +1,14 @@
 -- What the parts of loading answer.
-use Rattle.std.specs.Prelude.{◌≡◌, ℕ, ◌≤◌, List, length, Result, Ok, Err}
+use Rattle.std.specs.Prelude.{◌≡◌, ℕ, ◌*◌, ◌≤◌, List, length, Result, Ok, Err}
 use Rattle.std.specs.List.{AllByRecursion}
+use Rattle.sb_abi.specs.declared.space.TheConstants.{AREA_PAGES}
+use Rattle.sb_memory.specs.declared.page.TheConstants.{PAGE_SIZE}
 use Rattle.sb_bundle.specs.declared.bundle.Bundle.{Bundle}
 use Rattle.sb_bundle.specs.declared.bundle.Image.{Image}
 use Rattle.sb_bundle.specs.declared.bundle.CoreStart.{CoreStart}
 use Rattle.sb_rewrite.specs.declared.refusal.RewriteRefusal.{RewriteRefusal}
 use Rattle.sb_rewrite.specs.declared.refusal.RewriteRefusal.TheVariants as cause
-use Rattle.sb_rewrite.specs.Output.{Output}
+use Rattle.sb_rewrite.specs.RewrittenText.{RewrittenText}
 use Rattle.sb_load.specs.declared.refusal.LoadRefusal.{LoadRefusal}
 use Rattle.sb_load.specs.declared.refusal.LoadRefusal.TheVariants.{Process, BadEntry, NoFrames, Memory}
 use Rattle.sb_load.specs.Need.{need_of, have_of}
@@ -22,7 +24,7 @@ refusal_of process (cause.Left at) = Process process (cause.Left at)
 refusal_of process cause.Memory = Memory
 
 -- what each text becomes, or the first text that cannot be rewritten
-abbrev pub RewritesTexts : List Image → Result (List Output) LoadRefusal → Type 0
+abbrev pub RewritesTexts : List Image → Result (List RewrittenText) LoadRefusal → Type 0
 RewritesTexts images (Ok rewritten) = AreRewritten images rewritten
 RewritesTexts images (Err (Process process why)) = IsFirstRefused images process why
 RewritesTexts images (Err (BadEntry core at)) = ⊥
@@ -30,7 +32,7 @@ RewritesTexts images (Err (NoFrames need have)) = ⊥
 RewritesTexts images (Err Memory) = Unit {0}
 
 -- nothing, or the first core that starts elsewhere
-abbrev pub ChecksEntries : List Output → List CoreStart → Result (Unit {0}) LoadRefusal → Type 0
+abbrev pub ChecksEntries : List RewrittenText → List CoreStart → Result (Unit {0}) LoadRefusal → Type 0
 ChecksEntries rewritten cores (Ok done) = AllByRecursion (HasEntry rewritten) cores
 ChecksEntries rewritten cores (Err (Process process why)) = ⊥
 ChecksEntries rewritten cores (Err (BadEntry core at)) = IsFirstBadEntry rewritten cores core at
@@ -38,7 +40,7 @@ ChecksEntries rewritten cores (Err (NoFrames need have)) = ⊥
 ChecksEntries rewritten cores (Err Memory) = ⊥
 
 -- the need, where there are as many frames
-abbrev pub ChecksFrames : Bundle → List Output → Result ℕ LoadRefusal → Type 0
+abbrev pub ChecksFrames : Bundle → List RewrittenText → Result ℕ LoadRefusal → Type 0
 ChecksFrames bundle rewritten (Ok need) = (need ≡ need_of bundle rewritten) × (need ≤ have_of bundle)
 ChecksFrames bundle rewritten (Err (Process process why)) = ⊥
 ChecksFrames bundle rewritten (Err (BadEntry core at)) = ⊥
@@ -46,8 +48,8 @@ ChecksFrames bundle rewritten (Err (NoFrames need have)) = LacksFrames bundle re
 ChecksFrames bundle rewritten (Err Memory) = ⊥
 
 -- a rewrite area of 64 KiB at most
-abbrev pub HasSmallArea : Output → Type 0
-HasSmallArea made = length made.area ≤ 65536
+abbrev pub HasSmallArea : RewrittenText → Type 0
+HasSmallArea made = length made.area ≤ AREA_PAGES * PAGE_SIZE
 
-abbrev pub AllSmallAreas : List Output → Type 0
+abbrev pub AllSmallAreas : List RewrittenText → Type 0
 AllSmallAreas rewritten = AllByRecursion HasSmallArea rewritten

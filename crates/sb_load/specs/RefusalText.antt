@@ -1,14 +1,11 @@
 -- The line that says why a bundle is not loaded.
-use Rattle.std.specs.Prelude.{ℕ, List, ◌++◌, codes, false}
-use Rattle.std.specs.Fmt.{digits, decimal}
+use Rattle.std.specs.Prelude.{ℕ, List, ◌++◌, codes}
+use Rattle.std.specs.Fmt.{decimal}
 use Rattle.sb_rewrite.specs.declared.refusal.RewriteRefusal.{RewriteRefusal}
 use Rattle.sb_rewrite.specs.declared.refusal.RewriteRefusal.TheVariants as cause
+use Rattle.sb_state.specs.EndText.{hex}
 use Rattle.sb_load.specs.declared.refusal.LoadRefusal.{LoadRefusal}
 use Rattle.sb_load.specs.declared.refusal.LoadRefusal.TheVariants.{Process, BadEntry, NoFrames, Memory}
-
--- an address: hexadecimal, without leading zeros
-abbrev pub hex : ℕ → List ℕ
-hex address = digits 16 false address
 
 -- why a text cannot be rewritten: the name of the cause, and the address
 abbrev pub cause_text : RewriteRefusal → List ℕ

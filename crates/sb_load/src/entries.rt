@@ -2,6 +2,7 @@
 
 ghost use Rattle.std.specs.Prelude.{◌↔◌, ◌<◌, ◌≤◌, IsTrue, length};
 ghost use Rattle.std.specs.List.{AllByRecursion};
+ghost use Rattle.sb_abi.specs.declared.space.TheConstants.{MAX_THREADS};
 ghost use Rattle.sb_bundle.specs.Limits.{IsCoreStart};
 ghost use Rattle.sb_load.specs.Loading.{HasEntry};
 ghost use Rattle.sb_load.specs.Checks.{ChecksEntries};
@@ -21,7 +22,7 @@ fn has_entry(rewritten: &[Rewritten], core: CoreStart) -> bool
 /// Nothing, or the first core whose entry is no start of an instruction.
 pub fn check_entries(rewritten: &[Rewritten], cores: &[CoreStart]) -> Result<(), LoadRefusal>
     requires processes { AllByRecursion (IsCoreStart (length rewritten.now)) cores.now }
-    requires count { length cores.now ≤ 8 }
+    requires count { length cores.now ≤ MAX_THREADS }
     ensures { ChecksEntries rewritten.now cores.now result }
 {
     for (number, &core) in cores.iter().enumerate() {

@@ -1,7 +1,9 @@
 //! A bundle that may be loaded.
 
-ghost use Rattle.std.specs.Prelude.{◌≡◌, ◌<◌, ◌≤◌, ◌-◌, ◌^◌, length};
+ghost use Rattle.std.specs.Prelude.{◌≡◌, ◌<◌, ◌≤◌, ◌-◌, ◌*◌, ◌^◌, length};
 ghost use Rattle.std.specs.List.Sorted.{IsStrictlyIncreasing};
+ghost use Rattle.sb_abi.specs.declared.space.TheConstants.{AREA_PAGES};
+ghost use Rattle.sb_memory.specs.declared.page.TheConstants.{PAGE_SIZE};
 ghost use Rattle.sb_bundle.specs.Limits.{IsBundle};
 ghost use Rattle.sb_load.specs.Loading.{IsLoadable, AreAsLong, text_of, rewritten_of};
 ghost use Rattle.sb_load.specs.Need.{need_of, have_of};
@@ -32,7 +34,8 @@ impl Model for Loaded {
 
     ghost view = { λ loaded. record { bundle = loaded.bundle; rewritten = loaded.rewritten } };
 
-    ghost invariant = { λ loaded. ∥ IsLoadable (record { bundle = loaded.bundle; rewritten = loaded.rewritten }) ∥₁ × (loaded.need ≡ need_of loaded.bundle loaded.rewritten) };
+    ghost invariant = { λ loaded. ∥ IsLoadable (record { bundle = loaded.bundle; rewritten = loaded.rewritten }) ∥₁
+        × (loaded.need ≡ need_of loaded.bundle loaded.rewritten) };
 }
 
 impl Loaded {
@@ -67,7 +70,7 @@ impl Loaded {
         ensures as_long { length result.now.text ≡ length (text_of self.now.bundle.images process) }
         // Its pages can be counted in 32 bits.
         ensures text { length result.now.text < 2 ^ 32 }
-        ensures area { length result.now.area ≤ 65536 }
+        ensures area { length result.now.area ≤ AREA_PAGES * PAGE_SIZE }
         ensures starts { IsStrictlyIncreasing result.now.starts }
     {
         &self.rewritten.items()[process as usize]

@@ -2,6 +2,7 @@
 
 ghost use Rattle.std.specs.Prelude.{◌≡◌, ◌≤◌, length};
 ghost use Rattle.std.specs.List.{AllByRecursion};
+ghost use Rattle.sb_abi.specs.declared.space.TheConstants.{MAX_PROCESSES};
 ghost use Rattle.sb_bundle.specs.Limits.{IsBundle, IsImage};
 ghost use Rattle.sb_load.specs.Loading.{Loads};
 ghost use Rattle.sb_load.specs.Checks.{refusal_of, RewritesTexts, ChecksFrames, AllSmallAreas};
@@ -16,26 +17,30 @@ use sb_rewrite::{RewriteRefusal, Rewritten, rewrite};
 use std::alloc::Global;
 
 /// The refusal of a process's text.
-fn refused(process: u32, why: RewriteRefusal) -> LoadRefusal
+fn refusal_of(process: u32, why: RewriteRefusal) -> LoadRefusal
     ensures { result ≡ refusal_of process why }
 {
     match why {
         RewriteRefusal::Memory => LoadRefusal::Memory,
-        _ => LoadRefusal::Process { process, why },
+        RewriteRefusal::Undecoded { .. }
+        | RewriteRefusal::BadTarget { .. }
+        | RewriteRefusal::Unmovable { .. }
+        | RewriteRefusal::AreaFull { .. }
+        | RewriteRefusal::Left { .. } => LoadRefusal::Process { process, why },
     }
 }
 
 /// What the texts become, or the first process whose text cannot be rewritten.
 fn rewrite_texts(alloc: Global, images: &[Image]) -> Result<RewrittenTexts, LoadRefusal>
     requires images { AllByRecursion IsImage images.now }
-    requires count { length images.now ≤ 16 }
+    requires count { length images.now ≤ MAX_PROCESSES }
     ensures { RewritesTexts images.now result }
 {
     let mut rewritten = Vec::new(alloc);
     for (process, image) in images.iter().enumerate() {
         match rewrite(alloc, image.text.items()) {
             Ok(made) => rewritten.push(made)?,
-            Err(why) => return Err(refused(process as u32, why)),
+            Err(why) => return Err(refusal_of(process as u32, why)),
         }
     }
     Ok(RewrittenTexts::new(rewritten))
@@ -44,7 +49,7 @@ fn rewrite_texts(alloc: Global, images: &[Image]) -> Result<RewrittenTexts, Load
 /// How many frames the bundle takes, where it has as many.
 fn check_frames(bundle: &Bundle, rewritten: &[Rewritten]) -> Result<u32, LoadRefusal>
     requires bundle { IsBundle bundle.now }
-    requires count { length rewritten.now ≤ 16 }
+    requires count { length rewritten.now ≤ MAX_PROCESSES }
     requires areas { AllSmallAreas rewritten.now }
     ensures { ChecksFrames bundle.now rewritten.now result }
 {

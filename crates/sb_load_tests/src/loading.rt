@@ -86,7 +86,7 @@ fn refuses_a_text_that_cannot_be_rewritten(rt: HostRuntime) -> Result<(), Fail> 
 
 #[test]
 fn a_rewrite_area_takes_its_pages(rt: HostRuntime) -> Result<(), Fail> {
-    // Each IMUL RCX, [RDI], 00D4010F is moved to a slot of 13 bytes: 315 of them fill one page but for a byte.
+    // Each IMUL RCX, [RDI], 0000D401 is moved to a slot of 13 bytes: 315 of them fill one page but for a byte.
     let moved = [0x48, 0x69, 0x0F, 0x01, 0xD4, 0x00, 0x00];
     for (count, need) in [(1, 26), (315, 26), (316, 27)] {
         let mut text = Vec::new(rt.alloc());

@@ -69,7 +69,7 @@ fn says_where_a_direct_jump_leads(rt: HostRuntime) {
     }
 }
 
-/// IMUL RCX, [RDI], 00D401: its slot has 13 bytes.
+/// IMUL RCX, [RDI], 0000D401: its slot has 13 bytes.
 const SHORT_SLOT: [u8; 7] = [0x48, 0x69, 0x0F, 0x01, 0xD4, 0, 0];
 
 /// ADD EAX, 00D4010F: its slot has 37 bytes.

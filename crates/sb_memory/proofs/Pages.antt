@@ -3,30 +3,30 @@ use Rattle.std.proofs.Common.{◌≡◌, ◌≢◌, ℕ, zero, suc, ◌+◌, ◌
 use Rattle.std.specs.List.{Contains}
 use Rattle.sb_memory.specs.Physical.{Physical, HasSize, HoldsBytes, frame_of, frame_count}
 use Rattle.sb_memory.specs.Reading.{with_bytes}
-use Rattle.sb_memory.specs.Words.{put_word, words_put, clear_frame, zeros}
+use Rattle.sb_memory.specs.Words.{put_word, put_words, clear_frame, zeros}
 use Rattle.sb_memory.specs.Changes.{SameOutside}
 use Rattle.sb_memory.proofs.Changes.{beside_word}
 use Rattle.sb_memory.proofs.Words.{length_put_word, byte_beside_word, byte_of_cleared, word_held, zero_in_zeros}
 
 -- ---- words one after another
 
-pub length_words_put : (words bytes : List ℕ) (place : ℕ) → length (words_put bytes place words) ≡ length bytes
-length_words_put [] bytes place = refl
-length_words_put (word ∷ words) bytes place =
-    length_words_put words (put_word bytes place word) (place + 8) ∙ length_put_word bytes place word
+pub length_put_words : (words bytes : List ℕ) (place : ℕ) → length (put_words bytes place words) ≡ length bytes
+length_put_words [] bytes place = refl
+length_put_words (word ∷ words) bytes place =
+    length_put_words words (put_word bytes place word) (place + 8) ∙ length_put_word bytes place word
 
 -- the words before an index, and then the one there
-pub words_put_next : (words bytes : List ℕ) (place index : ℕ) → index < length words
-    → words_put bytes place (take (suc index) words)
-    ≡ put_word (words_put bytes place (take index words)) (place + 8 * index) (get_or words index 0)
-words_put_next [] bytes place index within = absurd (omega arith)
-words_put_next (word ∷ words) bytes place zero within =
+pub put_words_next : (words bytes : List ℕ) (place index : ℕ) → index < length words
+    → put_words bytes place (take (suc index) words)
+    ≡ put_word (put_words bytes place (take index words)) (place + 8 * index) (get_or words index 0)
+put_words_next [] bytes place index within = absurd (omega arith)
+put_words_next (word ∷ words) bytes place zero within =
     let here : place ≡ place + 8 * 0 = omega arith in
     ap (λ (at : ℕ). put_word bytes at word) here
-words_put_next (word ∷ words) bytes place (suc index) within =
+put_words_next (word ∷ words) bytes place (suc index) within =
     let there : place + 8 + 8 * index ≡ place + 8 * suc index = omega arith in
-    words_put_next words (put_word bytes place word) (place + 8) index (omega arith)
-    ∙ ap (λ (at : ℕ). put_word (words_put (put_word bytes place word) (place + 8) (take index words)) at (get_or words index 0))
+    put_words_next words (put_word bytes place word) (place + 8) index (omega arith)
+    ∙ ap (λ (at : ℕ). put_word (put_words (put_word bytes place word) (place + 8) (take index words)) at (get_or words index 0))
     there
 
 -- ---- pages in frames

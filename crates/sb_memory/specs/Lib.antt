@@ -7,3 +7,4 @@ pub mod Reading
 pub mod Changes
 pub mod Frames
 pub mod Accounts
+pub mod Laws

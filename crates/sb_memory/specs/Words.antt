@@ -17,9 +17,9 @@ unfoldable pub put_bytes : List ℕ → ℕ → List ℕ → List ℕ
 put_bytes bytes place others = sets bytes place others
 
 -- the bytes with words put from a place upwards, one after another
-abbrev pub words_put : List ℕ → ℕ → List ℕ → List ℕ
-words_put bytes place [] = bytes
-words_put bytes place (word ∷ words) = words_put (put_word bytes place word) (place + 8) words
+abbrev pub put_words : List ℕ → ℕ → List ℕ → List ℕ
+put_words bytes place [] = bytes
+put_words bytes place (word ∷ words) = put_words (put_word bytes place word) (place + 8) words
 
 -- so many zeros
 unfoldable pub zeros : ℕ → List ℕ

@@ -20,14 +20,14 @@
 
 mod address;
 mod bytes;
-mod law;
+mod laws;
 mod memory;
 mod page;
 mod phys;
 
 pub use address::{Access, EptStop, Frame, GuestPhys, Linear, Missing, PhysAddr};
 pub use bytes::{put_bytes, put_word, put_zeros, word};
-pub use law::{
+pub use laws::{
     changes_are_made_in_frames, changes_leave_other_frames, frames_hold_bytes, words_keep_apart,
 };
 pub use memory::Memory;

@@ -8,7 +8,7 @@ use Rattle.sb_walks.specs.Entry.{frame_in, four_levels}
 use Rattle.sb_walks.specs.Reads.{where_ok}
 use Rattle.sb_walks.specs.Ept.{ept_step, ept_reads, ept_walk, ept_walk_reads}
 use Rattle.sb_walks.specs.Guest.{is_canonical, level_reads, walk_step, guest_walk, walk_reads}
-use Rattle.sb_walks.specs.Nested.{Mapped, guest_entry, guest_entry_reads, entries_reads, translation_reads}
+use Rattle.sb_walks.specs.Nested.{MemoryBehindEpt, guest_entry, guest_entry_reads, entries_reads, translation_reads}
 
 -- after an answer, if there is one
 where_ok_few : {Answer Stop Place : Type 0} (result : Result Answer Stop) (reads : Answer → List Place) (most : ℕ)
@@ -53,21 +53,22 @@ walk_few entries cr3 at access =
     where_few (is_canonical at) _ [] 4 (level_reads_few entries at access four_levels (frame_in cr3)) (omega arith)
 
 -- a walk for each entry, and the entry
-entry_few : (memory : Mapped) (at : ℕ) → length (guest_entry_reads memory at) ≤ 5
+entry_few : (memory : MemoryBehindEpt) (at : ℕ) → length (guest_entry_reads memory at) ≤ 5
 unfolding guest_entry_reads
 entry_few memory at =
     let walk = ept_walk_few memory.physical memory.eptp at Read in
     let last = where_ok_few (ept_walk memory.physical memory.eptp at Read) (λ place. place.0 ∷ []) 1 (λ place. omega arith) in
     simp length-append (omega (arith, walk, last))
 
-entries_few : (memory : Mapped) (places : List ℕ) → length (entries_reads memory places) ≤ 5 * length places
+entries_few : (memory : MemoryBehindEpt) (places : List ℕ) → length (entries_reads memory places) ≤ 5 * length places
 entries_few memory [] = omega arith
 entries_few memory (place ∷ places) =
     let one = entry_few memory place in
     let rest = entries_few memory places in
     simp length-append (omega (arith, one, rest))
 
-pub reads_at_most_24 : (memory : Mapped) (cr3 at : ℕ) (access : Access) → length (translation_reads memory cr3 at access) ≤ 24
+pub reads_at_most_24 : (memory : MemoryBehindEpt) (cr3 at : ℕ) (access : Access)
+    → length (translation_reads memory cr3 at access) ≤ 24
 unfolding translation_reads
 reads_at_most_24 memory cr3 at access =
     let entries = entries_few memory (walk_reads (guest_entry memory) cr3 at access) in

@@ -4,11 +4,11 @@ use Rattle.sb_memory.specs.Physical.{Physical}
 use Rattle.sb_memory.specs.Accounts.{PhysCall, account_after_words}
 use Rattle.sb_memory.proofs.Accounts.{after_words_append}
 use Rattle.sb_walks.specs.Reads.{after_entries}
-use Rattle.sb_walks.specs.Nested.{Mapped, entry_rule, guest_entry_reads, entries_reads}
+use Rattle.sb_walks.specs.Nested.{MemoryBehindEpt, entry_rule, guest_entry_reads, entries_reads}
 
 -- entries one after another
 pub after_entries_words : {Account : Type 0} (rule : PhysCall → Physical → Account
-    → Account) (memory : Mapped) (places : List ℕ) (account : Account)
+    → Account) (memory : MemoryBehindEpt) (places : List ℕ) (account : Account)
     → after_entries (entry_rule rule memory) places account
     ≡ account_after_words rule memory.physical (entries_reads memory places) account
 unfolding entry_rule

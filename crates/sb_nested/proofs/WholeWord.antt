@@ -9,7 +9,7 @@ use Rattle.sb_memory.specs.declared.address.Missing.{Missing}
 use Rattle.sb_memory.specs.declared.address.Access.TheVariants.{Write}
 use Rattle.sb_memory.specs.declared.address.PhysAddr.{PhysAddr}
 use Rattle.sb_walks.specs.declared.stop.NestedStop.{NestedStop}
-use Rattle.sb_walks.specs.Nested.{mapped_answer}
+use Rattle.sb_walks.specs.Nested.{memory_behind}
 use Rattle.sb_walks.proofs.SamePage.{address}
 use Rattle.sb_bus.specs.declared.stop.BusStop.{BusStop}
 use Rattle.sb_bus.specs.declared.stop.BusStop.TheVariants as bus
@@ -113,7 +113,7 @@ pub byte_place : (core : View) (at k : ℕ) (place : PhysAddr) → at % 8 ≡ 0 
 unfolding place_of
 byte_place core at k place aligned below few e =
     let same : (at + k) % 2 ^ 64 ≡ at + k = omega arith in
-    rw same (translated-page (mapped_answer core.physical core.eptp) core.cr3 at k Write place (omega arith) e)
+    rw same (translated-page (memory_behind core.physical core.eptp) core.cr3 at k Write place (omega arith) e)
 
 -- each byte is there
 all_there : {A : Type 0} (byte : ℕ → Result A BusStop) (at n : ℕ) → at < 2 ^ 64
@@ -159,7 +159,7 @@ byte_gone core at place e h = rw (e, h) refl
 
 pub led_offset : (core : View) (at : ℕ) (place : PhysAddr) → place_of core Write at ≡ Ok place → place.0 % 4096 ≡ at % 4096
 unfolding place_of
-led_offset core at place e = place_offset (mapped_answer core.physical core.eptp) core.cr3 at Write place e
+led_offset core at place e = place_offset (memory_behind core.physical core.eptp) core.cr3 at Write place e
 
 -- the word is written
 whole_written : (core : View) (at : ℕ) (place : PhysAddr) → at % 8 ≡ 0 → at < 2 ^ 64 → walk_place core Write at ≡ Ok place

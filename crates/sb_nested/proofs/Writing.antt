@@ -4,7 +4,7 @@ use Rattle.sb_memory.specs.declared.address.PhysAddr.{PhysAddr}
 use Rattle.sb_memory.specs.declared.address.Access.TheVariants.{Read, Write}
 use Rattle.sb_memory.specs.Physical.{Physical}
 use Rattle.sb_walks.specs.declared.stop.NestedStop.{NestedStop}
-use Rattle.sb_walks.specs.Nested.{mapped_answer}
+use Rattle.sb_walks.specs.Nested.{memory_behind}
 use Rattle.sb_walks.proofs.Writable.{translated-read}
 use Rattle.sb_bus.specs.declared.stop.BusStop.{BusStop}
 use Rattle.sb_memory.specs.Outcome.{and_then, done}
@@ -26,7 +26,7 @@ same_byte : (core : View) (at : ℕ) → byte_for_write (view_byte core) at ≡ 
 unfolding view_byte place_of
 same_byte core at =
     behind core.physical at (place_of core Write at) (place_of core Read at)
-    (λ p. translated-read (mapped_answer core.physical core.eptp) core.cr3 at p)
+    (λ p. translated-read (memory_behind core.physical core.eptp) core.cr3 at p)
 
 pub loaded_for_write : (core : View) (at size : ℕ)
     → loaded_from (byte_for_write (view_byte core)) at size ≡ loaded_from (byte_for (view_byte core) Write) at size

@@ -1,3 +1,4 @@
 pub mod Stop
 pub mod View
 pub mod Store
+pub mod Laws

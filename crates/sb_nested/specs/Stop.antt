@@ -19,7 +19,12 @@ memory_fault address = bus.Fault Memory (record { 0 = address })
 -- a refusal of the EPT: the missing frame of a table, or a fault
 abbrev pub ept_stop : ℕ → EptStop → BusStop
 ept_stop address (ept.Missing frame) = bus.Missing frame
-ept_stop address _ = memory_fault address
+ept_stop address ept.TooWide = memory_fault address
+ept_stop address (ept.NotPresent level) = memory_fault address
+ept_stop address (ept.Misconfigured level) = memory_fault address
+ept_stop address (ept.Large level) = memory_fault address
+ept_stop address (ept.Outside level) = memory_fault address
+ept_stop address (ept.Denied level) = memory_fault address
 
 -- an entry that cannot be read
 abbrev pub table_stop : ℕ → TableStop → BusStop
@@ -30,7 +35,9 @@ table_stop address (table.Ept stop) = ept_stop address stop
 abbrev pub walk_stop : ℕ → WalkStop → BusStop
 walk_stop address guest.NonCanonical = bus.Fault Canon (record { 0 = address })
 walk_stop address (guest.Table stop) = table_stop address stop
-walk_stop address _ = memory_fault address
+walk_stop address (guest.NotPresent level) = memory_fault address
+walk_stop address (guest.Large level) = memory_fault address
+walk_stop address (guest.Denied level) = memory_fault address
 
 -- a refusal at an address
 abbrev pub stop_at : ℕ → NestedStop → BusStop

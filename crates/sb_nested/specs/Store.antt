@@ -29,6 +29,30 @@ load_calls core access address size = calls_from (byte_calls core access) (byte_
 unfoldable pub look_calls : View → ℕ → ℕ → List PhysCall
 look_calls core address size = calls_from (walk_calls core Write) (walk_place core Write) address size
 
+-- the account after an address is looked up
+abbrev pub account_after_walk : {Account : Type 0} → (PhysCall → Physical → Account → Account) → View → Access → ℕ → Account
+    → Account
+account_after_walk rule core access address account =
+    account_after_reads rule core.physical (walk_calls core access address) account
+
+-- after its byte is read
+abbrev pub account_after_byte : {Account : Type 0} → (PhysCall → Physical → Account → Account) → View → Access → ℕ → Account
+    → Account
+account_after_byte rule core access address account =
+    account_after_reads rule core.physical (byte_calls core access address) account
+
+-- after bytes from an address upwards are loaded
+abbrev pub account_after_load : {Account : Type 0} → (PhysCall → Physical → Account → Account) → View → Access → ℕ → ℕ → Account
+    → Account
+account_after_load rule core access address size account =
+    account_after_reads rule core.physical (load_calls core access address size) account
+
+-- after bytes from an address upwards are looked up
+abbrev pub account_after_look : {Account : Type 0} → (PhysCall → Physical → Account → Account) → View → ℕ → ℕ → Account
+    → Account
+account_after_look rule core address size account =
+    account_after_reads rule core.physical (look_calls core address size) account
+
 -- the memory after the lowest bytes of a value are put at these places, the lowest first
 abbrev pub put_value : Physical → List PhysAddr → ℕ → Physical
 put_value memory [] value = memory
@@ -72,7 +96,7 @@ abbrev pub after_bytes_stored : {Account : Type 0} → (PhysCall → Physical �
     → Account → Account
 after_bytes_stored rule core address size value account =
     after_answer rule core.physical (bytes_from (store_place core) address size) value
-    (account_after_reads rule core.physical (load_calls core Write address size) account)
+    (account_after_load rule core Write address size account)
 
 -- the memory after a word is put at its address, if that leads somewhere
 abbrev pub word_stored : View → ℕ → ℕ → Physical
@@ -83,7 +107,7 @@ abbrev pub after_word_stored : {Account : Type 0} → (PhysCall → Physical →
     → Account → Account
 after_word_stored rule core address word account =
     after_word rule core.physical (place_of core Write address) word
-    (account_after_reads rule core.physical (look_calls core address 8) account)
+    (account_after_look rule core address 8 account)
 
 -- the bytes are all those of one word of memory
 abbrev pub is_whole : ℕ → ℕ → Bool
@@ -107,11 +131,9 @@ store_rule rule core address size value account =
 
 -- the account after a call
 unfoldable pub view_rule : {Account : Type 0} → (PhysCall → Physical → Account → Account) → BusCall → View → Account → Account
-view_rule rule (FetchByte address) core account = account_after_reads rule core.physical (byte_calls core Fetch address) account
-view_rule rule (LoadBytes address size) core account =
-    account_after_reads rule core.physical (load_calls core Read address size) account
-view_rule rule (LoadForWrite address size) core account =
-    account_after_reads rule core.physical (load_calls core Write address size) account
+view_rule rule (FetchByte address) core account = account_after_byte rule core Fetch address account
+view_rule rule (LoadBytes address size) core account = account_after_load rule core Read address size account
+view_rule rule (LoadForWrite address size) core account = account_after_load rule core Write address size account
 view_rule rule (StoreBytes address size value) core account = store_rule rule core address size value account
 
 -- what the bus of a core is to an instruction

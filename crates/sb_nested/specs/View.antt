@@ -7,7 +7,7 @@ use Rattle.sb_memory.specs.declared.address.Missing.{Missing}
 use Rattle.sb_memory.specs.declared.address.Access.{Access}
 use Rattle.sb_memory.specs.declared.address.PhysAddr.{PhysAddr}
 use Rattle.sb_walks.specs.declared.stop.NestedStop.{NestedStop}
-use Rattle.sb_walks.specs.Nested.{mapped_answer, translation, translation_reads}
+use Rattle.sb_walks.specs.Nested.{memory_behind, translation, translation_reads}
 use Rattle.sb_walks.specs.Reads.{where_ok}
 use Rattle.sb_bus.specs.declared.stop.BusStop.{BusStop}
 use Rattle.sb_bus.specs.declared.stop.BusStop.TheVariants as bus
@@ -28,11 +28,11 @@ with_memory core memory = view memory core.eptp core.cr3
 
 -- where an address leads
 unfoldable pub place_of : View → Access → ℕ → Result PhysAddr NestedStop
-place_of core access address = translation (mapped_answer core.physical core.eptp) core.cr3 address access
+place_of core access address = translation (memory_behind core.physical core.eptp) core.cr3 address access
 
 -- the calls that look it up
 unfoldable pub walk_calls : View → Access → ℕ → List PhysCall
-walk_calls core access address = word_calls (translation_reads (mapped_answer core.physical core.eptp) core.cr3 address access)
+walk_calls core access address = word_calls (translation_reads (memory_behind core.physical core.eptp) core.cr3 address access)
 
 -- the place, or what the instruction meets
 abbrev pub place_answer : ℕ → Result PhysAddr NestedStop → Result PhysAddr BusStop

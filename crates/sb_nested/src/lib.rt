@@ -15,7 +15,7 @@
 #![tactic(auto)]
 
 mod bus;
-mod law;
+mod laws;
 mod nested;
 mod read;
 mod store_bytes;
@@ -24,6 +24,6 @@ mod tables;
 mod walk;
 
 pub use bus::NestedBus;
-pub use law::{at_most_24_words, stores_change_what_they_reach, whole_memories_miss_nothing};
+pub use laws::{at_most_24_words, stores_change_what_they_reach, whole_memories_miss_nothing};
 pub use nested::translate;
 pub use sb_walks::NestedStop;

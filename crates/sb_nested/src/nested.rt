@@ -6,7 +6,7 @@ ghost use Rattle.sb_memory.specs.Accounts.{account_after_words};
 ghost use Rattle.sb_memory.specs.Physical.{frame_count};
 ghost use Rattle.sb_walks.specs.Entry.{frame_in};
 ghost use Rattle.sb_walks.specs.Ept.{is_eptp};
-ghost use Rattle.sb_walks.specs.Nested.{mapped_answer, translation, translation_reads};
+ghost use Rattle.sb_walks.specs.Nested.{memory_behind, translation, translation_reads};
 
 use crate::tables::TablesBehindEpt;
 use sb_eptwalk::ept_walk;
@@ -16,6 +16,8 @@ use sb_walks::NestedStop;
 
 /// The physical address of a linear one for a user-mode access: the guest's walk from the table to which CR3 leads, in which
 /// each address goes through the EPT, those of entries for reading and the last one for the access.
+///
+/// # Errors
 ///
 /// `Walk` is a refusal of the guest's walk, where an entry that cannot be read through the EPT is `WalkStop::Table`. `Page` is
 /// a refusal of the EPT at the address to which that walk leads.
@@ -29,10 +31,12 @@ pub fn translate<P: Phys>(
 ) -> Result<PhysAddr, NestedStop>
     requires eptp { IsTrue (is_eptp eptp) }
     requires root { frame_in eptp < frame_count (P.meaning phys.old) }
-    ensures answer { result ≡ translation (mapped_answer (P.meaning phys.old) eptp) cr3 at.0 access }
+    ensures answer { result ≡ translation (memory_behind (P.meaning phys.old) eptp) cr3 at.0 access }
     ensures inside { IfOk result (λ place. place.0 < PAGE_SIZE * frame_count (P.meaning phys.old)) }
     ensures same { P.meaning phys.new ≡ P.meaning phys.old }
-    ensures account { P.account phys.new ≡ account_after_words P.rule (P.meaning phys.old) (translation_reads (mapped_answer (P.meaning phys.old) eptp) cr3 at.0 access) (P.account phys.old) }
+    ensures account { P.account phys.new
+        ≡ account_after_words P.rule (P.meaning phys.old)
+        (translation_reads (memory_behind (P.meaning phys.old) eptp) cr3 at.0 access) (P.account phys.old) }
     ensures kept { P.kept phys.new ≡ P.kept phys.old }
 {
     match walk(&mut TablesBehindEpt { phys, eptp }, cr3, at, access) {

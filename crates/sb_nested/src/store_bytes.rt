@@ -1,11 +1,10 @@
 //! Bytes written one by one through the nested walk.
 
 ghost use Rattle.std.specs.Prelude.{◌≡◌, ◌≤◌, ◌<◌, ◌+◌, ◌++◌, ◌^◌, Ok, IfOk, OnOk, OnErr, IfErr, length, slice_index, [], ◌∷◌, Err};
-ghost use Rattle.sb_memory.specs.Accounts.{account_after_reads};
 ghost use Rattle.sb_memory.specs.declared.address.Access.TheVariants.{Write};
 ghost use Rattle.sb_bus.specs.Access.{IsSize, byte_for, bytes_from, store_answer};
-ghost use Rattle.sb_nested.specs.View.{byte_calls, view_byte, with_memory};
-ghost use Rattle.sb_nested.specs.Store.{AllHeld, after_bytes_stored, after_writes, bytes_stored, load_calls, put_value, store_place};
+ghost use Rattle.sb_nested.specs.View.{view_byte, with_memory};
+ghost use Rattle.sb_nested.specs.Store.{AllHeld, account_after_byte, account_after_load, after_bytes_stored, after_writes, bytes_stored, put_value, store_place};
 
 use crate::walk::Walk;
 use sb_bus::BusStop;
@@ -29,11 +28,12 @@ fn put<W: Walk>(walk: &mut W, places: &[PhysAddr], value: u64)
 #[tactic(auto, using(sb_memory::proofs::Accounts::after_reads_append), unfolding(crate::specs::Store::store_place, crate::specs::View::view_byte, crate::specs::View::byte_calls, crate::specs::View::walk_place))]
 fn store_place<W: Walk>(walk: &mut W, at: Linear) -> Result<PhysAddr, BusStop>
     ensures answer { result ≡ store_place (W.view walk.old) at.0 }
-    ensures byte { IfOk result (λ place. view_byte (W.view walk.old) at.0 Write ≡ Ok (slice_index (W.view walk.old).physical.bytes place.0)) }
+    ensures byte { IfOk result (λ place. view_byte (W.view walk.old) at.0 Write
+        ≡ Ok (slice_index (W.view walk.old).physical.bytes place.0)) }
     ensures stop { IfErr result (λ stop. view_byte (W.view walk.old) at.0 Write ≡ Err stop) }
     ensures held { IfOk result (λ place. AllHeld (W.view walk.old).physical (place ∷ [])) }
     ensures same { W.view walk.new ≡ W.view walk.old }
-    ensures account { W.account walk.new ≡ account_after_reads W.rule (W.view walk.old).physical (byte_calls (W.view walk.old) Write at.0) (W.account walk.old) }
+    ensures account { W.account walk.new ≡ account_after_byte W.rule (W.view walk.old) Write at.0 (W.account walk.old) }
     ensures kept { W.kept walk.new ≡ W.kept walk.old }
 {
     let place = walk.place(at, Access::Write)?;
@@ -48,7 +48,8 @@ fn store_places<W: Walk>(walk: &mut W, at: Linear, into: &mut [PhysAddr]) -> Res
     ensures err { IfErr result (λ stop. bytes_from (store_place (W.view walk.old)) at.0 (length into.old) ≡ Err stop) }
     ensures held { OnOk result (AllHeld (W.view walk.old).physical into.new) }
     ensures same { W.view walk.new ≡ W.view walk.old }
-    ensures account { W.account walk.new ≡ account_after_reads W.rule (W.view walk.old).physical (load_calls (W.view walk.old) Write at.0 (length into.old)) (W.account walk.old) }
+    ensures account { W.account walk.new
+        ≡ account_after_load W.rule (W.view walk.old) Write at.0 (length into.old) (W.account walk.old) }
     ensures kept { W.kept walk.new ≡ W.kept walk.old }
 {
     if let Some((first, rest)) = into.split_first_mut() {

@@ -1,12 +1,11 @@
 //! A whole word written through the nested walk.
 
 ghost use Rattle.std.specs.Prelude.{◌≡◌, ◌*◌, ◌%◌, ◌≤◌, ◌<◌, IfErr};
-ghost use Rattle.sb_memory.specs.Accounts.{account_after_reads};
 ghost use Rattle.sb_memory.specs.Outcome.{done};
 ghost use Rattle.sb_memory.specs.declared.address.Access.TheVariants.{Write};
 ghost use Rattle.sb_bus.specs.Access.{byte_for, bytes_from, store_answer};
 ghost use Rattle.sb_nested.specs.View.{view_byte, walk_place, with_memory};
-ghost use Rattle.sb_nested.specs.Store.{after_word_stored, look_calls, word_stored};
+ghost use Rattle.sb_nested.specs.Store.{account_after_look, after_word_stored, word_stored};
 
 use crate::walk::Walk;
 use sb_bus::BusStop;
@@ -17,7 +16,7 @@ use sb_memory::{Access, Linear};
 fn look_on<W: Walk>(walk: &mut W, at: Linear, count: u8) -> Result<(), BusStop>
     ensures answer { result ≡ done (bytes_from (walk_place (W.view walk.old) Write) at.0 count) }
     ensures same { W.view walk.new ≡ W.view walk.old }
-    ensures account { W.account walk.new ≡ account_after_reads W.rule (W.view walk.old).physical (look_calls (W.view walk.old) at.0 count) (W.account walk.old) }
+    ensures account { W.account walk.new ≡ account_after_look W.rule (W.view walk.old) at.0 count (W.account walk.old) }
     ensures kept { W.kept walk.new ≡ W.kept walk.old }
 {
     if count == 0 {

@@ -21,15 +21,15 @@ pub struct TablesBehindEpt<'a, P: Phys> {
 
 impl<'a, P: Phys> Tables for TablesBehindEpt<'a, P> {
     ghost use Rattle.std.specs.Prelude.{ℕ};
-    ghost use Rattle.sb_walks.specs.Nested.{Mapped, entry_rule, guest_entry, mapped_answer};
+    ghost use Rattle.sb_walks.specs.Nested.{MemoryBehindEpt, entry_rule, guest_entry, memory_behind};
 
-    ghost Meaning = { Mapped };
+    ghost Meaning = { MemoryBehindEpt };
 
     ghost Account = { P.Account };
 
     ghost Kept = { ℕ × P.Kept };
 
-    ghost meaning = { λ tables. mapped_answer (P.meaning tables.phys.now) tables.eptp };
+    ghost meaning = { λ tables. memory_behind (P.meaning tables.phys.now) tables.eptp };
 
     ghost entries = { guest_entry };
 

@@ -9,10 +9,11 @@ use sb_memory::{Access, Linear, PhysAddr};
 pub trait Walk {
     ghost use Rattle.std.specs.Prelude.{◌≡◌, ◌*◌, ◌%◌, ◌<◌, IfOk};
     ghost use Rattle.sb_memory.specs.declared.page.TheConstants.{PAGE_SIZE};
-    ghost use Rattle.sb_memory.specs.Accounts.{PhysCall, ReadByte, WriteByte, WriteWord, account_after_reads};
+    ghost use Rattle.sb_memory.specs.Accounts.{PhysCall, ReadByte, WriteByte, WriteWord};
     ghost use Rattle.sb_memory.specs.Physical.{Physical, IsPlace, IsWordPlace, frame_count};
     ghost use Rattle.sb_memory.specs.Reading.{byte_read, byte_written, word_written, write_answer};
-    ghost use Rattle.sb_nested.specs.View.{View, byte_answer, walk_calls, walk_place, with_memory, word_answer};
+    ghost use Rattle.sb_nested.specs.View.{View, byte_answer, walk_place, with_memory, word_answer};
+    ghost use Rattle.sb_nested.specs.Store.{account_after_walk};
 
     /// The type of what the memory notes of the calls that it gets.
     ghost Account: { Type 0 };
@@ -35,7 +36,7 @@ pub trait Walk {
         ensures inside { IfOk result (λ place. place.0 < PAGE_SIZE * frame_count (view self.old).physical) }
         ensures offset { IfOk result (λ place. place.0 % PAGE_SIZE ≡ at.0 % PAGE_SIZE) }
         ensures same { view self.new ≡ view self.old }
-        ensures account { account self.new ≡ account_after_reads rule (view self.old).physical (walk_calls (view self.old) access at.0) (account self.old) }
+        ensures account { account self.new ≡ account_after_walk rule (view self.old) access at.0 (account self.old) }
         ensures kept { kept self.new ≡ kept self.old };
 
     /// The byte at a place.

@@ -14,7 +14,7 @@ use Rattle.sb_exec.specs.Row.{Row, MemoryAccess, load_accesses, store_accesses, 
 use Rattle.sb_exec.specs.Rows.{row_of}
 use Rattle.sb_exec.specs.Execution as exec
 use Rattle.sb_exec.specs.Execution.{Execution, execution_by, execution_of}
-use Rattle.sb_exec.specs.Simulation.{told}
+use Rattle.sb_exec.specs.Simulation.{named_answer}
 use Rattle.sb_original.specs.Words.{Words}
 use Rattle.sb_original.specs.Slot.{Slotted, worked, worked_through}
 use Rattle.sb_exec.specs.Simulation.{IsRowAt}
@@ -171,7 +171,7 @@ record PairMade {M A N B : Type 0} (Holds : Words → M → N → Type 0) (namin
       × (made.thread.regs ≡ (other.after loaded).regs))
 
 told_of : (naming : BusStop → BusStop) (answer : Result Effect BusStop)
-    → event_of (told naming answer) ≡ told_event naming (event_of answer)
+    → event_of (named_answer naming answer) ≡ told_event naming (event_of answer)
 told_of naming (Ok effect) = refl
 told_of naming (Err stop) = refl
 

@@ -44,7 +44,10 @@ is_open Same = true
 is_open Changed = true
 is_open (Entry slot) = true
 is_open (AtOnce slot) = true
-is_open _ = false
+is_open (InPre slot done insn left) = false
+is_open (AtMain slot) = false
+is_open (InPost slot insn left) = false
+is_open Nowhere = false
 
 -- the position after some instructions of pre
 abbrev pub in_pre : Slot → List Insn → List Insn → Position
@@ -55,18 +58,26 @@ in_pre slot done (insn ∷ left) = InPre slot done insn left
 
 -- the step is none of the original code
 abbrev pub is_extra : Position → Bool
+is_extra Same = false
+is_extra Changed = false
 is_extra (Entry slot) = true
+is_extra (AtOnce slot) = false
 is_extra (InPre slot done insn left) = true
+is_extra (AtMain slot) = false
 is_extra (InPost slot insn left) = true
-is_extra _ = false
+is_extra Nowhere = false
 
 -- the step goes into a slot, or on inside it
 abbrev pub goes_inside : Position → Bool
 goes_inside Same = false
 goes_inside Changed = false
+goes_inside (Entry slot) = true
+goes_inside (AtOnce slot) = true
+goes_inside (InPre slot done insn left) = true
+goes_inside (AtMain slot) = true
 goes_inside (InPost slot insn []) = false
+goes_inside (InPost slot insn (next ∷ left)) = true
 goes_inside Nowhere = false
-goes_inside _ = true
 
 -- the step leads where no thread may come from there
 abbrev pub leads_astray : Position → Position → Bool
@@ -78,11 +89,21 @@ abbrev pub original_at : Position → Slotted → Regs
 original_at (InPre slot done insn left) state = original_before slot.start done state
 original_at (AtMain slot) state = original_before slot.start slot.pre state
 original_at (InPost slot insn left) state = original_behind (insn ∷ left) state
-original_at _ state = state.regs
+original_at Same state = state.regs
+original_at Changed state = state.regs
+original_at (Entry slot) state = state.regs
+original_at (AtOnce slot) state = state.regs
+original_at Nowhere state = state.regs
 
 abbrev pub original_rip : Position → ℕ → ℕ
 original_rip (AtMain slot) rip = slot.start
-original_rip _ rip = rip
+original_rip Same rip = rip
+original_rip Changed rip = rip
+original_rip (Entry slot) rip = rip
+original_rip (AtOnce slot) rip = rip
+original_rip (InPre slot done insn left) rip = rip
+original_rip (InPost slot insn left) rip = rip
+original_rip Nowhere rip = rip
 
 abbrev pub told_event : (BusStop → BusStop) → Event → Event
 told_event naming (Ran effect) = Ran effect

@@ -1,9 +1,9 @@
 -- A thread of the rewritten code beside the same thread of the original code.
-use Rattle.std.specs.Prelude.{◌≡◌, ◌⊎◌, ℕ, zero, suc, Bool, true, false, ◌∷◌, Option, Some, []}
+use Rattle.std.specs.Prelude.{◌≡◌, ◌⊎◌, ℕ, zero, suc, Bool, true, false, ◌∷◌, Option, Some, None, []}
 use Rattle.std.specs.List.{AllByRecursion}
 use Rattle.sb_insn.specs.declared.registers.Regs.{Regs}
 use Rattle.sb_bus.specs.declared.stop.BusStop.{BusStop}
-use Rattle.sb_exec.specs.declared.action.Effect.TheVariants.{Next}
+use Rattle.sb_exec.specs.declared.action.Effect.TheVariants.{Next, Syscall, Switch, Undefined}
 use Rattle.sb_exec.specs.Interface.{Interface}
 use Rattle.sb_exec.specs.Row.{Row, accesses}
 use Rattle.sb_exec.specs.Rows.{row_of}
@@ -12,8 +12,8 @@ use Rattle.sb_exec.specs.Simulation.{IsRowAt}
 use Rattle.sb_original.specs.Slot.{Slotted, IsScratch, worked_through}
 use Rattle.sb_original.specs.Original.{IsRegs}
 use Rattle.sb_original.specs.Going.{original_before, Ahead, Left, MainWorks}
-use Rattle.sb_origin_run.specs.Machine.{Code, Thread, Event, Ran, Stopped, Made, step, Run}
-use Rattle.sb_origin_run.specs.Position.{Position, Same, Changed, AtOnce, InPre, AtMain, InPost, Nowhere, leads_astray, original_at, original_rip, told_event, original_lines}
+use Rattle.sb_origin_run.specs.Machine.{Code, Thread, Event, Ran, Stopped, NotFetched, Made, step, Run}
+use Rattle.sb_origin_run.specs.Position.{Position, Same, Changed, Entry, AtOnce, InPre, AtMain, InPost, Nowhere, leads_astray, original_at, original_rip, told_event, original_lines}
 
 -- ---- one thread
 
@@ -26,7 +26,10 @@ IsAt bus Holds (AtMain slot) state regs =
     (original_before slot.start slot.pre state ≡ regs) × MainWorks bus Holds (slot.row regs) slot.main slot.post state
 IsAt bus Holds (InPost slot insn left) state regs = Left bus Holds regs (insn ∷ left) state
 IsAt bus Holds Nowhere state regs = ⊥
-IsAt bus Holds _ state regs = regs ≡ state.regs
+IsAt bus Holds Same state regs = regs ≡ state.regs
+IsAt bus Holds Changed state regs = regs ≡ state.regs
+IsAt bus Holds (Entry slot) state regs = regs ≡ state.regs
+IsAt bus Holds (AtOnce slot) state regs = regs ≡ state.regs
 
 -- The memory of the one holds some words, and is that of the other beside its scratch page; by these words the registers of
 -- the other are the original ones.
@@ -44,17 +47,27 @@ AtRow (AtMain slot) found regs Claim = Claim (slot.row regs)
 AtRow (AtOnce slot) found regs Claim = Claim (slot.row regs)
 AtRow Same (Some row) regs Claim = Claim (row regs)
 AtRow Changed (Some row) regs Claim = Claim (row regs)
-AtRow _ found regs Claim = Unit {0}
+AtRow Same None regs Claim = Unit {0}
+AtRow Changed None regs Claim = Unit {0}
+AtRow (Entry slot) found regs Claim = Unit {0}
+AtRow (InPre slot done insn left) found regs Claim = Unit {0}
+AtRow (InPost slot insn left) found regs Claim = Unit {0}
+AtRow Nowhere found regs Claim = Unit {0}
 
 -- a claim unless the step was stopped
 abbrev pub UnlessStopped : Event → Type 0 → Type 0
 UnlessStopped (Stopped stop) Claim = Unit {0}
-UnlessStopped _ Claim = Claim
+UnlessStopped (Ran effect) Claim = Claim
+UnlessStopped NotFetched Claim = Claim
 
 -- a claim where an instruction goes on
 abbrev pub WhereNext : Event → Type 0 → Type 0
 WhereNext (Ran Next) Claim = Claim
-WhereNext _ Claim = Unit {0}
+WhereNext (Ran Syscall) Claim = Unit {0}
+WhereNext (Ran Switch) Claim = Unit {0}
+WhereNext (Ran Undefined) Claim = Unit {0}
+WhereNext (Stopped stop) Claim = Unit {0}
+WhereNext NotFetched Claim = Unit {0}
 
 -- The step of the rewritten code leads nowhere astray, and the original instruction does not access the scratch page. The
 -- registers are a machine's.
@@ -105,4 +118,8 @@ AccessesAt (InPost slot insn left) state regs = AllByRecursion IsScratch (access
 AccessesAt (AtMain slot) state regs =
     (accesses (row_of slot.main state.regs) ≡ accesses (slot.row regs))
     ⊎ ((accesses (slot.row regs) ≡ []) × AllByRecursion IsScratch (accesses (row_of slot.main state.regs)))
-AccessesAt _ state regs = Unit {0}
+AccessesAt Same state regs = Unit {0}
+AccessesAt Changed state regs = Unit {0}
+AccessesAt (Entry slot) state regs = Unit {0}
+AccessesAt (AtOnce slot) state regs = Unit {0}
+AccessesAt Nowhere state regs = Unit {0}

@@ -8,7 +8,7 @@ use Rattle.sb_bus.specs.declared.stop.BusStop.{BusStop}
 use Rattle.sb_exec.specs.declared.action.Effect.{Effect}
 use Rattle.sb_exec.specs.declared.action.Store.{Store}
 use Rattle.sb_exec.specs.declared.action.Store.TheVariants as store
-use Rattle.sb_exec.specs.declared.action.After.{After}
+use Rattle.sb_exec.specs.declared.action.RowResult.{RowResult}
 use Rattle.sb_exec.specs.declared.action.Load.{Load}
 use Rattle.sb_exec.specs.declared.action.Load.TheVariants as load
 use Rattle.sb_memory.specs.declared.address.Access.TheVariants.{Read, Write}
@@ -18,7 +18,7 @@ use Rattle.sb_exec.specs.Interface.{Interface}
 use Rattle.sb_exec.specs.Size.{size_bytes}
 use Rattle.sb_exec.specs.Row.{Row, MemoryAccess, Loads, LoadsForWrite, Stores, load_accesses, store_accesses, accesses}
 use Rattle.sb_exec.specs.Execution.{Run, run, run_on, execution_of, execution_by, effect_after, registers_after}
-use Rattle.sb_exec.specs.Simulation.{told, IsAt, IsRowAt, AgreeAt, StoresKeepAt}
+use Rattle.sb_exec.specs.Simulation.{named_answer, IsAt, IsRowAt, AgreeAt, StoresKeepAt}
 use Rattle.sb_exec.proofs.Simulation.{SameRun, run_agrees_at}
 use Rattle.sb_original.specs.Words.{Words}
 use Rattle.sb_original.specs.Original.{SameAccesses}
@@ -27,7 +27,7 @@ use Rattle.sb_exec.proofs.Simulation.{effect_told}
 
 -- ---- the same accesses
 
-store_same : (place : Store) (after other : ℕ → After) → ((loaded : ℕ) → (other loaded).stored ≡ (after loaded).stored)
+store_same : (place : Store) (after other : ℕ → RowResult) → ((loaded : ℕ) → (other loaded).stored ≡ (after loaded).stored)
     → store_accesses place other ≡ store_accesses place after
 store_same store.Nothing after other same = refl
 store_same (store.At address size) after other same =
@@ -78,8 +78,8 @@ run_alike left right Holds IsOutside naming beside accesses words first second a
 -- ---- the rows
 
 ends_by : (naming : BusStop → BusStop) (row other : Row) (regs other_regs : Regs) (answer : Result ℕ BusStop)
-    → EndAlike row other regs other_regs (effect_after other.effect answer) (registers_after row regs (told naming answer))
-    (registers_after other other_regs answer)
+    → EndAlike row other regs other_regs (effect_after other.effect answer)
+    (registers_after row regs (named_answer naming answer)) (registers_after other other_regs answer)
 ends_by naming row other regs other_regs (Ok loaded) = inl (loaded, refl, refl)
 ends_by naming row other regs other_regs (Err stop) = inr ((stop, refl), refl, refl)
 
@@ -89,7 +89,7 @@ by_runs : {M A N B : Type 0} (Holds : Words → M → N → Type 0) (naming : Bu
     → MainStep Holds naming words row other regs other_regs (execution_by row regs two) (execution_by other other_regs one)
 by_runs Holds naming words row other regs other_regs one two effect same = record {
   answer = ap (λ a. effect_after row.effect a) same.answer ∙ effect_told naming row.effect one.answer
-      ∙ ap (λ e. told naming (effect_after e one.answer)) (sym effect);
+      ∙ ap (λ e. named_answer naming (effect_after e one.answer)) (sym effect);
   holds = same.related;
   ends = subst
       (λ a. EndAlike row other regs other_regs (effect_after other.effect one.answer) (registers_after row regs a)
@@ -99,9 +99,9 @@ by_runs Holds naming words row other regs other_regs one two effect same = recor
 -- ---- where the rewritten row is stopped: a stop does not depend on what was loaded, and changes no memory
 
 bytes_stopped : (naming : BusStop → BusStop) (byte byte' : Result ℕ BusStop) (others others' : Result (List ℕ) BusStop)
-    → done byte' ≡ told naming (done byte) → done others' ≡ told naming (done others)
+    → done byte' ≡ named_answer naming (done byte) → done others' ≡ named_answer naming (done others)
     → done (and_then byte' (λ lowest. and_then others' (λ more. Ok (lowest ∷ more))))
-    ≡ told naming (done (and_then byte (λ lowest. and_then others (λ more. Ok (lowest ∷ more)))))
+    ≡ named_answer naming (done (and_then byte (λ lowest. and_then others (λ more. Ok (lowest ∷ more)))))
 bytes_stopped naming (Ok lowest) (Ok lowest') (Ok more) (Ok more') one two = refl
 bytes_stopped naming (Ok lowest) (Ok lowest') (Ok more) (Err stop') one two = absurd cc
 bytes_stopped naming (Ok lowest) (Ok lowest') (Err stop) (Ok more') one two = absurd cc
@@ -111,8 +111,8 @@ bytes_stopped naming (Err stop) (Ok lowest') others others' one two = absurd cc
 bytes_stopped naming (Err stop) (Err stop') others others' one two = one
 
 all_stopped : (naming : BusStop → BusStop) (byte byte' : ℕ → Result ℕ BusStop)
-    → ((address : ℕ) → done (byte' address) ≡ told naming (done (byte address))) → (address count : ℕ)
-    → done (bytes_from byte' address count) ≡ told naming (done (bytes_from byte address count))
+    → ((address : ℕ) → done (byte' address) ≡ named_answer naming (done (byte address))) → (address count : ℕ)
+    → done (bytes_from byte' address count) ≡ named_answer naming (done (bytes_from byte address count))
 unfolding bytes_from
 all_stopped naming byte byte' given address zero = refl
 all_stopped naming byte byte' given address (suc count) =
@@ -124,22 +124,23 @@ number_done (Ok all) = refl
 number_done (Err stop) = refl
 
 loads_stopped : (naming : BusStop → BusStop) (byte byte' : ℕ → Result ℕ BusStop)
-    → ((address : ℕ) → done (byte' address) ≡ told naming (done (byte address))) → (address count : ℕ)
-    → done (loaded_from byte' address count) ≡ told naming (done (loaded_from byte address count))
+    → ((address : ℕ) → done (byte' address) ≡ named_answer naming (done (byte address))) → (address count : ℕ)
+    → done (loaded_from byte' address count) ≡ named_answer naming (done (loaded_from byte address count))
 unfolding loaded_from
 loads_stopped naming byte byte' given address count =
     number_done (bytes_from byte' address count)
-    ∙ (all_stopped naming byte byte' given address count ∙ ap (told naming) (sym (number_done (bytes_from byte address count))))
+    ∙ (all_stopped naming byte byte' given address count
+    ∙ ap (named_answer naming) (sym (number_done (bytes_from byte address count))))
 
 stores_stopped : (naming : BusStop → BusStop) (byte byte' : ℕ → Result ℕ BusStop)
-    → ((address : ℕ) → done (byte' address) ≡ told naming (done (byte address))) → (address count : ℕ)
-    → store_answer byte' address count ≡ told naming (store_answer byte address count)
+    → ((address : ℕ) → done (byte' address) ≡ named_answer naming (done (byte address))) → (address count : ℕ)
+    → store_answer byte' address count ≡ named_answer naming (store_answer byte address count)
 unfolding store_answer
 stores_stopped naming byte byte' given address count = all_stopped naming byte byte' given address count
 
 write_stopped : (naming : BusStop → BusStop) (write write' read read' : Result ℕ BusStop)
-    → done write' ≡ told naming (done write) → done read' ≡ told naming (done read)
-    → done (and_then write' (λ _. read')) ≡ told naming (done (and_then write (λ _. read)))
+    → done write' ≡ named_answer naming (done write) → done read' ≡ named_answer naming (done read)
+    → done (and_then write' (λ _. read')) ≡ named_answer naming (done (and_then write (λ _. read)))
 write_stopped naming (Ok value) (Ok value') read read' one two = two
 write_stopped naming (Ok value) (Err stop') read read' one two = absurd cc
 write_stopped naming (Err stop) (Ok value') read read' one two = absurd cc
@@ -148,7 +149,7 @@ write_stopped naming (Err stop) (Err stop') read read' one two = one
 -- both runs are stopped alike, and leave the memories
 record StoppedRun {M A N B : Type 0} (naming : BusStop
     → BusStop) (first : M) (second : N) (one : Run M A) (two : Run N B) : Type 0 where
-  answer : two.answer ≡ told naming one.answer
+  answer : two.answer ≡ named_answer naming one.answer
   left : one.meaning ≡ first
   right : two.meaning ≡ second
 
@@ -162,7 +163,7 @@ clash value stopped = let is = stopped.1 in cc
 last_stopped : {M A N B : Type 0} (naming : BusStop
     → BusStop) (one two : Result (Unit {0}) BusStop) (first first' : M) (second second' : N) (account : A) (other : B)
     (loaded loaded' : ℕ)
-    → two ≡ told naming one
+    → two ≡ named_answer naming one
     → StopsAlike naming first second
     (run_on (λ (meaning : M) (account : A) (loaded : ℕ). record { answer = Ok loaded; meaning = meaning; account = account })
     (and_then one (λ _. Ok loaded)) (where_stored one first' first) account)
@@ -176,7 +177,7 @@ last_stopped naming (Err stop) two first first' second second' account other loa
 store_stopped : {M A N B : Type 0} (left : Interface M A) (right : Interface N B) (Holds : Words → M → N → Type 0) (IsOutside : ℕ
     → ℕ → Type 0) (naming : BusStop → BusStop)
     → AreBeside left right Holds IsOutside naming
-    → (place : Store) (after : ℕ → After) (words : Words) (first : M) (second : N) (account : A) (other : B) (loaded loaded' : ℕ)
+    → (place : Store) (after : ℕ → RowResult) (words : Words) (first : M) (second : N) (account : A) (other : B) (loaded loaded' : ℕ)
     → Holds words first second
     → StopsAlike naming first second (run left (store_accesses place after) first account loaded)
     (run right (store_accesses place after) second other loaded')
@@ -196,7 +197,7 @@ as_answer (Err stop) = Err stop
 -- the load is the first access
 first_stopped : {M A N B : Type 0} (naming : BusStop → BusStop) (next : M → A → ℕ → Run M A) (next' : N → B → ℕ
     → Run N B) (one two : Result ℕ BusStop) (first : M) (second : N) (account : A) (other : B)
-    → done two ≡ told naming (done one)
+    → done two ≡ named_answer naming (done one)
     → ((loaded loaded' : ℕ) → StopsAlike naming first second (next first account loaded) (next' second other loaded'))
     → StopsAlike naming first second (run_on next one first account) (run_on next' two second other)
 first_stopped naming next next' (Ok loaded) (Ok loaded') first second account other equal given stopped =
@@ -209,7 +210,7 @@ first_stopped naming next next' (Err stop) (Err stop') first second account othe
 row_stopped : {M A N B : Type 0} (left : Interface M A) (right : Interface N B) (Holds : Words → M → N → Type 0) (IsOutside : ℕ
     → ℕ → Type 0) (naming : BusStop → BusStop)
     → AreBeside left right Holds IsOutside naming
-    → (loads : Load) (place : Store) (after : ℕ → After) (words : Words) (first : M) (second : N) (account : A) (other : B)
+    → (loads : Load) (place : Store) (after : ℕ → RowResult) (words : Words) (first : M) (second : N) (account : A) (other : B)
     → Holds words first second
     → StopsAlike naming first second (run left (load_accesses loads ++ store_accesses place after) first account 0)
     (run right (load_accesses loads ++ store_accesses place after) second other 0)

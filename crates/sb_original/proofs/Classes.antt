@@ -1,6 +1,6 @@
 -- Which actions the instructions with a memory operand have, and that the main with the operand at a helper has the same.
 use Rattle.std.proofs.Common.{◌≡◌, ℕ, ◌%◌, Bool, true, false, List, [], ◌∷◌, Option, Some, None, refl, sym, ap, ◌∙◌}
-use Rattle.std.specs.Prelude.{◌==◌, if◌then◌else◌}
+use Rattle.std.specs.Prelude.{◌==◌, if◌then◌else◌, unwrap_or}
 use Rattle.std.proofs.lemmas.Bool.{or_parts, or_from}
 use Rattle.sb_insn.specs.declared.insn.Insn.{Insn}
 use Rattle.sb_insn.specs.declared.insn.Op.{Op}
@@ -23,15 +23,13 @@ use Rattle.sb_alu.specs.declared.operation.Operation.TheVariants as operation
 use Rattle.sb_exec.specs.declared.action.Exchange.TheVariants as exchange
 use Rattle.sb_exec.specs.declared.action.Action.TheVariants.{Compute, ZeroExtend, LoadAddress, Exchange, JumpIf}
 use Rattle.sb_alu.specs.declared.size.Size.TheVariants.{Doubleword, Quadword}
-use Rattle.sb_exec.specs.Operand.{reg_number, operand_size, last_opcode_byte}
+use Rattle.sb_exec.specs.Operand.{operand_size}
+use Rattle.sb_insn.specs.RegisterNumbers.{modrm_of, reg_number, last_opcode_byte, rm_number, base_number, index_number}
 use Rattle.sb_exec.specs.Actions.{byte_or, moved_size, condition_number, action_by, action_for, action_of}
-use Rattle.sb_insn.specs.RegisterNumbers as encoded
-use Rattle.sb_insn.specs.RegisterNumbers.{byte_of, rm_number, base_number, index_number}
 use Rattle.sb_forms.specs.Registers.{is_number, form_number, is_named}
 use Rattle.sb_forms.specs.Table.{is_call, is_jump}
 use Rattle.sb_forms.proofs.Maps.{of_cell, of_operand}
 use Rattle.sb_original.specs.Alike.{is_rm_form, is_rm_action, FormShown, ActionShown, hides, NamesNone}
-use Rattle.sb_original.proofs.Fields.{reg_number_same}
 
 -- ---- the maps
 
@@ -234,11 +232,10 @@ number_shown named form insn (one ∷ others) is none =
     (ap (λ (number : Option ℕ). is_number number one) (sym is) ∙ names_not form insn one none.0)
     (number_shown named form insn others is none.1)
 
-reg_is_shown : (form : OperandForm) (insn : Insn) (numbers : List ℕ) → form_number form insn ≡ Some (encoded.reg_number insn)
+reg_is_shown : (form : OperandForm) (insn : Insn) (numbers : List ℕ) → form_number form insn ≡ Some (reg_number insn)
     → NamesNone form insn numbers → hides numbers (reg_number insn) ≡ false
 reg_is_shown form insn numbers is none =
-    ap (λ (number : ℕ). hides numbers number) (sym (reg_number_same insn))
-    ∙ number_shown (encoded.reg_number insn) form insn numbers is none
+    number_shown (reg_number insn) form insn numbers is none
 
 pub form_shown : (form : OperandForm) (insn : Insn) (numbers : List ℕ) → NamesNone form insn numbers
     → FormShown (hides numbers) form insn
@@ -259,7 +256,7 @@ form_shown form.Nothing insn numbers none = tt
 -- ---- the same action
 
 instruction_same : (cell : Cell) (modrm : Option ℕ) (byte : ℕ) → has_memory modrm ≡ true
-    → reg_field byte ≡ reg_field (byte_of modrm) → instruction_in cell (Some byte) ≡ instruction_in cell modrm
+    → reg_field byte ≡ reg_field (unwrap_or modrm 0) → instruction_in cell (Some byte) ≡ instruction_in cell modrm
 instruction_same cell None byte memory same = absurd cc
 instruction_same Absent (Some modrm) byte memory same = refl
 instruction_same (NoModRm plain) (Some modrm) byte memory same = refl
@@ -268,7 +265,7 @@ instruction_same (Extended group form imm) (Some modrm) byte memory same =
     ap (λ (reg : ℕ). named_instruction (group_operand group form imm reg)) same
 
 operand_same : (cell : Cell) (modrm : Option ℕ) (byte : ℕ) → has_memory modrm ≡ true
-    → reg_field byte ≡ reg_field (byte_of modrm) → modrm_opcode_in cell (Some byte) ≡ modrm_opcode_in cell modrm
+    → reg_field byte ≡ reg_field (unwrap_or modrm 0) → modrm_opcode_in cell (Some byte) ≡ modrm_opcode_in cell modrm
 operand_same cell None byte memory same = absurd cc
 operand_same cell (Some modrm) byte memory same = ap (λ (reg : ℕ). modrm_opcode cell reg) same
 
@@ -316,7 +313,7 @@ action_same insn main same size moved number =
 
 -- an instruction with another ModRM byte whose reg field is the same, and the same REX.W
 pub same_work : (insn main : Insn) (byte : ℕ) → has_memory insn.modrm ≡ true → main.op ≡ insn.op → main.modrm ≡ Some byte
-    → reg_field byte ≡ reg_field (byte_of insn.modrm) → rex_w main.rex ≡ rex_w insn.rex → action_of main ≡ action_of insn
+    → reg_field byte ≡ reg_field (modrm_of insn) → rex_w main.rex ≡ rex_w insn.rex → action_of main ≡ action_of insn
 unfolding instruction_of modrm_opcode_of
 same_work insn main byte memory op modrm reg wide =
     let size : operand_size main ≡ operand_size insn = ap (λ (bit : ℕ). if bit == 1 then Quadword else Doubleword) wide in

@@ -36,7 +36,8 @@ use Rattle.sb_exec.specs.declared.action.Location.{Location}
 use Rattle.sb_exec.specs.declared.action.Location.TheVariants.{Register, Memory}
 use Rattle.sb_exec.specs.Size.{low}
 use Rattle.sb_insn.specs.Branch.{imm_value}
-use Rattle.sb_exec.specs.Operand.{reg_number, opcode_number, operand_size, general, operand_value}
+use Rattle.sb_exec.specs.Operand.{operand_size, general, operand_value}
+use Rattle.sb_insn.specs.RegisterNumbers.{reg_number, opcode_number}
 use Rattle.sb_exec.specs.Address.{rm_location}
 use Rattle.sb_exec.specs.WriteBack.{destination, first_operand, last_operand}
 use Rattle.sb_exec.specs.Actions.{byte_or, moved_size, action_by, action_for, action_of}

@@ -19,15 +19,16 @@ use Rattle.sb_exec.specs.declared.action.Location.{Location}
 use Rattle.sb_exec.specs.declared.action.Location.TheVariants.{Memory}
 use Rattle.sb_alu.specs.declared.size.Size.{Size}
 use Rattle.sb_exec.specs.Interface.{Interface}
-use Rattle.sb_exec.specs.Operand.{modrm_of, reg_number, rm_number, opcode_number, operand_size, general, next_rip}
+use Rattle.sb_exec.specs.Operand.{rm_number, operand_size, general, next_rip}
+use Rattle.sb_insn.specs.RegisterNumbers.{register_number, modrm_of, last_opcode_byte, reg_number, opcode_number}
 use Rattle.sb_exec.specs.Address.{linear, operand_address}
 use Rattle.sb_exec.specs.WriteBack.{destination, compute_result}
 use Rattle.sb_exec.specs.Actions.{action_of}
 use Rattle.sb_exec.specs.Rows.{after_action, row_of}
+use Rattle.sb_exec.proofs.RowWords.{address_word}
 use Rattle.sb_forms.specs.declared.helper.Helper.{Helper}
 use Rattle.sb_forms.specs.declared.slots.Site.{Site}
 use Rattle.sb_insn.specs.Rex.{with_r_b}
-use Rattle.sb_insn.specs.RegisterNumbers.{byte_of}
 use Rattle.sb_forms.specs.Registers.{number_of, is_number, is_named, first_helper, second_helper}
 use Rattle.sb_insn.specs.RegisterNumbers as encoded
 use Rattle.sb_forms.specs.Pieces.{first_saved, second_saved, save, restore, load_constant, load_address_of_operand, jump_insn}
@@ -42,8 +43,8 @@ use Rattle.sb_original.specs.Alike.{hides, NamesNone}
 use Rattle.sb_original.specs.Slot.{Slotted, saved}
 use Rattle.sb_original.proofs.Saves.{save_done_first, save_done_second, staged_done, staged_then, address_saves, constant_saves}
 use Rattle.sb_original.specs.Original.{Save, Stage, insns_of, Before, staged, FormLaw}
-use Rattle.sb_original.proofs.Fields.{modrm_same, with_b_0, with_b, helper_not_0}
-use Rattle.sb_original.proofs.Memory.{memory_place, memory_mod, address_below}
+use Rattle.sb_original.proofs.Fields.{with_b_0, with_b, helper_not_0}
+use Rattle.sb_original.proofs.Memory.{memory_place, memory_mod}
 use Rattle.sb_original.proofs.Classes.{number_shown}
 use Rattle.sb_original.proofs.Helpers.{first_unnamed, helpers_differ}
 use Rattle.sb_original.proofs.Pieces.{save_does}
@@ -53,7 +54,7 @@ use Rattle.sb_original.proofs.Addresses.{address_loads, constant_loads}
 use Rattle.sb_original.proofs.FormAddress.{insns_staged, alike_accesses, one_save, one_kept, one_behind}
 use Rattle.sb_original.proofs.FormConstant.{two_saves, two_kept, two_behind, hides_second}
 use Rattle.sb_original.proofs.Constants.{PlaceIs, constant_main, own_action, whole_main_action}
-use Rattle.sb_original.proofs.Operands.{register_place, memory_reg, memory_at, IsRegister, own_reg, own_place, opcode_is_one}
+use Rattle.sb_original.proofs.Operands.{register_place, memory_reg, memory_at, IsRegister, own_reg, own_place}
 use Rattle.sb_original.proofs.FormAddress.{one_length}
 
 -- ---- the table at these instructions
@@ -88,7 +89,7 @@ none_behind _ kind insn helper is = absurd cc
 -- ---- where the operand is
 
 rm_is : (insn : Insn) (modrm : ℕ) → insn.modrm ≡ Some modrm
-    → encoded.register_number (rm_field modrm) (rex_b insn.rex) ≡ rm_number insn
+    → register_number (rm_field modrm) (rex_b insn.rex) ≡ rm_number insn
 rm_is insn modrm is =
     let byte : modrm_of insn ≡ modrm = ap (λ (m : Option ℕ). unwrap_or m 0) is in
     omega (arith, byte)
@@ -148,28 +149,25 @@ own_stays numbers name insn instruction form.AccImm old other helper found is e 
     }
 own_stays numbers name insn instruction form.OpcodeImm old other helper found is e none accumulator stands =
     let operand = own_register form.OpcodeImm insn in
-    let low = encoded.one_byte_opcode insn.op % 8 in
+    let low = last_opcode_byte insn.op % 8 in
     let known : IsRegister operand low 0 = record { mod_rm = refl; within = omega arith; rex = b_1 insn.rex } in
-    let one = opcode_is_one insn instruction found is in
     let number : low + 8 * rex_b (with_r_b insn.rex 0 (rex_b insn.rex)) ≡ opcode_number insn =
-    omega (arith, one, with_b insn.rex 0 (omega arith)) in
-    let same : encoded.opcode_number insn ≡ opcode_number insn = omega (arith, one) in record {
+    omega (arith, with_b insn.rex 0 (omega arith)) in record {
       place = own_place name insn operand helper low 0 (opcode_number insn) other known number;
       shown = (
         omega (arith, b_1 insn.rex),
-        ap (λ (n : ℕ). hides numbers n) (sym same)
-            ∙ number_shown (encoded.opcode_number insn) form.OpcodeImm insn numbers refl none,
+        number_shown (opcode_number insn) form.OpcodeImm insn numbers refl none,
       );
       reg = own_reg name insn operand helper low 0 known;
     }
 own_stays numbers name insn instruction form.RmImm old other helper found is e none accumulator stands =
     let operand = own_register form.RmImm insn in
     let modrm = stands refl in
-    let low = byte_of insn.modrm % 8 in
+    let low = modrm_of insn % 8 in
     let known : IsRegister operand low 0 = record { mod_rm = refl; within = omega arith; rex = b_1 insn.rex } in
     let three : mod_field (modrm_of insn) ≡ 3 = ap (λ (m : Option ℕ). mod_field (unwrap_or m 0)) modrm.1 ∙ modrm.2 in
     let number : low + 8 * rex_b (with_r_b insn.rex 0 (rex_b insn.rex)) ≡ rm_number insn =
-    omega (arith, modrm_same insn.modrm, with_b insn.rex 0 (omega arith)) in
+    omega (arith, with_b insn.rex 0 (omega arith)) in
     let there = register_place insn old three in record {
       place = own_place name insn operand helper low 0 (rm_number insn) other known number ∙ sym there;
       shown = subst (λ (place : Location). IsShown (hides numbers) place) (sym there) (
@@ -186,7 +184,7 @@ memory_stays : (numbers : List ℕ) (name : Mnemonic) (insn : Insn) (old other :
 unfolding destination
 memory_stays numbers name insn old other at helper memory is =
     let there = memory_place insn old (memory_mod insn.modrm memory) in
-    let reduced : general other (number_of at) % 2 ^ 64 ≡ operand_address insn old = omega (arith, is, address_below insn old) in
+    let reduced : general other (number_of at) % 2 ^ 64 ≡ operand_address insn old = omega (arith, is, address_word insn old) in
     record {
       place = memory_at name insn at helper other ∙ ap (λ (n : ℕ). Memory (linear n)) reduced ∙ sym there;
       shown = subst (λ (place : Location). IsShown (hides numbers) place) (sym there) tt;

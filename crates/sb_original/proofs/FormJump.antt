@@ -20,12 +20,13 @@ use Rattle.sb_exec.specs.Interface.{Interface}
 use Rattle.sb_exec.specs.Size.{low}
 use Rattle.sb_exec.specs.Operand.{general, register_after_write, next_rip, operand_value}
 use Rattle.sb_exec.specs.Address.{linear, operand_address, rm_location}
-use Rattle.sb_exec.specs.Operated.{operation_outcome}
+use Rattle.sb_exec.specs.Outcome.{operation_outcome}
 use Rattle.sb_exec.specs.WriteBack.{regs_at_next, without_store, write_result, destination, first_operand, last_operand, result_or_nothing, compute_result}
 use Rattle.sb_exec.specs.Branch.{at_rip}
 use Rattle.sb_exec.specs.Row.{Row}
 use Rattle.sb_exec.specs.Actions.{action_by, action_for, action_of}
 use Rattle.sb_exec.specs.Rows.{rm_use, load_by, load_of, store_of, after_action, effect_of, row_by, row_of}
+use Rattle.sb_exec.proofs.RowWords.{address_word}
 use Rattle.sb_forms.specs.declared.helper.Helper.{Helper}
 use Rattle.sb_forms.specs.declared.helper.Helper.TheVariants.{Rcx, Rdx, Rbx, Rsi, Rdi}
 use Rattle.sb_forms.specs.declared.slots.Site.{Site}
@@ -40,7 +41,7 @@ use Rattle.sb_original.specs.Slot.{Slotted, with_general, saved, restored, jumpe
 use Rattle.sb_original.proofs.Saves.{save_done_first, staged_done, address_saves}
 use Rattle.sb_original.specs.Original.{Behind, staged, FormLaw}
 use Rattle.sb_original.specs.Work.{IsJumpWork, IsEntered}
-use Rattle.sb_original.proofs.Memory.{memory_place, memory_mod, address_below}
+use Rattle.sb_original.proofs.Memory.{memory_place, memory_mod}
 use Rattle.sb_original.proofs.Pieces.{load_row, save_does, restore_does, jump_through_does}
 use Rattle.sb_original.proofs.Chains.{regs_same, agree_set}
 use Rattle.sb_original.proofs.Addresses.{address_loads}
@@ -119,7 +120,7 @@ jump_law bus Holds insn instruction site start state has work entered =
     (record { valid = work.valid; hidden = hidden; agree = agree; same = refl; goes = goes }) kept in
     let ready = loads.new in
     let address_is : (general ready.regs (number_of helper) + 0) % 2 ^ 64 ≡ operand_address insn old =
-    omega (arith, loads.loaded, address_below insn old) in
+    omega (arith, loads.loaded, address_word insn old) in
     let row = jump_is insn instruction old work in
     let there = target_is helper ready.regs in
     record {

@@ -23,28 +23,28 @@ use Rattle.sb_exec.specs.declared.action.Effect.TheVariants.{Next}
 use Rattle.sb_exec.specs.declared.action.MemoryUse.TheVariants as memory_use
 use Rattle.sb_exec.specs.declared.action.Location.{Location}
 use Rattle.sb_exec.specs.declared.action.Location.TheVariants.{Register}
-use Rattle.sb_alu.specs.declared.operation.Outcome.{Outcome}
+use Rattle.sb_alu.specs.declared.operation.OperationOutcome.{OperationOutcome}
 use Rattle.sb_exec.specs.Size.{modulus, low}
 use Rattle.sb_exec.specs.Arithmetic.{product_overflows, product_outcome, signed_value, fits, is_negative}
 use Rattle.sb_exec.specs.Interface.{Interface}
 use Rattle.sb_insn.specs.Branch.{imm_value}
-use Rattle.sb_exec.specs.Operand.{modrm_of, reg_number, rm_number, operand_size, general, register_value, register_after_write, with_register, operand_value}
+use Rattle.sb_exec.specs.Operand.{rm_number, operand_size, general, register_value, register_after_write, with_register, operand_value}
+use Rattle.sb_insn.specs.RegisterNumbers.{modrm_of, reg_number}
 use Rattle.sb_exec.specs.Address.{rm_location}
-use Rattle.sb_exec.specs.Operated.{operation_outcome}
+use Rattle.sb_exec.specs.Outcome.{operation_outcome}
 use Rattle.sb_exec.specs.WriteBack.{regs_at_next, with_flags, without_store, write_result, destination, first_operand, last_operand, result_or_nothing, compute_result, rm_value}
 use Rattle.sb_exec.specs.Row.{Row}
 use Rattle.sb_exec.specs.Actions.{action_by, action_of}
 use Rattle.sb_exec.specs.Rows.{rm_use, load_by, store_by, load_of, store_of, after_action, effect_of, row_of, row_by}
 use Rattle.sb_forms.specs.declared.helper.Helper.{Helper}
 use Rattle.sb_insn.specs.Rex.{with_r_b}
-use Rattle.sb_insn.specs.RegisterNumbers.{byte_of}
 use Rattle.sb_forms.specs.Registers.{number_of}
 use Rattle.sb_forms.specs.Mains.{move_product}
 use Rattle.sb_original.specs.Words.{Words}
 use Rattle.sb_original.specs.Kept.{AgreeBut, FollowBut, IsShown}
 use Rattle.sb_original.specs.Alike.{hides}
 use Rattle.sb_original.specs.Slot.{Slotted, Does}
-use Rattle.sb_original.proofs.Fields.{modrm_same, with_w}
+use Rattle.sb_original.proofs.Fields.{with_w}
 use Rattle.sb_original.proofs.Registers.{follow_with, value_same}
 use Rattle.sb_original.proofs.Operands.{register_place, with_r_0}
 use Rattle.sb_original.proofs.Pieces.{plain_row, plain_does}
@@ -54,7 +54,7 @@ use Rattle.sb_forms.proofs.QuietPieces.{number_7}
 
 -- ---- a product
 
-abbrev pub product_by : Size → Flags → Bool → ℕ → Outcome
+abbrev pub product_by : Size → Flags → Bool → ℕ → OperationOutcome
 product_by size flags lost product = record {
   value = Some (product % modulus size);
   flags = record flags { cf = lost; of = lost; sf = is_negative size (product % modulus size) };
@@ -79,7 +79,7 @@ product_fields : (c r : ℕ) → c ≤ 7 → r ≤ 7
 product_fields c r cc rr = (omega arith, omega arith, omega arith)
 
 move_fields : (insn : Insn) (helper : Helper)
-    → (modrm_of (move_product insn helper) ≡ 0xC0 + 8 * number_of helper + reg_field (byte_of insn.modrm))
+    → (modrm_of (move_product insn helper) ≡ 0xC0 + 8 * number_of helper + reg_field (modrm_of insn))
     × ((move_product insn helper).rex ≡ with_r_b insn.rex 0 (rex_r insn.rex))
 unfolding move_product
 move_fields insn helper = (refl, refl)
@@ -91,12 +91,12 @@ move_parts : (insn : Insn) (helper : Helper) (regs : Regs)
 move_parts insn helper regs =
     let move = move_product insn helper in
     let known = move_fields insn helper in
-    let fields = product_fields (number_of helper) (reg_field (byte_of insn.modrm)) (number_7 helper) (omega arith) in
+    let fields = product_fields (number_of helper) (reg_field (modrm_of insn)) (number_7 helper) (omega arith) in
     let top = ap (λ (m : ℕ). m / 64) known.0 ∙ fields.0 in
     let reg = ap (λ (m : ℕ). m / 8 % 8) known.0 ∙ fields.1 in
     let rm = ap (λ (m : ℕ). m % 8) known.0 ∙ fields.2 in
     let number : rm_number move ≡ reg_number insn =
-    omega (arith, rm, modrm_same insn.modrm, ap (λ r. rex_b r) known.1 ∙ rex_same insn.rex) in
+    omega (arith, rm, ap (λ r. rex_b r) known.1 ∙ rex_same insn.rex) in
     let helper_is : reg_number move ≡ number_of helper =
     omega (arith, reg, ap (λ r. rex_r r) known.1 ∙ with_r_0 insn.rex (rex_r insn.rex) (r_1 insn.rex)) in (
       register_place move regs top ∙ ap (λ (n : ℕ). Register n) number,
@@ -197,7 +197,7 @@ product_follows helper numbers insn main size product flags old other rip hidden
 
 -- ---- the rows of the original and of main
 
-abbrev pub product_row : Insn → Regs → Location → Size → ℕ → (ℕ → Outcome) → Row
+abbrev pub product_row : Insn → Regs → Location → Size → ℕ → (ℕ → OperationOutcome) → Row
 product_row insn regs place size number out = record {
   load = load_by memory_use.Read size place;
   store = store_by memory_use.Read size place;

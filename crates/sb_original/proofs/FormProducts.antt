@@ -9,15 +9,14 @@ use Rattle.sb_original.proofs.Chains.{before_append, before_rip}
 use Rattle.sb_original.proofs.Pieces.{save_does}
 use Rattle.sb_original.proofs.Helpers.{second_unnamed, first_unnamed, helpers_differ}
 use Rattle.sb_original.proofs.Classes.{number_shown}
-use Rattle.sb_original.proofs.Memory.{memory_place, memory_mod, address_below}
-use Rattle.sb_original.proofs.Fields.{modrm_same, with_b, reg_number_same}
+use Rattle.sb_original.proofs.Memory.{memory_place, memory_mod}
+use Rattle.sb_original.proofs.Fields.{with_b}
 use Rattle.sb_original.proofs.Saves.{save_done_first, save_done_second, staged_done, staged_then, address_saves, constant_saves}
 use Rattle.sb_original.specs.Work.{IsEntered}
 use Rattle.sb_forms.proofs.Leads.{b_1}
 use Rattle.sb_forms.specs.Answers.{IsSmall}
 use Rattle.sb_forms.specs.Table.{spelled_bytes, move_outcome, bytes_of, constant_form, address_and_constant_form}
 use Rattle.sb_forms.specs.Registers as forms
-use Rattle.sb_insn.specs.RegisterNumbers as encoded
 use Rattle.sb_insn.specs.Rex.{with_r_b}
 use Rattle.sb_forms.specs.declared.slots.Site.{Site}
 use Rattle.sb_insn.specs.Fields.{mod_field, rex_b, has_memory}
@@ -39,13 +38,13 @@ use Rattle.sb_exec.specs.declared.action.Location.{Location}
 use Rattle.sb_exec.specs.declared.action.Location.TheVariants.{Register, Memory}
 use Rattle.sb_exec.specs.Interface.{Interface}
 use Rattle.sb_insn.specs.Branch.{imm_value}
-use Rattle.sb_exec.specs.Operand.{reg_number, operand_size, general, next_rip, with_register, modrm_of, rm_number}
+use Rattle.sb_exec.specs.Operand.{operand_size, general, next_rip, with_register, rm_number}
+use Rattle.sb_insn.specs.RegisterNumbers.{reg_number, modrm_of}
 use Rattle.sb_exec.specs.Address.{rm_location, linear, operand_address}
 use Rattle.sb_exec.specs.WriteBack.{regs_at_next, with_flags, without_store, write_result, result_or_nothing, rm_value}
 use Rattle.sb_exec.specs.Actions.{action_for, action_of, action_by}
 use Rattle.sb_exec.specs.Rows.{row_of, row_by, load_by, store_by}
 use Rattle.sb_forms.specs.declared.helper.Helper.{Helper}
-use Rattle.sb_insn.specs.RegisterNumbers.{byte_of}
 use Rattle.sb_forms.specs.Registers.{number_of, is_number, is_named, first_helper, second_helper}
 use Rattle.sb_forms.specs.Pieces.{first_saved, second_saved, restore, jump_insn, save, load_constant, load_address_of_operand}
 use Rattle.sb_forms.specs.Mains.{with_constant, move_product, at_helper, own_register, on_register, behind_main}
@@ -58,8 +57,8 @@ use Rattle.sb_original.proofs.Alike.{reg_below}
 use Rattle.sb_original.proofs.FormAddress.{one_behind, insns_staged, one_save, one_kept}
 use Rattle.sb_original.proofs.FormConstant.{two_behind, two_saves, two_kept, hides_second}
 use Rattle.sb_insn.specs.OpcodeMap.{two_byte}
-use Rattle.sb_exec.specs.declared.action.After.{After}
-use Rattle.sb_alu.specs.declared.operation.Outcome.{Outcome}
+use Rattle.sb_exec.specs.declared.action.RowResult.{RowResult}
+use Rattle.sb_alu.specs.declared.operation.OperationOutcome.{OperationOutcome}
 use Rattle.sb_insn.specs.declared.registers.Flags.{Flags}
 use Rattle.sb_exec.specs.Row.{Row}
 use Rattle.sb_exec.specs.Size.{modulus, low}
@@ -69,6 +68,7 @@ use Rattle.sb_insn.specs.declared.opcode_map.Mnemonic.TheVariants as mnemonic
 use Rattle.sb_insn.specs.declared.opcode_map.OperandForm.TheVariants as form
 use Rattle.sb_alu.specs.declared.operation.Operation.TheVariants as operation
 use Rattle.sb_exec.specs.declared.action.MemoryUse.TheVariants as memory_use
+use Rattle.sb_exec.proofs.RowWords.{address_word}
 
 -- ---- main
 
@@ -102,20 +102,20 @@ product_flags insn old loaded =
     (low (operand_size insn) (imm_value insn.imm))) (product insn old loaded)).flags
 
 -- written to a register
-abbrev product_to : Insn → Regs → ℕ → Insn → Regs → ℕ → After
+abbrev product_to : Insn → Regs → ℕ → Insn → Regs → ℕ → RowResult
 product_to insn old number one regs loaded =
     without_store
     (with_register (operand_size insn) number (product insn old loaded % modulus (operand_size insn))
     (with_flags (product_flags insn old loaded) (regs_at_next one regs)))
 
-written_to : (insn : Insn) (old : Regs) (number : ℕ) (one : Insn) (regs : Regs) (loaded : ℕ) (out : Outcome)
+written_to : (insn : Insn) (old : Regs) (number : ℕ) (one : Insn) (regs : Regs) (loaded : ℕ) (out : OperationOutcome)
     → out ≡ product_outcome (operand_size insn) (rm_value (operand_size insn) insn old loaded)
     (low (operand_size insn) (imm_value insn.imm)) old.flags
     → result_or_nothing (operand_size insn) (Register number) out.value (with_flags out.flags (regs_at_next one regs))
     ≡ product_to insn old number one regs loaded
 unfolding result_or_nothing write_result product_outcome
 written_to insn old number one regs loaded out is =
-    ap (λ (o : Outcome). result_or_nothing (operand_size insn) (Register number) o.value
+    ap (λ (o : OperationOutcome). result_or_nothing (operand_size insn) (Register number) o.value
     (with_flags o.flags (regs_at_next one regs))) is
 
 own_after : (insn : Insn) (old : Regs) (loaded : ℕ)
@@ -151,15 +151,15 @@ product_accesses numbers insn main helper value old other known =
       store = ap (λ (r : Row). r.store) there ∙ ap (λ (p : Location). store_by memory_use.Read size p) known.place
           ∙ sym (ap (λ (r : Row). r.store) own);
       effect = ap (λ (r : Row). r.effect) there ∙ sym (ap (λ (r : Row). r.effect) own);
-      stored = λ loaded. ap (λ (a : After). a.stored) (main_after numbers insn main helper value old other loaded known)
-          ∙ sym (ap (λ (a : After). a.stored) (own_after insn old loaded known.own));
+      stored = λ loaded. ap (λ (a : RowResult). a.stored) (main_after numbers insn main helper value old other loaded known)
+          ∙ sym (ap (λ (a : RowResult). a.stored) (own_after insn old loaded known.own));
     }
 
 product_goes : (numbers : List ℕ) (insn main : Insn) (helper : Helper) (value : ℤ) (old other : Regs) (loaded : ℕ)
     → IsProductMain numbers insn main helper value old other
     → ((row_of main other).after loaded).regs.rip ≡ next_rip main other
 product_goes numbers insn main helper value old other loaded known =
-    ap (λ (a : After). a.regs.rip) (main_after numbers insn main helper value old other loaded known)
+    ap (λ (a : RowResult). a.regs.rip) (main_after numbers insn main helper value old other loaded known)
 
 -- ---- behind main
 
@@ -192,9 +192,9 @@ product_one bus Holds insn main helper value start from next state other words l
       refl,
       one_behind bus Holds helper start from next state moved target has fit follow word goes at a b,
     ) in
-    subst (λ (r : After). Behind bus Holds r.regs (move ∷ restore helper first_saved ∷ jump_insn from next ∷ [])
+    subst (λ (r : RowResult). Behind bus Holds r.regs (move ∷ restore helper first_saved ∷ jump_insn from next ∷ [])
     (record { regs = ((row_of main other).after loaded).regs; words = words })) (sym (own_after insn old loaded known.own))
-    (subst (λ (r : After). Behind bus Holds target (move ∷ restore helper first_saved ∷ jump_insn from next ∷ [])
+    (subst (λ (r : RowResult). Behind bus Holds target (move ∷ restore helper first_saved ∷ jump_insn from next ∷ [])
     (record { regs = r.regs; words = words })) (sym (main_after numbers insn main helper value old other loaded known)) chain)
 
 product_two : {M A N : Type 0} (bus : Interface M A) (Holds : Words → M → N
@@ -230,9 +230,9 @@ product_two bus Holds insn main helper second value start from next state other 
       refl,
       two_behind bus Holds helper second start from next state moved target has fit follow word word_too goes at a b,
     ) in
-    subst (λ (r : After). Behind bus Holds r.regs (move ∷ rest)
+    subst (λ (r : RowResult). Behind bus Holds r.regs (move ∷ rest)
     (record { regs = ((row_of main other).after loaded).regs; words = words })) (sym (own_after insn old loaded known.own))
-    (subst (λ (r : After). Behind bus Holds target (move ∷ rest) (record { regs = r.regs; words = words }))
+    (subst (λ (r : RowResult). Behind bus Holds target (move ∷ rest) (record { regs = r.regs; words = words }))
     (sym (main_after numbers insn main second value old other loaded known)) chain)
 
 -- ---- the forms
@@ -256,8 +256,7 @@ work_action insn instruction value work =
 product_free : (numbers : List ℕ) (insn : Insn) (instruction : Instruction) (value : ℤ) → IsProductWork insn instruction value
     → NamesNone instruction.form insn numbers → hides numbers (reg_number insn) ≡ false
 product_free numbers insn instruction value work none =
-    ap (λ (n : ℕ). hides numbers n) (sym (reg_number_same insn))
-    ∙ number_shown (encoded.reg_number insn) instruction.form insn numbers (ap (λ k. forms.form_number k insn) work.form) none
+    number_shown (reg_number insn) instruction.form insn numbers (ap (λ k. forms.form_number k insn) work.form) none
 
 pub product_slot : {M A N : Type 0} (bus : Interface M A) (Holds : Words → M → N
     → Type 0) (insn : Insn) (instruction : Instruction) (value : ℤ) (helper : Helper) (site : Site) (start : ℕ) (state : Slotted)
@@ -297,11 +296,11 @@ product_slot bus Holds insn instruction value helper site start state has work f
     ap (λ (rest : List Insn). save helper first_saved ∷ rest) (insns_staged saves (load_constant helper value)) in
     let before : Before bus Holds start old stages state ready =
     (first, save_does bus Holds helper FirstSaved state has, refl, kept first agree refl, loads.before) in
-    let low_field = byte_of insn.modrm % 8 in
+    let low_field = modrm_of insn % 8 in
     let known : IsRegister operand low_field 0 = record { mod_rm = refl; within = omega arith; rex = b_1 insn.rex } in
     let three : mod_field (modrm_of insn) ≡ 3 = ap (λ (m : Option ℕ). mod_field (unwrap_or m 0)) modrm.1 ∙ modrm.2 in
     let number : low_field + 8 * rex_b (with_r_b insn.rex 0 (rex_b insn.rex)) ≡ rm_number insn =
-    omega (arith, modrm_same insn.modrm, with_b insn.rex 0 (omega arith)) in
+    omega (arith, with_b insn.rex 0 (omega arith)) in
     let there = register_place insn old three in
     let bit : operand.rex_b ≤ 1 = b_1 insn.rex in
     let mains : IsProductMain numbers insn main helper value old ready.regs = record {
@@ -428,7 +427,7 @@ product_both_slot bus Holds insn instruction value helper second site start stat
     let address_stays : general ready.regs (number_of helper) ≡ operand_address insn old =
     loads.others (number_of helper) (same_at helper second differ) ∙ at.loaded in
     let reduced : general ready.regs (number_of helper) % 2 ^ 64 ≡ operand_address insn old =
-    omega (arith, address_stays, address_below insn old) in
+    omega (arith, address_stays, address_word insn old) in
     let there = memory_place insn old (memory_mod insn.modrm memory) in
     let mains : IsProductMain numbers insn main second value old ready.regs = record {
       own = work_action insn instruction value work;

@@ -10,7 +10,7 @@ use Rattle.sb_insn.specs.Grammar.{IsValid}
 use Rattle.sb_exec.specs.Size.{low}
 use Rattle.sb_exec.specs.Operand.{register_after_write}
 use Rattle.sb_exec.specs.Address.{operand_address, rm_location}
-use Rattle.sb_exec.specs.Operated.{operation_outcome}
+use Rattle.sb_exec.specs.Outcome.{operation_outcome}
 use Rattle.sb_exec.specs.WriteBack.{write_result, destination, first_operand, last_operand, result_or_nothing, compute_result}
 use Rattle.sb_exec.specs.Actions.{action_by, action_of}
 use Rattle.sb_exec.specs.Rows.{rm_use, load_of, store_of, after_action, effect_of, row_of}

@@ -20,12 +20,13 @@ use Rattle.sb_alu.specs.declared.operation.Operation.TheVariants as operation
 use Rattle.sb_exec.specs.declared.action.Effect.TheVariants.{Next}
 use Rattle.sb_exec.specs.declared.action.Load.TheVariants as load
 use Rattle.sb_exec.specs.declared.action.Store.TheVariants as store
-use Rattle.sb_exec.specs.declared.action.After.{After}
+use Rattle.sb_exec.specs.declared.action.RowResult.{RowResult}
 use Rattle.sb_exec.specs.Interface.{Interface}
 use Rattle.sb_exec.specs.Size.{low}
-use Rattle.sb_exec.specs.Operand.{general, register_after_write, next_rip, opcode_number}
+use Rattle.sb_exec.specs.Operand.{general, register_after_write, next_rip}
+use Rattle.sb_insn.specs.RegisterNumbers.{last_opcode_byte, opcode_number}
 use Rattle.sb_exec.specs.Address.{operand_address, rm_location}
-use Rattle.sb_exec.specs.Operated.{operation_outcome}
+use Rattle.sb_exec.specs.Outcome.{operation_outcome}
 use Rattle.sb_exec.specs.WriteBack.{regs_at_next, without_store, write_result, destination, first_operand, last_operand, result_or_nothing, compute_result}
 use Rattle.sb_exec.specs.Row.{Row}
 use Rattle.sb_exec.specs.Actions.{action_by, action_of}
@@ -35,7 +36,6 @@ use Rattle.sb_forms.specs.declared.slots.Site.{Site}
 use Rattle.sb_insn.specs.Fields.{rex_b}
 use Rattle.sb_forms.specs.Registers.{number_of, is_named, first_helper}
 use Rattle.sb_forms.specs.Registers as forms
-use Rattle.sb_insn.specs.RegisterNumbers as encoded
 use Rattle.sb_forms.specs.Pieces.{first_saved, scratch_word, upper_half, save, restore, save_half, load_constant, low_half, high_half, wide_at_address, jump_insn}
 use Rattle.sb_forms.specs.Mains.{load_word}
 use Rattle.sb_forms.specs.Table.{spelled_bytes, bytes_of, wide_constant_form}
@@ -53,7 +53,6 @@ use Rattle.sb_original.proofs.Chains.{regs_same, restored_1, before_append, befo
 use Rattle.sb_original.proofs.Registers.{follow_with}
 use Rattle.sb_original.proofs.Classes.{number_shown}
 use Rattle.sb_original.proofs.Helpers.{first_unnamed}
-use Rattle.sb_original.proofs.Operands.{opcode_is_one}
 use Rattle.sb_original.proofs.Addresses.{constant_loads}
 use Rattle.sb_original.proofs.FormAddress.{one_save, one_behind}
 use Rattle.sb_forms.proofs.CleanForms.{low_fits}
@@ -122,7 +121,7 @@ word_is (suc (suc (suc (suc (suc (suc (suc zero))))))) (suc zero) regs a c = ref
 word_is (suc (suc (suc (suc (suc (suc (suc (suc k)))))))) b regs a c = absurd (omega arith)
 word_is k (suc (suc b)) regs a c = absurd (omega arith)
 
-load_word_is : (insn : Insn) → load_word insn ≡ word_to (encoded.one_byte_opcode insn.op % 8) (rex_b insn.rex)
+load_word_is : (insn : Insn) → load_word insn ≡ word_to (last_opcode_byte insn.op % 8) (rex_b insn.rex)
 unfolding load_word
 load_word_is insn = refl
 
@@ -172,11 +171,8 @@ main_row : (insn : Insn) (instruction : Instruction) (value : ℤ) (regs : Regs)
     (with_general (opcode_number insn) (loaded % 2 ^ 64) (record regs { rip = (regs.rip + 8) % 2 ^ 64 })))
 unfolding word_row
 main_row insn instruction value regs work =
-    let one = opcode_is_one insn instruction work.named work.form in
-    let number : encoded.one_byte_opcode insn.op % 8 + 8 * rex_b insn.rex ≡ opcode_number insn = omega (arith, one) in
     ap (λ (i : Insn). row_of i regs) (load_word_is insn)
-    ∙ word_is (encoded.one_byte_opcode insn.op % 8) (rex_b insn.rex) regs (omega arith) (b_1 insn.rex)
-    ∙ ap (λ (n : ℕ). word_row n regs) number
+    ∙ word_is (last_opcode_byte insn.op % 8) (rex_b insn.rex) regs (omega arith) (b_1 insn.rex)
 
 own_row : (insn : Insn) (instruction : Instruction) (value : ℤ) (regs : Regs) → IsWideWork insn instruction value
     → ((row_of insn regs).load ≡ load.Nothing) × ((row_of insn regs).store ≡ store.Nothing) × ((row_of insn regs).effect ≡ Next)
@@ -276,11 +272,9 @@ wide_law bus Holds insn instruction value site start state has work entered smal
           with_general number (ready.words.third % 2 ^ 64) (record (ready.regs) { rip = (ready.regs.rip + 8) % 2 ^ 64 });
       words = ready.words;
     } in
-    let same : encoded.opcode_number insn ≡ number = omega (arith, opcode_is_one insn instruction work.named work.form) in
     let free = first_unnamed instruction.form insn work.valid in
     let shown : hides numbers number ≡ false =
-    ap (λ (n : ℕ). hides numbers n) (sym same)
-    ∙ number_shown (encoded.opcode_number insn) instruction.form insn numbers
+    number_shown number instruction.form insn numbers
     (ap (λ k. forms.form_number k insn) work.form) (free, tt) in
     let start_follow : FollowBut (hides numbers) old (regs_at_next insn old)
     (record (ready.regs) { rip = (ready.regs.rip + 8) % 2 ^ 64 }) = record {
@@ -329,7 +323,7 @@ wide_law bus Holds insn instruction value site start state has work entered smal
             (λ meaning other holds. has.loaded Third ready.words meaning other holds) refl refl refl refl (omega arith)
             (omega arith);
         goes = ap (λ (n : ℕ). (ready.regs.rip + n) % 2 ^ 64) (sym eight);
-        behind = subst (λ (a : After). Behind bus Holds a.regs (back ∷ jump_back ∷ []) after) (sym own.3)
+        behind = subst (λ (a : RowResult). Behind bus Holds a.regs (back ∷ jump_back ∷ []) after) (sym own.3)
             (one_behind bus Holds helper start from site.next state after target has entered.regs follow first2 goes
             (omega (
               arith,

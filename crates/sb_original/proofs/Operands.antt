@@ -1,33 +1,19 @@
 -- The operands of the mains with a constant.
-use Rattle.std.proofs.Common.{◌≡◌, ℕ, ◌≤◌, ◌+◌, ◌*◌, ◌/◌, ◌%◌, ◌^◌, Bool, true, false, Option, Some, None, refl, sym, ap, ◌∙◌, arith, subst}
-use Rattle.std.specs.Prelude.{◌==◌, not}
-use Rattle.std.proofs.lemmas.Bool.{cond-true, eq-eqb, both_ways}
+use Rattle.std.proofs.Common.{◌≡◌, ℕ, ◌≤◌, ◌+◌, ◌*◌, ◌/◌, ◌%◌, ◌^◌, true, Option, Some, None, refl, sym, ap, ◌∙◌, arith}
+use Rattle.std.specs.Prelude.{◌==◌}
+use Rattle.std.proofs.lemmas.Bool.{cond-true, eq-eqb}
 use Rattle.sb_insn.specs.declared.insn.Insn.{Insn}
-use Rattle.sb_insn.specs.declared.insn.Op.{Op}
-use Rattle.sb_insn.specs.declared.insn.Op.TheVariants.{One, Two, Endbr, Vmfunc}
 use Rattle.sb_insn.specs.declared.registers.Regs.{Regs}
 use Rattle.sb_insn.specs.declared.opcode_map.Mnemonic.{Mnemonic}
-use Rattle.sb_insn.specs.declared.opcode_map.OperandForm.{OperandForm}
-use Rattle.sb_insn.specs.declared.opcode_map.OperandForm.TheVariants as form
-use Rattle.sb_insn.specs.declared.opcode_map.Instruction.{Instruction}
-use Rattle.sb_insn.specs.declared.opcode_map.ModRmOpcode.{ModRmOpcode}
-use Rattle.sb_insn.specs.declared.opcode_map.Cell.{Cell}
-use Rattle.sb_insn.specs.declared.opcode_map.Cell.TheVariants.{Absent, NoModRm, ModRm, Extended}
-use Rattle.sb_insn.specs.OpcodeMap.{two_byte, two_byte_rows, cell_of}
-use Rattle.sb_insn.specs.Groups.{extensions, group_operand}
-use Rattle.sb_insn.specs.Fields.{mod_field, reg_field, rex_r, rex_b}
-use Rattle.sb_insn.specs.Lookup.{named_instruction, instruction_in, instruction_of}
-use Rattle.sb_insn.proofs.Rows.{looked_up, some_holds, every_extension, extended}
+use Rattle.sb_insn.specs.Fields.{mod_field, rex_r, rex_b}
 use Rattle.sb_exec.specs.declared.action.Location.TheVariants.{Register, Memory}
-use Rattle.sb_exec.specs.Operand.{modrm_of, reg_number, rm_number, opcode_number, general}
-use Rattle.sb_exec.specs.Operand as exec
+use Rattle.sb_exec.specs.Operand.{rm_number, general}
+use Rattle.sb_insn.specs.RegisterNumbers.{modrm_of, reg_number, opcode_number}
 use Rattle.sb_exec.specs.Address.{linear, disp_value, operand_address, rm_location}
 use Rattle.sb_forms.specs.declared.helper.Helper.{Helper}
 use Rattle.sb_forms.specs.declared.mains.RmOperand.{RmOperand}
 use Rattle.sb_insn.specs.Rex.{with_r_b}
-use Rattle.sb_insn.specs.RegisterNumbers.{byte_of}
 use Rattle.sb_forms.specs.Registers.{number_of, is_number, is_named}
-use Rattle.sb_insn.specs.RegisterNumbers as encoded
 use Rattle.sb_forms.specs.Mains.{at_helper, with_constant}
 use Rattle.sb_original.proofs.Fields.{with_b_0, helper_not_4, at_mod, at_reg, at_rm}
 use Rattle.sb_original.proofs.Memory.{memory_place, rm_base}
@@ -129,67 +115,3 @@ own_place name insn operand helper low bit number regs is same =
     let rex = ap (λ r. rex_b r) fields.1 in
     let whole : rm_number main ≡ number = omega (arith, low_field, rex, same) in
     register_place main regs top ∙ ap (λ (n : ℕ). Register n) whole
-
--- ---- the opcode's register stands in the one-byte map alone
-
-abbrev is_opcode_form : OperandForm → Bool
-is_opcode_form form.OpcodeImm = true
-is_opcode_form _ = false
-
-abbrev no_opcode : Instruction → Bool
-no_opcode instruction = not (is_opcode_form instruction.form)
-
--- what holds of each instruction of a cell
-abbrev pub all_of : (Instruction → Bool) → Cell → Bool
-all_of holds Absent = true
-all_of holds (NoModRm plain) = holds plain.instruction
-all_of holds (ModRm operand) = holds operand.instruction
-all_of holds (Extended group form imm) = every_extension (λ operand. holds operand.instruction) (extensions group form imm)
-
-some_all : (holds : Instruction → Bool) (operand : Option ModRmOpcode) (instruction : Instruction)
-    → some_holds (λ o. holds o.instruction) operand ≡ true → named_instruction operand ≡ Some instruction
-    → holds instruction ≡ true
-some_all holds None instruction e is = absurd cc
-some_all holds (Some operand) instruction e is =
-    subst (λ (i : Instruction). holds i ≡ true) (unwrapped operand.instruction instruction is) e
-  where
-    unwrapped : (one two : Instruction) → Some one ≡ Some two → one ≡ two
-    unwrapped one two e = cc
-
-some_is : (holds : Instruction → Bool) (one two : Instruction) → holds one ≡ true → Some one ≡ Some two → holds two ≡ true
-some_is holds one two e is = subst (λ (i : Instruction). holds i ≡ true) (unwrapped is) e
-  where
-    unwrapped : Some one ≡ Some two → one ≡ two
-    unwrapped e = cc
-
-pub found_all : (holds : Instruction → Bool) (cell : Cell) (modrm : Option ℕ) (instruction : Instruction)
-    → all_of holds cell ≡ true → instruction_in cell modrm ≡ Some instruction → holds instruction ≡ true
-unfolding group_operand
-found_all holds Absent modrm instruction e is = absurd cc
-found_all holds (NoModRm plain) modrm instruction e is = some_is holds plain.instruction instruction e is
-found_all holds (ModRm operand) modrm instruction e is = some_is holds operand.instruction instruction e is
-found_all holds (Extended group form imm) None instruction e is = absurd cc
-found_all holds (Extended group form imm) (Some modrm) instruction e is =
-    some_all holds (group_operand group form imm (reg_field modrm)) instruction
-    (extended (λ operand. holds operand.instruction) (reg_field modrm) (extensions group form imm) e) is
-
-two_no_opcode : (opcode : ℕ) → all_of no_opcode (two_byte opcode) ≡ true
-unfolding two_byte
-two_no_opcode opcode = looked_up (λ cell. all_of no_opcode cell) opcode two_byte_rows refl refl
-
-opcode_by : (op : Op) (modrm : Option ℕ) (instruction : Instruction) → instruction_in (cell_of op) modrm ≡ Some instruction
-    → is_opcode_form instruction.form ≡ true → encoded.one_byte_opcode op ≡ exec.last_opcode_byte op
-opcode_by (One opcode) modrm instruction is e = refl
-opcode_by (Two opcode) modrm instruction is e =
-    absurd (both_ways (no_opcode instruction) (ap (λ t. not t) e)
-    (found_all no_opcode (two_byte opcode) modrm instruction (two_no_opcode opcode) is))
-opcode_by Endbr modrm instruction is e =
-    absurd (both_ways (no_opcode instruction) (ap (λ t. not t) e) (found_all no_opcode (cell_of Endbr) modrm instruction refl is))
-opcode_by Vmfunc modrm instruction is e =
-    absurd (both_ways (no_opcode instruction) (ap (λ t. not t) e)
-    (found_all no_opcode (cell_of Vmfunc) modrm instruction refl is))
-
-pub opcode_is_one : (insn : Insn) (instruction : Instruction) → instruction_of insn ≡ Some instruction
-    → instruction.form ≡ form.OpcodeImm → encoded.one_byte_opcode insn.op ≡ exec.last_opcode_byte insn.op
-unfolding instruction_of
-opcode_is_one insn instruction is e = opcode_by insn.op insn.modrm instruction is (ap (λ f. is_opcode_form f) e)

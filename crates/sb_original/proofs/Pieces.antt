@@ -14,13 +14,13 @@ use Rattle.sb_alu.specs.declared.size.Size.TheVariants.{Doubleword, Quadword}
 use Rattle.sb_exec.specs.declared.action.Effect.TheVariants.{Next}
 use Rattle.sb_exec.specs.declared.action.Load.TheVariants as load
 use Rattle.sb_exec.specs.declared.action.Store.TheVariants as store
-use Rattle.sb_exec.specs.declared.action.After.{After}
+use Rattle.sb_exec.specs.declared.action.RowResult.{RowResult}
 use Rattle.sb_exec.specs.Size.{low, size_bytes}
 use Rattle.sb_exec.specs.Interface.{Interface}
 use Rattle.sb_exec.specs.Access.{loaded_from, store_answer, byte_for}
 use Rattle.sb_exec.specs.Operand.{general, register_after_write}
 use Rattle.sb_exec.specs.Address.{linear, operand_address, rm_location}
-use Rattle.sb_exec.specs.Operated.{operation_outcome}
+use Rattle.sb_exec.specs.Outcome.{operation_outcome}
 use Rattle.sb_exec.specs.WriteBack.{regs_at_next, without_store, with_store, write_result, destination, first_operand, last_operand, result_or_nothing, compute_result}
 use Rattle.sb_exec.specs.Branch.{at_rip}
 use Rattle.sb_exec.specs.Row.{Row, accesses}
@@ -37,33 +37,33 @@ use Rattle.sb_original.proofs.PieceRows.{save_row, save_is}
 
 -- ---- executions of a row with one access, or none
 
-abbrev pub store_row : ℕ → Size → (ℕ → After) → Row
+abbrev pub store_row : ℕ → Size → (ℕ → RowResult) → Row
 store_row address size after =
     record { load = load.Nothing; store = store.At (linear address) size; after = after; effect = Next }
 
-abbrev pub load_row : ℕ → Size → (ℕ → After) → Row
+abbrev pub load_row : ℕ → Size → (ℕ → RowResult) → Row
 load_row address size after =
     record { load = load.Read (linear address) size; store = store.Nothing; after = after; effect = Next }
 
-abbrev pub plain_row : (ℕ → After) → Row
+abbrev pub plain_row : (ℕ → RowResult) → Row
 plain_row after = record { load = load.Nothing; store = store.Nothing; after = after; effect = Next }
 
 stored_answer : {M A : Type 0} (bus : Interface M A) (address : ℕ) (size : Size) (after : ℕ
-    → After) (regs : Regs) (meaning : M) (account : A)
+    → RowResult) (regs : Regs) (meaning : M) (account : A)
     → store_answer (byte_for (bus.byte meaning) Write) address (size_bytes size) ≡ Ok tt
     → (execution_of bus (store_row address size after) regs meaning account).answer ≡ Ok Next
 unfolding execution_of
 stored_answer bus address size after regs meaning account permitted = rw permitted refl
 
 stored_registers : {M A : Type 0} (bus : Interface M A) (address : ℕ) (size : Size) (after : ℕ
-    → After) (regs : Regs) (meaning : M) (account : A)
+    → RowResult) (regs : Regs) (meaning : M) (account : A)
     → store_answer (byte_for (bus.byte meaning) Write) address (size_bytes size) ≡ Ok tt
     → (execution_of bus (store_row address size after) regs meaning account).registers ≡ (after 0).regs
 unfolding execution_of
 stored_registers bus address size after regs meaning account permitted = rw permitted refl
 
 stored_meaning : {M A : Type 0} (bus : Interface M A) (address : ℕ) (size : Size) (after : ℕ
-    → After) (regs : Regs) (meaning : M) (account : A)
+    → RowResult) (regs : Regs) (meaning : M) (account : A)
     → store_answer (byte_for (bus.byte meaning) Write) address (size_bytes size) ≡ Ok tt
     → (execution_of bus (store_row address size after) regs meaning account).meaning
     ≡ bus.stored meaning address (size_bytes size) (after 0).stored
@@ -71,27 +71,27 @@ unfolding execution_of
 stored_meaning bus address size after regs meaning account permitted = rw permitted refl
 
 loaded_answer : {M A : Type 0} (bus : Interface M A) (address : ℕ) (size : Size) (after : ℕ
-    → After) (regs : Regs) (meaning : M) (account : A) (value : ℕ)
+    → RowResult) (regs : Regs) (meaning : M) (account : A) (value : ℕ)
     → loaded_from (byte_for (bus.byte meaning) Read) address (size_bytes size) ≡ Ok value
     → (execution_of bus (load_row address size after) regs meaning account).answer ≡ Ok Next
 unfolding execution_of
 loaded_answer bus address size after regs meaning account value given = rw given refl
 
 loaded_registers : {M A : Type 0} (bus : Interface M A) (address : ℕ) (size : Size) (after : ℕ
-    → After) (regs : Regs) (meaning : M) (account : A) (value : ℕ)
+    → RowResult) (regs : Regs) (meaning : M) (account : A) (value : ℕ)
     → loaded_from (byte_for (bus.byte meaning) Read) address (size_bytes size) ≡ Ok value
     → (execution_of bus (load_row address size after) regs meaning account).registers ≡ (after value).regs
 unfolding execution_of
 loaded_registers bus address size after regs meaning account value given = rw given refl
 
 loaded_meaning : {M A : Type 0} (bus : Interface M A) (address : ℕ) (size : Size) (after : ℕ
-    → After) (regs : Regs) (meaning : M) (account : A) (value : ℕ)
+    → RowResult) (regs : Regs) (meaning : M) (account : A) (value : ℕ)
     → loaded_from (byte_for (bus.byte meaning) Read) address (size_bytes size) ≡ Ok value
     → (execution_of bus (load_row address size after) regs meaning account).meaning ≡ meaning
 unfolding execution_of
 loaded_meaning bus address size after regs meaning account value given = rw given refl
 
-plain_execution : {M A : Type 0} (bus : Interface M A) (after : ℕ → After) (regs : Regs) (meaning : M) (account : A)
+plain_execution : {M A : Type 0} (bus : Interface M A) (after : ℕ → RowResult) (regs : Regs) (meaning : M) (account : A)
     → execution_of bus (plain_row after) regs meaning account ≡ record {
       answer = Ok Next;
       registers = (after 0).regs;
@@ -110,7 +110,7 @@ slotted_same one two regs words =
 
 -- what is stored, and what follows
 pub store_does : {M A N : Type 0} (bus : Interface M A) (Holds : Words → M → N
-    → Type 0) (insn : Insn) (old new : Slotted) (address : ℕ) (size : Size) (after : ℕ → After)
+    → Type 0) (insn : Insn) (old new : Slotted) (address : ℕ) (size : Size) (after : ℕ → RowResult)
     → row_of insn old.regs ≡ store_row address size after
     → ((meaning : M) (other : N) → Holds old.words meaning other
     → store_answer (byte_for (bus.byte meaning) Write) address (size_bytes size) ≡ Ok tt)
@@ -137,7 +137,7 @@ store_does bus Holds insn old new address size after row permitted kept regs wor
 }
 
 pub load_does : {M A N : Type 0} (bus : Interface M A) (Holds : Words → M → N
-    → Type 0) (insn : Insn) (old new : Slotted) (address : ℕ) (size : Size) (after : ℕ → After) (value : ℕ)
+    → Type 0) (insn : Insn) (old new : Slotted) (address : ℕ) (size : Size) (after : ℕ → RowResult) (value : ℕ)
     → row_of insn old.regs ≡ load_row address size after
     → ((meaning : M) (other : N) → Holds old.words meaning other
     → loaded_from (byte_for (bus.byte meaning) Read) address (size_bytes size) ≡ Ok value)
@@ -163,7 +163,7 @@ load_does bus Holds insn old new address size after value row given is kept regs
 }
 
 pub plain_does : {M A N : Type 0} (bus : Interface M A) (Holds : Words → M → N
-    → Type 0) (insn : Insn) (old new : Slotted) (after : ℕ → After)
+    → Type 0) (insn : Insn) (old new : Slotted) (after : ℕ → RowResult)
     → row_of insn old.regs ≡ plain_row after
     → new.words ≡ old.words → (after 0).regs ≡ new.regs → new.regs.flags ≡ old.regs.flags → Does bus Holds insn old new
 plain_does bus Holds insn old new after row kept regs flags = record {

@@ -10,7 +10,7 @@ use Rattle.sb_exec.specs.Interface.{Interface}
 use Rattle.sb_exec.specs.Access.{store_answer, byte_for, byte_for_write}
 use Rattle.sb_exec.specs.Row.{Row}
 use Rattle.sb_exec.specs.Execution.{Execution}
-use Rattle.sb_exec.specs.Simulation.{told, IsData, AgreeFrom}
+use Rattle.sb_exec.specs.Simulation.{named_answer, IsData, AgreeFrom}
 use Rattle.sb_original.specs.Words.{Words}
 
 -- Where the rewritten memory holds some words beside the original memory, both give the same bytes outside the scratch
@@ -31,7 +31,7 @@ pub record AreBeside {M A N B : Type 0} (left : Interface M A) (right : Interfac
       → store_answer (byte_for (right.byte second) Write) address size ≡ Ok tt
       → Holds words (left.stored first address size value) (right.stored second address size value)
   pub stops : (words : Words) (first : M) (second : N) (address : ℕ) (how : Access) → Holds words first second → IsData how
-      → done (right.byte second address how) ≡ told naming (done (left.byte first address how))
+      → done (right.byte second address how) ≡ named_answer naming (done (left.byte first address how))
 
 -- the answer is a stop
 abbrev pub IsStopped : {Value : Type 0} → Result Value BusStop → Type 0
@@ -48,6 +48,6 @@ EndAlike row other regs other_regs answer new other_new =
 pub record MainStep {M A N B : Type 0} (Holds : Words → M → N → Type 0) (naming : BusStop
     → BusStop) (words : Words) (row other : Row) (regs other_regs : Regs)
     (original : Execution N B) (rewritten : Execution M A) : Type 0 where
-  pub answer : original.answer ≡ told naming rewritten.answer
+  pub answer : original.answer ≡ named_answer naming rewritten.answer
   pub holds : Holds words rewritten.meaning original.meaning
   pub ends : EndAlike row other regs other_regs rewritten.answer original.registers rewritten.registers

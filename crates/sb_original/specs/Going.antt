@@ -102,5 +102,7 @@ Goes bus Holds insn start state Unmovable = ⊥
 -- ---- the premise of the law of all of them
 
 abbrev pub IsMovable : Replacement → Type 0
+IsMovable Keep = Unit {0}
+IsMovable (InPlace mains) = Unit {0}
+IsMovable (Moved pre main post) = Unit {0}
 IsMovable Unmovable = ⊥
-IsMovable _ = Unit {0}

@@ -14,8 +14,8 @@ use Rattle.sb_exec.specs.Rows.{row_of}
 use Rattle.sb_forms.specs.declared.helper.Helper.{Helper}
 use Rattle.sb_insn.specs.RegisterNumbers.{modrm_of}
 use Rattle.sb_forms.specs.Registers.{number_of}
-use Rattle.sb_forms.specs.Table.{Replacement, Moved, InPlace, is_one_byte, is_modrm}
-use Rattle.sb_original.specs.Words.{ScratchWord, FirstSaved, SecondSaved, Words, word_of}
+use Rattle.sb_forms.specs.Table.{Replacement, Keep, Moved, InPlace, Unmovable, is_one_byte, is_modrm}
+use Rattle.sb_original.specs.Words.{ScratchWord, FirstSaved, SecondSaved, Words, place_of, word_of}
 use Rattle.sb_original.specs.Kept.{AgreeBut}
 use Rattle.sb_original.specs.Alike.{hides}
 use Rattle.sb_original.specs.Slot.{Slotted, Does}
@@ -39,10 +39,12 @@ original saves start state = record (state.regs) { general = unsaved saves state
 -- what is saved at an address
 abbrev pub save_at : Disp → ℕ → List Save
 save_at (disp.D32 (pos address)) number =
-    if address == 0x70004000 then record { number = number; which = FirstSaved } ∷ []
-    else if address == 0x70004008 then record { number = number; which = SecondSaved } ∷ []
+    if address == place_of FirstSaved then record { number = number; which = FirstSaved } ∷ []
+    else if address == place_of SecondSaved then record { number = number; which = SecondSaved } ∷ []
     else []
-save_at _ number = []
+save_at (disp.D32 distance) number = []
+save_at (disp.D8 distance) number = []
+save_at disp.None number = []
 
 -- what an instruction saves: it is MOV of a register to one of the first two words
 abbrev pub saved_by : Insn → List Save
@@ -169,4 +171,6 @@ abbrev pub FormLaw : {M A N : Type 0} → Interface M A → (Words → M → N �
 FormLaw bus Holds insn start state (Moved pre main post) = SlotLaw bus Holds insn start pre main post state
 FormLaw bus Holds insn start state (InPlace (main ∷ [])) =
     InPlaceLaw (row_of insn (record (state.regs) { rip = start })) main (record (state.regs) { rip = start })
-FormLaw bus Holds insn start state _ = Unit {0}
+FormLaw bus Holds insn start state (InPlace mains) = Unit {0}
+FormLaw bus Holds insn start state Keep = Unit {0}
+FormLaw bus Holds insn start state Unmovable = Unit {0}

@@ -2,10 +2,12 @@
 use Rattle.std.specs.Prelude.{◌≡◌, ℕ, ◌+◌, ◌%◌, ◌^◌, ◌≤◌, ◌==◌, if◌then◌else◌, List, [], ◌∷◌, Ok, ℤ, slice_set}
 use Rattle.std.specs.Int.{w64, cast_unsigned}
 use Rattle.std.specs.List.{AllByRecursion}
+use Rattle.sb_abi.specs.declared.trampoline.TheConstants.{SCRATCH_ADDRESS}
+use Rattle.sb_memory.specs.declared.page.TheConstants.{PAGE_SIZE}
 use Rattle.sb_insn.specs.declared.insn.Insn.{Insn}
 use Rattle.sb_insn.specs.declared.registers.Regs.{Regs}
 use Rattle.sb_alu.specs.declared.size.Size.{Size}
-use Rattle.sb_alu.specs.declared.size.Size.TheVariants.{Doubleword}
+use Rattle.sb_alu.specs.declared.size.Size.TheVariants.{Byte, Doubleword, Quadword}
 use Rattle.sb_exec.specs.declared.action.Effect.TheVariants.{Next}
 use Rattle.sb_exec.specs.declared.action.Load.{Load}
 use Rattle.sb_exec.specs.declared.action.Load.TheVariants as load
@@ -20,7 +22,7 @@ use Rattle.sb_exec.specs.Execution.{execution_of}
 use Rattle.sb_forms.specs.declared.helper.Helper.{Helper}
 use Rattle.sb_forms.specs.Registers.{number_of}
 use Rattle.sb_forms.specs.Pieces.{first_saved, second_saved, scratch_word, upper_half, save, restore, save_half, load_number, add_number}
-use Rattle.sb_original.specs.Words.{ScratchWord, FirstSaved, SecondSaved, Third, Words, word_of, with_word, with_lower, with_upper}
+use Rattle.sb_original.specs.Words.{ScratchWord, FirstSaved, SecondSaved, Third, Words, place_of, upper_place, word_of, with_word, with_lower, with_upper}
 
 -- registers, and what the scratch page holds
 pub record Slotted : Type 0 where
@@ -39,7 +41,10 @@ set_and_step insn number value state =
 -- ---- an instruction over the registers and the words alone, which change as its row says
 
 abbrev pub word_at : ℕ → Words → ℕ
-word_at address words = if address == 0x70004000 then words.first else if address == 0x70004008 then words.second else words.third
+word_at address words =
+    if address == place_of FirstSaved then words.first
+    else if address == place_of SecondSaved then words.second
+    else words.third
 
 abbrev pub loaded_word : Load → Words → ℕ
 loaded_word load.Nothing words = 0
@@ -49,13 +54,14 @@ loaded_word (load.ReadForWrite address size) words = word_at address.0 words
 -- the third word is stored whole or by halves
 abbrev pub third_stored : Size → ℕ → Words → Words
 third_stored Doubleword value words = with_lower value words
-third_stored _ value words = with_word Third value words
+third_stored Quadword value words = with_word Third value words
+third_stored Byte value words = with_word Third value words
 
 abbrev pub word_stored : ℕ → Size → ℕ → Words → Words
 word_stored address size value words =
-    if address == 0x70004000 then with_word FirstSaved value words
-    else if address == 0x70004008 then with_word SecondSaved value words
-    else if address == 0x70004014 then with_upper value words
+    if address == place_of FirstSaved then with_word FirstSaved value words
+    else if address == place_of SecondSaved then with_word SecondSaved value words
+    else if address == upper_place then with_upper value words
     else third_stored size value words
 
 abbrev pub stored_words : Store → ℕ → Words → Words
@@ -81,9 +87,9 @@ worked_through (insn ∷ insns) state = worked_through insns (worked insn state)
 
 -- the access is to the scratch page alone
 abbrev pub IsScratch : MemoryAccess → Type 0
-IsScratch (Loads address size) = (0x70004000 ≤ address) × (address + size ≤ 0x70005000)
-IsScratch (LoadsForWrite address size) = (0x70004000 ≤ address) × (address + size ≤ 0x70005000)
-IsScratch (Stores address size value) = (0x70004000 ≤ address) × (address + size ≤ 0x70005000)
+IsScratch (Loads address size) = (SCRATCH_ADDRESS ≤ address) × (address + size ≤ SCRATCH_ADDRESS + PAGE_SIZE)
+IsScratch (LoadsForWrite address size) = (SCRATCH_ADDRESS ≤ address) × (address + size ≤ SCRATCH_ADDRESS + PAGE_SIZE)
+IsScratch (Stores address size value) = (SCRATCH_ADDRESS ≤ address) × (address + size ≤ SCRATCH_ADDRESS + PAGE_SIZE)
 
 -- The law of a piece: it goes on, changes registers and scratch words so, and accesses nothing but the scratch page.
 pub record Does {M A N : Type 0} (bus : Interface M A) (Holds : Words → M → N

@@ -1,7 +1,7 @@
 //! What an entry of a page table says (SDM volume 3, section 4.5).
 
 ghost use Rattle.std.specs.Prelude.{◌≡◌, ◌<◌, ◌^◌, IfOk};
-ghost use Rattle.sb_walks.specs.Guest.{guest_entry_answer, permits};
+ghost use Rattle.sb_walks.specs.Guest.{guest_entry_answer, guest_permits};
 
 use sb_memory::Access;
 use sb_walks::{PS, WalkStop, frame_number, has_bit};
@@ -16,8 +16,8 @@ const USER: u32 = 2;
 const EXECUTE_DISABLE: u32 = 63;
 
 /// Whether an entry permits an access in user mode.
-fn permits(access: Access, entry: u64) -> bool
-    ensures { result ≡ permits access entry }
+fn guest_permits(access: Access, entry: u64) -> bool
+    ensures { result ≡ guest_permits access entry }
 {
     match access {
         Access::Read => has_bit(entry, USER),
@@ -38,7 +38,7 @@ pub fn judge(access: Access, level: u8, entry: u64) -> Result<u64, WalkStop>
     if (level == 3 || level == 2) && has_bit(entry, PS) {
         return Err(WalkStop::Large { level });
     }
-    if !permits(access, entry) {
+    if !guest_permits(access, entry) {
         return Err(WalkStop::Denied { level });
     }
     Ok(frame_number(entry))

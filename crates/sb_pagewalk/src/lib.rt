@@ -13,14 +13,14 @@
 
 mod direct;
 mod entry;
-mod law;
+mod laws;
 mod step;
 mod table_set;
 mod tables;
 mod windows;
 
 pub use direct::Direct;
-pub use law::{sets_keep_apart, walks_go_through_sets};
+pub use laws::{sets_keep_apart, walks_go_through_sets};
 pub use sb_walks::{TableStop, WalkStop};
 pub use step::walk;
 pub use table_set::TableSet;

@@ -24,7 +24,8 @@ fn step<T: Tables>(
     ensures answer { result ≡ walk_step (T.entries (T.meaning tables.old)) linear access level frame }
     ensures range { IfOk result (λ next. next < 2 ^ 40) }
     ensures same { T.meaning tables.new ≡ T.meaning tables.old }
-    ensures account { T.account tables.new ≡ T.rule (T.meaning tables.old) (entry_place frame level linear) (T.account tables.old) }
+    ensures account { T.account tables.new
+        ≡ T.rule (T.meaning tables.old) (entry_place frame level linear) (T.account tables.old) }
     ensures kept { T.kept tables.new ≡ T.kept tables.old }
 {
     match tables.entry(GuestPhys(entry_place(frame, level, linear))) {
@@ -34,6 +35,8 @@ fn step<T: Tables>(
 }
 
 /// The guest-physical address of a linear one for a user-mode access, from the table to which CR3 leads.
+///
+/// # Errors
 ///
 /// `NonCanonical` comes exactly where bits 63 to 47 are not all the same. Then, at each level from 4 to 1, the first that
 /// applies of: `Table`, the entry cannot be read; `NotPresent`; `Large`, at level 3 or 2; `Denied`.
@@ -46,7 +49,9 @@ pub fn walk<T: Tables>(
 ) -> Result<GuestPhys, WalkStop>
     ensures answer { result ≡ guest_walk (T.entries (T.meaning tables.old)) cr3 linear.0 access }
     ensures same { T.meaning tables.new ≡ T.meaning tables.old }
-    ensures account { T.account tables.new ≡ after_entries (T.rule (T.meaning tables.old)) (walk_reads (T.entries (T.meaning tables.old)) cr3 linear.0 access) (T.account tables.old) }
+    ensures account { T.account tables.new
+        ≡ after_entries (T.rule (T.meaning tables.old)) (walk_reads (T.entries (T.meaning tables.old)) cr3 linear.0 access)
+        (T.account tables.old) }
     ensures kept { T.kept tables.new ≡ T.kept tables.old }
 {
     if !linear.is_canonical() {

@@ -121,9 +121,12 @@ impl TableSet {
         requires tables { HasTables self.now memory.old }
         ensures entry { memory.new ≡ with_bytes memory.old (put_word memory.old.bytes (page_place self.now at.0) entry) }
         ensures tables { HasTables self.now memory.new }
-        ensures page { (linear : ℕ) (access : Access) → linear / PAGE_SIZE ≡ at.0 / PAGE_SIZE → walked_in memory.new self.now linear access ≡ page_walked entry linear access }
-        ensures others { (linear : ℕ) (access : Access) → linear / PAGE_SIZE ≢ at.0 / PAGE_SIZE → walked_in memory.new self.now linear access ≡ walked_in memory.old self.now linear access }
-        ensures maps { (entries : ℕ → ℕ) → Maps memory.old self.now entries → Maps memory.new self.now (with_entry entries (at.0 / PAGE_SIZE) entry) }
+        ensures page { (linear : ℕ) (access : Access) → linear / PAGE_SIZE ≡ at.0 / PAGE_SIZE
+            → walked_in memory.new self.now linear access ≡ page_walked entry linear access }
+        ensures others { (linear : ℕ) (access : Access) → linear / PAGE_SIZE ≢ at.0 / PAGE_SIZE
+            → walked_in memory.new self.now linear access ≡ walked_in memory.old self.now linear access }
+        ensures maps { (entries : ℕ → ℕ) → Maps memory.old self.now entries
+            → Maps memory.new self.now (with_entry entries (at.0 / PAGE_SIZE) entry) }
     {
         memory.set_word(self.page_place(at), entry);
     }

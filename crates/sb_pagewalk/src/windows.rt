@@ -6,7 +6,8 @@ ghost use Rattle.sb_pagewalk.specs.Windows.{page_table_of};
 ghost use Rattle.sb_pagewalk.specs.Building.{parent_of, slot_of};
 
 use sb_abi::{
-    BUFFERS_PAGE, DATA_PAGE, HEAP_PAGE, SERVER_STACKS_PAGE, STACKS_PAGE, TEXT_PAGE, WINDOW_PAGES,
+    BUFFERS_PAGE, DATA_PAGE, HEAP_PAGE, SERVER_STACKS_PAGE, STACKS_PAGE, TEXT_PAGE,
+    TRAMPOLINE_PAGE, WINDOW_PAGES,
 };
 
 /// The regions of the windows, but for the first, of the rewrite area, and the last, of the trampoline.
@@ -21,6 +22,9 @@ const BUFFERS: u64 = BUFFERS_PAGE / WINDOW_PAGES;
 const STACKS: u64 = STACKS_PAGE / WINDOW_PAGES;
 
 const SERVER_STACKS: u64 = SERVER_STACKS_PAGE / WINDOW_PAGES;
+
+/// The index of the last region in the directory of the second GiB.
+const TRAMPOLINE: u64 = TRAMPOLINE_PAGE / WINDOW_PAGES % 512;
 
 /// The number of the page table of a 2 MiB region, which is a window.
 #[tactic(auto, using(crate::proofs::Regions::page_table_small), unfolding(crate::specs::Windows::page_table_of))]
@@ -63,6 +67,6 @@ pub fn entered_at(table: usize) -> (usize, u64)
         8 => (2, BUFFERS),
         9 => (2, STACKS),
         10 => (2, SERVER_STACKS),
-        _ => (3, 384),
+        _ => (3, TRAMPOLINE),
     }
 }

@@ -11,7 +11,7 @@ use Rattle.sb_exec.specs.Fetching.{FetchesOn}
 use Rattle.sb_bus.proofs.Stops.{ByteStops}
 use Rattle.sb_exec.proofs.Stops.{execution_stops, fetch_stops}
 use Rattle.sb_bus.specs.declared.stop.BusStop.{BusStop}
-use Rattle.sb_state.specs.declared.page.Seen.{Seen}
+use Rattle.sb_state.specs.declared.page.SeenPage.{SeenPage}
 use Rattle.sb_state.specs.PageName.{permits}
 use Rattle.sb_state.specs.State.{State}
 use Rattle.sb_state.specs.Windows.{page_for}
@@ -23,11 +23,11 @@ by_test : (test : Bool) (byte address : ℕ) (kind : FaultKind)
 by_test true byte address kind = tt
 by_test false byte address kind = tt
 
-seen_by : (state : State) (seen : Option Seen) (address : ℕ) (how : Access) → IfErr (byte_seen state seen address how) IsFault
+seen_by : (state : State) (seen : Option SeenPage) (address : ℕ) (how : Access) → IfErr (byte_seen state seen address how) IsFault
 seen_by state None address how = tt
 seen_by state (Some page) address how = by_test (permits page.mode how) _ address _
 
-canonical_by : (test : Bool) (state : State) (seen : Option Seen) (address : ℕ) (how : Access) (kind : FaultKind)
+canonical_by : (test : Bool) (state : State) (seen : Option SeenPage) (address : ℕ) (how : Access) (kind : FaultKind)
     → IfErr (if test then byte_seen state seen address how else Err (fault_at kind address)) IsFault
 canonical_by true state seen address how kind = seen_by state seen address how
 canonical_by false state seen address how kind = tt

@@ -12,13 +12,13 @@ use Rattle.sb_state.specs.declared.page.PageName.{PageName}
 use Rattle.sb_state.specs.declared.page.Page.{Page}
 use Rattle.sb_state.specs.State.{State, find_page}
 use Rattle.sb_state.specs.PlainMemory.{plain}
-use Rattle.sb_state.specs.Reach.{reached}
+use Rattle.sb_state.specs.NameForAccess.{name_for_access}
 use Rattle.sb_state.proofs.InPage.{byte_in_page}
 
 -- the rest of the page stands there
 page_stands : (thread view : ℕ) (state : State) (address : ℕ) (name : PageName) (page : Page) → address < 2 ^ 64
     → length page.bytes ≡ 4096
-    → reached thread view state address Fetch ≡ Ok name → find_page state.pages name ≡ Some page
+    → name_for_access thread view state address Fetch ≡ Ok name → find_page state.pages name ≡ Some page
     → Stands (fetch_of (plain thread view) state) address (drop (address % 4096) page.bytes)
 page_stands thread view state address name page fits whole is found index below =
     let inside : address % 4096 + index < 4096 = omega (arith, below, whole, length-drop (address % 4096) page.bytes) in
@@ -32,7 +32,8 @@ no_account account = refl
 -- the instruction that begins the rest of the page
 pub fetched_in_page : (thread view : ℕ) (state : State) (address : ℕ) (name : PageName) (page : Page) (insn : Insn)
     → address < 2 ^ 64
-    → length page.bytes ≡ 4096 → reached thread view state address Fetch ≡ Ok name → find_page state.pages name ≡ Some page
+    → length page.bytes ≡ 4096 → name_for_access thread view state address Fetch ≡ Ok name
+    → find_page state.pages name ≡ Some page
     → BeginsWith (drop (address % 4096) page.bytes) insn → FetchesOn (plain thread view) state address tt tt (Ok insn)
 fetched_in_page thread view state address name page insn fits whole is found begins = record {
   asked = length (spelling insn);
@@ -43,7 +44,8 @@ fetched_in_page thread view state address name page insn fits whole is found beg
 
 pub found_in_page : (thread view : ℕ) (state : State) (address : ℕ) (name : PageName) (page : Page) (found : Option Insn)
     → address < 2 ^ 64
-    → length page.bytes ≡ 4096 → reached thread view state address Fetch ≡ Ok name → find_page state.pages name ≡ Some page
+    → length page.bytes ≡ 4096 → name_for_access thread view state address Fetch ≡ Ok name
+    → find_page state.pages name ≡ Some page
     → IfSome found (λ insn. BeginsWith (drop (address % 4096) page.bytes) insn)
     → IfSome found (λ insn. FetchesOn (plain thread view) state address tt tt (Ok insn))
 found_in_page thread view state address name page None fits whole is there begins = tt

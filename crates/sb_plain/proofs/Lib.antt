@@ -2,7 +2,7 @@ pub mod ByThread
 pub mod Faults
 pub mod Starting
 pub mod InPage
-pub mod Declined
+pub mod RefusedCall
 pub mod Bits
 pub mod Lawful
 pub mod SoundStart

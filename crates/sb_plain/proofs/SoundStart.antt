@@ -1,5 +1,5 @@
 -- What a loaded bundle starts from is sound.
-use Rattle.std.proofs.Common.{◌≡◌, ℕ, ◌+◌, ◌-◌, ◌<◌, ◌≤◌, ◌^◌, List, [], ◌∷◌, Ok, length, map, refl, ap, sym, ◌∙◌, subst, arith}
+use Rattle.std.proofs.Common.{◌≡◌, ℕ, ◌+◌, ◌-◌, ◌≤◌, ◌^◌, List, [], ◌∷◌, Ok, length, map, refl, ap, sym, ◌∙◌, subst, arith}
 use Rattle.std.proofs.lemmas.List.{length-map}
 use Rattle.std.proofs.Math.Logic.{∥∥₁_elim}
 use Rattle.std.proofs.Math.Bridge.{le_prop}
@@ -8,7 +8,7 @@ use Rattle.sb_bundle.specs.declared.bundle.CoreStart.{CoreStart}
 use Rattle.sb_bundle.specs.declared.bundle.Image.{Image}
 use Rattle.sb_bundle.specs.Limits.{IsImage, IsCoreStart, AllBelow}
 use Rattle.sb_rewrite.specs.Listing.{text_address}
-use Rattle.sb_rewrite.specs.Output.{Output, IsBetween}
+use Rattle.sb_rewrite.specs.RewrittenText.{RewrittenText, IsBetween}
 use Rattle.sb_rewrite.specs.Rewriting.{Rewrites}
 use Rattle.sb_rewrite.proofs.Length.{keeps_length}
 use Rattle.sb_rewrite.proofs.Within.{starts_in_text}
@@ -17,6 +17,7 @@ use Rattle.sb_trace.specs.Laws.{IsImageSound, IsEntrySound}
 use Rattle.sb_load.specs.Loading.{Load, AreRewritten, IsLoadable}
 use Rattle.sb_load.specs.FirstState.{image_of, images_of, images_loaded, entry_of}
 use Rattle.sb_load.proofs.Sizes.{small_area}
+use Rattle.sb_load.proofs.Known.{below_prop}
 use Rattle.sb_plain.specs.Start.{HasSoundStart, LoadsHaveSoundStarts}
 
 -- ---- images
@@ -29,7 +30,8 @@ below_end least end bound (number ∷ numbers) within between =
     (omega (arith, between.0.1, within), below_end least end bound numbers within between.1)
 
 -- what the text of an image becomes is sound, with the initial data and the heap of the image
-image_sound : (image : Image) (made : Output) → IsImage image → Rewrites image.text (Ok made) → IsImageSound (image_of image made)
+image_sound : (image : Image) (made : RewrittenText) → IsImage image → Rewrites image.text (Ok made)
+    → IsImageSound (image_of image made)
 image_sound image made good (of_text, placed, fits, is, free) =
     let are : Rewrites image.text (Ok made) = (of_text, placed, fits, is, free) in
     let size : length made.text ≡ length image.text = keeps_length image.text made are in
@@ -45,14 +47,14 @@ image_sound image made good (of_text, placed, fits, is, free) =
       heap = good.heap_pages.1;
     }
 
-all_sound : (images : List Image) (rewritten : List Output) → AllByRecursion IsImage images → AreRewritten images rewritten
+all_sound : (images : List Image) (rewritten : List RewrittenText) → AllByRecursion IsImage images → AreRewritten images rewritten
     → AllByRecursion IsImageSound (images_of images rewritten)
 all_sound [] rewritten good are = tt
 all_sound (image ∷ images) (made ∷ others) good are =
     (image_sound image made good.0 are.0, all_sound images others good.1 are.1)
 all_sound (image ∷ images) [] good are = absurd are
 
-image_count : (images : List Image) (rewritten : List Output) → AreRewritten images rewritten
+image_count : (images : List Image) (rewritten : List RewrittenText) → AreRewritten images rewritten
     → length (images_of images rewritten) ≡ length images
 image_count [] rewritten are = refl
 image_count (image ∷ images) (made ∷ others) are = omega (arith, image_count images others are.1)
@@ -82,9 +84,6 @@ sound_start load loadable =
     }
 
 -- ---- of what only its type says to be loadable
-
-below_prop : (bound : ℕ) (numbers : List ℕ) → IsProp (AllBelow bound numbers)
-below_prop bound numbers = AllByRecursion-prop (λ n. n < bound) (λ n. le_prop) numbers
 
 image_prop : (image : ProcessImage) → IsProp (IsImageSound image)
 image_prop image = hlevel (below_prop, le_prop)

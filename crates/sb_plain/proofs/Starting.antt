@@ -10,7 +10,7 @@ use Rattle.sb_state.specs.Start.{ProcessImage, pages_from, process_pages, images
 use Rattle.std.specs.Prelude.{Option, None}
 use Rattle.std.proofs.lemmas.Option.{unwrap_or-slice_get}
 use Rattle.sb_bundle.specs.declared.bundle.Image.{Image}
-use Rattle.sb_rewrite.specs.Output.{Output}
+use Rattle.sb_rewrite.specs.RewrittenText.{RewrittenText}
 use Rattle.sb_load.specs.Loading.{Load, IsLoadable, nothing, rewritten_of}
 use Rattle.sb_load.proofs.Known.{text_count}
 use Rattle.sb_load.specs.Need.{need_of, have_of}
@@ -37,13 +37,13 @@ abbrev pub images_from : Load → ℕ → List ProcessImage
 images_from load place = images_of (drop place load.bundle.images) (drop place load.rewritten)
 
 -- what is read at a place of what was loaded: the image, and what its text becomes
-pub record IsReadAt (load : Load) (place : ℕ) (image : Image) (becomes : Output) : Type 0 where
+pub record IsReadAt (load : Load) (place : ℕ) (image : Image) (becomes : RewrittenText) : Type 0 where
   pub loadable : ∥ IsLoadable load ∥₁
   pub below : place < length load.bundle.images
   pub of_bundle : image ≡ get_or load.bundle.images place image
   pub of_text : becomes ≡ rewritten_of load.rewritten place
 
-images_more : (load : Load) (place : ℕ) (image : Image) (becomes : Output) → IsReadAt load place image becomes
+images_more : (load : Load) (place : ℕ) (image : Image) (becomes : RewrittenText) → IsReadAt load place image becomes
     → images_from load place ≡ image_of image becomes ∷ images_from load (place + 1)
 images_more load place image becomes read =
     let listed : place < length load.rewritten = omega (arith, read.below, text_count load read.loadable) in
@@ -56,7 +56,7 @@ images_more load place image becomes read =
     ) refl
 
 -- the pages of one more image
-pub image_pushed : (load : Load) (place : ℕ) (image : Image) (becomes : Output) (so_far grown whole : List Page)
+pub image_pushed : (load : Load) (place : ℕ) (image : Image) (becomes : RewrittenText) (so_far grown whole : List Page)
     → IsReadAt load place image becomes
     → grown ≡ so_far ++ process_pages place (image_of image becomes)
     → so_far ++ images_pages place (images_from load place) ≡ whole
@@ -68,7 +68,7 @@ image_pushed load place image becomes so_far grown whole read more all =
     ∙ all
 
 -- and its process
-pub process_pushed : (load : Load) (place : ℕ) (image : Image) (becomes : Output) (so_far grown whole : List Process)
+pub process_pushed : (load : Load) (place : ℕ) (image : Image) (becomes : RewrittenText) (so_far grown whole : List Process)
     (one : Process)
     → IsReadAt load place image becomes
     → one ≡ start_process (image_of image becomes) → grown ≡ so_far ++ one ∷ []

@@ -1,3 +1,3 @@
 pub mod Start
 pub mod Faults
-pub mod Declined
+pub mod RefusedCall

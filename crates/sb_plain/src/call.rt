@@ -8,19 +8,19 @@ ghost use Rattle.sb_abi.specs.Numbers.{status_number};
 ghost use Rattle.sb_state.specs.State.{thread_at};
 ghost use Rattle.sb_trace.specs.KernelCall.{binding_with, pool_word, refusal_regs, refusal_outcome, refusal_or_fault, return_outcome, entry_regs, lowest_bit, state_at_handler, entry_outcome, call_outcome, kernel_call};
 
-use crate::home::fault;
-use crate::pool::{handler_of, pool_word, set_pool_word};
+use crate::fault::fault;
+use crate::server::{handler_of, pool_word, set_pool_word};
 use sb_abi::{CallStatus, FIRST_STACK_TOP, RETURN_ADDRESS, STACK_DISTANCE};
 use sb_exec::FaultKind;
 use sb_insn::Regs;
 use sb_insn::registers::{R9, R10, RAX, RCX, RSI, RSP};
-use sb_state::{Binding, PlainState, eax, ecx, zero_result};
+use sb_state::{Binding, PlainState, eax, ecx, zero_flags};
 use sb_trace::Event;
 
 // ---- refusals and ways home
 
 #[tactic(auto, unfolding(sb_trace::specs::KernelCall::refusal_regs))]
-fn refused_regs(regs: &Regs, status: CallStatus) -> Regs
+fn refusal_regs(regs: &Regs, status: CallStatus) -> Regs
     ensures { result ≡ refusal_regs regs.now (status_number status) }
 {
     let mut general = regs.general;
@@ -31,21 +31,21 @@ fn refused_regs(regs: &Regs, status: CallStatus) -> Regs
     Regs {
         general,
         rip: RETURN_ADDRESS,
-        flags: zero_result(),
+        flags: zero_flags(),
     }
 }
 
-// A refused call, with its line: the thread is in its home view.
+/// A refused call, with its line: the thread is in its home view.
 fn refuse(state: &mut PlainState, core: u8, line: Event, status: CallStatus) -> Event
     ensures { (result, state.new) ≡ refusal_outcome state.old core (thread_at state.old core) line (status_number status) }
 {
-    let regs = refused_regs(&state.thread(core).regs, status);
+    let regs = refusal_regs(&state.thread(core).regs, status);
     state.set_view(core, 0, regs);
     line
 }
 
-// No view is switched: in a server's view that is a fault at the VMFUNC.
-fn stay(state: &mut PlainState, core: u8, line: Event, status: CallStatus) -> Event
+/// No view is switched: in a server's view that is a fault at the VMFUNC.
+fn refuse_or_fault(state: &mut PlainState, core: u8, line: Event, status: CallStatus) -> Event
     ensures { (result, state.new) ≡ refusal_or_fault state.old core (thread_at state.old core) line (status_number status) }
 {
     let thread = state.thread(core);
@@ -57,7 +57,7 @@ fn stay(state: &mut PlainState, core: u8, line: Event, status: CallStatus) -> Ev
     }
 }
 
-// Index 0 leads home.
+/// Index 0 leads home.
 fn return_home(state: &mut PlainState, core: u8) -> Event
     ensures { (result, state.new) ≡ return_outcome state.old core (thread_at state.old core) }
 {
@@ -78,7 +78,7 @@ fn return_home(state: &mut PlainState, core: u8) -> Event
 // ---- entry
 
 #[tactic(auto, unfolding(sb_trace::specs::KernelCall::entry_regs))]
-fn entered_regs(regs: &Regs, stack: u32, handler: u64) -> Regs
+fn entry_regs(regs: &Regs, stack: u32, handler: u64) -> Regs
     requires { stack < 64 }
     ensures { result ≡ entry_regs regs.now stack handler }
 {
@@ -90,11 +90,11 @@ fn entered_regs(regs: &Regs, stack: u32, handler: u64) -> Regs
     Regs {
         general,
         rip: handler,
-        flags: zero_result(),
+        flags: zero_flags(),
     }
 }
 
-// The number of the lowest bit that is set.
+/// The number of the lowest bit that is set.
 #[tactic(auto, using(crate::proofs::Bits::lowest_value))]
 fn lowest_bit(word: u64) -> u32
     requires { 0 < word }
@@ -105,7 +105,7 @@ fn lowest_bit(word: u64) -> u32
     word.trailing_zeros()
 }
 
-// The server's lowest free stack, by its pool word, is taken, and the thread stands at the handler.
+/// The server's lowest free stack, by its pool word, is taken, and the thread stands at the handler.
 fn enter(state: &mut PlainState, core: u8, binding: Binding, word: u64) -> Event
     requires { 0 < word }
     ensures line { result ≡ Entered binding.index (lowest_bit word) }
@@ -113,7 +113,7 @@ fn enter(state: &mut PlainState, core: u8, binding: Binding, word: u64) -> Event
 {
     let stack = lowest_bit(word);
     let handler = handler_of(state, binding.server);
-    let regs = entered_regs(&state.thread(core).regs, stack, handler);
+    let regs = entry_regs(&state.thread(core).regs, stack, handler);
     set_pool_word(state, binding.server, word - (1 << stack));
     state.set_view(core, binding.index, regs);
     Event::Entered {
@@ -122,9 +122,10 @@ fn enter(state: &mut PlainState, core: u8, binding: Binding, word: u64) -> Event
     }
 }
 
-// A call with the key: it enters where a server stack is free.
+/// A call with the key: it enters where a server stack is free.
 fn take_stack(state: &mut PlainState, core: u8, binding: Binding) -> Event
-    ensures { (result, state.new) ≡ entry_outcome state.old core (thread_at state.old core) binding (pool_word state.old binding.server) }
+    ensures { (result, state.new)
+        ≡ entry_outcome state.old core (thread_at state.old core) binding (pool_word state.old binding.server) }
 {
     let index = u32::from(binding.index);
     match pool_word(state, binding.server) {
@@ -140,14 +141,16 @@ fn take_stack(state: &mut PlainState, core: u8, binding: Binding) -> Event
 
 // ---- the call
 
-// A call through the binding of an index, if there is one.
+/// A call through the binding of an index, if there is one.
 fn call_through(state: &mut PlainState, core: u8, index: u32) -> Event
-    ensures { (result, state.new) ≡ call_outcome state.old core (thread_at state.old core) index (binding_with (thread_at state.old core).bindings index) }
+    ensures { (result, state.new)
+        ≡ call_outcome state.old core (thread_at state.old core) index
+        (binding_with (thread_at state.old core).bindings index) }
 {
     let thread = state.thread(core);
     let key = thread.regs.general[RSI];
     match thread.bindings.find(index) {
-        None => stay(state, core, Event::Unbound { index }, CallStatus::Unbound),
+        None => refuse_or_fault(state, core, Event::Unbound { index }, CallStatus::Unbound),
         Some(binding) if key == binding.key => take_stack(state, core, binding),
         Some(binding) => {
             let index = u32::from(binding.index);
@@ -164,7 +167,7 @@ pub fn kernel_call(state: &mut PlainState, core: u8) -> Event
     let regs = state.thread(core).regs;
     let (leaf, index) = (eax(&regs), ecx(&regs));
     if leaf != 0 {
-        stay(state, core, Event::BadLeaf { index }, CallStatus::BadLeaf)
+        refuse_or_fault(state, core, Event::BadLeaf { index }, CallStatus::BadLeaf)
     } else if index == 0 {
         return_home(state, core)
     } else {

@@ -1,21 +1,12 @@
 //! The plain machine at the end of a run.
 
 ghost use Rattle.std.specs.Prelude.{◌≡◌, IfOk};
-ghost use Rattle.sb_state.specs.State.{flight_at};
 ghost use Rattle.sb_trace.specs.End.{thread_end, thread_ends, end_of};
 
 use crate::plain::Plain;
 use sb_state::{Flight, PlainState, Thread, process_now};
 use sb_trace::{EndState, ThreadEnd, ThreadEnds};
 use std::alloc::{AllocError, Global};
-
-/// The flight of the thread with this number, where it is in flight.
-#[tactic(auto, unfolding(sb_state::specs::State::flight_at))]
-fn flight_of(state: &PlainState, number: usize) -> Option<Flight>
-    ensures { result ≡ flight_at state.now number }
-{
-    state.flights.get(number).copied().unwrap_or(None)
-}
 
 fn thread_end(thread: &Thread, flight: Option<Flight>) -> ThreadEnd
     ensures { result ≡ thread_end thread.now flight }
@@ -35,12 +26,12 @@ fn thread_ends(alloc: Global, state: &PlainState) -> Result<ThreadEnds, AllocErr
 {
     let mut ends = Vec::new(alloc);
     for (number, thread) in state.threads.iter().enumerate() {
-        ends.push(thread_end(thread, flight_of(state, number)))?;
+        ends.push(thread_end(thread, state.flight_at(number)))?;
     }
     Ok(ThreadEnds::new(ends))
 }
 
-fn end_state(alloc: Global, state: &PlainState) -> Result<EndState, AllocError>
+fn end_of(alloc: Global, state: &PlainState) -> Result<EndState, AllocError>
     ensures { IfOk result (λ end. end ≡ end_of state.now) }
 {
     Ok(EndState {
@@ -55,6 +46,6 @@ impl Plain {
     pub fn end(&self, alloc: Global) -> Result<EndState, AllocError>
         ensures { IfOk result (λ end. end ≡ end_of self.now) }
     {
-        end_state(alloc, &self.state)
+        end_of(alloc, &self.state)
     }
 }

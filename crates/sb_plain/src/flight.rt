@@ -5,13 +5,17 @@
 
 ghost use Rattle.std.specs.Prelude.{◌≡◌};
 ghost use Rattle.sb_state.specs.State.{thread_at};
-ghost use Rattle.sb_trace.specs.Flight.{is_key, bound_pool, with_mask, decided_at, phase_after, next_flight, phase_outcome, landing_step, called_binding, vmfunc_outcome};
+ghost use Rattle.sb_trace.specs.Flight.{is_key, bound_pool, with_mask, decision_at_phase, phase_after, next_flight, phase_outcome, landing_step, called_binding, vmfunc_outcome};
 
 use crate::call::kernel_call;
-use crate::pool::pool_word;
+use crate::server::pool_word;
+use sb_abi::{
+    BRANCH_ON_EXCHANGE, BRANCH_ON_KEY, BRANCH_ON_POOL, COMPARE_KEY, ENTER, EXCHANGE_POOL, GO_HOME,
+    LEAVE, LOAD_POOL, SKIP, STATUS_POOL_EMPTY, STATUS_WRONG_KEY, VMFUNC_PHASE,
+};
 use sb_insn::registers::RSI;
 use sb_state::{Binding, Decision, Flight, PlainState, Thread, eax, ecx};
-use sb_trace::{Event, VMFUNC_PHASE};
+use sb_trace::Event;
 
 // ---- what a phase looks at
 
@@ -24,7 +28,7 @@ fn is_key(binding: Option<Binding>, word: u64) -> bool
     }
 }
 
-// The pool word of the binding's server.
+/// The pool word of the binding's server.
 fn bound_pool(state: &PlainState, binding: Option<Binding>) -> u64
     ensures { result ≡ bound_pool state.now binding }
 {
@@ -36,44 +40,48 @@ fn bound_pool(state: &PlainState, binding: Option<Binding>) -> u64
 
 // ---- a phase
 
-// Phase 2 loads the mask.
+/// The phase that loads the pool word makes it the mask.
 fn with_mask(pool: u64, flight: Flight) -> Flight
     ensures { result ≡ with_mask pool flight }
 {
-    let mask = if flight.phase == 2 { pool } else { flight.mask };
+    let mask = if flight.phase == LOAD_POOL {
+        pool
+    } else {
+        flight.mask
+    };
     Flight { mask, ..flight }
 }
 
-// Whether this phase decides the call, and how: phase 0 compares the key, phase 2 tests the mask that it loads, and
-// phase 8 takes a stack where the pool word is still the mask.
-#[tactic(auto, unfolding(sb_trace::specs::Flight::decided_at))]
-fn decided_at(phase: u8, key_fits: bool, pool: u64, mask: u64) -> Option<Decision>
-    ensures { result ≡ decided_at phase key_fits pool mask }
+/// Whether this phase decides the call, and how: by the key that it compares, by the pool word that it loads, or by the
+/// exchange, which takes a stack where the pool word is still the mask.
+#[tactic(auto, unfolding(sb_trace::specs::Flight::decision_at_phase))]
+fn decision_at_phase(phase: u8, key_fits: bool, pool: u64, mask: u64) -> Option<Decision>
+    ensures { result ≡ decision_at_phase phase key_fits pool mask }
 {
     match phase {
-        0 if !key_fits => Some(Decision::WrongKey),
-        2 if pool == 0 => Some(Decision::PoolEmpty),
-        8 if pool == mask => Some(Decision::Entered),
+        COMPARE_KEY if !key_fits => Some(Decision::WrongKey),
+        LOAD_POOL if pool == 0 => Some(Decision::PoolEmpty),
+        EXCHANGE_POOL if pool == mask => Some(Decision::Entered),
         _ => None,
     }
 }
 
-// The phase behind this one; `None` where the landing ends.
+/// The phase behind this one; `None` where the landing ends.
 #[tactic(auto, unfolding(sb_trace::specs::Flight::phase_after))]
 fn phase_after(phase: u8, decided: Option<Decision>, mask: u64) -> Option<u8>
     ensures { result ≡ phase_after phase decided mask }
 {
     match phase {
-        1 if decided == Some(Decision::WrongKey) => Some(17),
-        4 if mask == 0 => Some(19),
-        9 if decided != Some(Decision::Entered) => Some(2),
-        18 => Some(20),
-        16 | 24.. => None,
+        BRANCH_ON_KEY if decided == Some(Decision::WrongKey) => Some(STATUS_WRONG_KEY),
+        BRANCH_ON_POOL if mask == 0 => Some(STATUS_POOL_EMPTY),
+        BRANCH_ON_EXCHANGE if decided != Some(Decision::Entered) => Some(LOAD_POOL),
+        SKIP => Some(LEAVE),
+        ENTER | GO_HOME.. => None,
         _ => Some(phase + 1),
     }
 }
 
-// The flight behind its phase.
+/// The flight behind its phase.
 fn next_flight(flight: Flight) -> Option<Flight>
     ensures { result ≡ next_flight flight }
 {
@@ -81,8 +89,13 @@ fn next_flight(flight: Flight) -> Option<Flight>
     Some(Flight { phase, ..flight })
 }
 
-// A phase that decides the call does the kernel's call; each other one lands.
-fn phase_step(state: &mut PlainState, core: u8, flight: Flight, decided: Option<Decision>) -> Event
+/// A phase that decides the call does the kernel's call; each other one lands.
+fn phase_outcome(
+    state: &mut PlainState,
+    core: u8,
+    flight: Flight,
+    decided: Option<Decision>,
+) -> Event
     ensures { (result, state.new) ≡ phase_outcome state.old core flight decided }
 {
     if decided.is_none() {
@@ -105,13 +118,13 @@ pub fn landing_step(state: &mut PlainState, core: u8, flight: Flight) -> Event
     let key = thread.regs.general[RSI];
     let binding = thread.bindings.find(u32::from(flight.index));
     let pool = bound_pool(state, binding);
-    let decided = decided_at(flight.phase, is_key(binding, key), pool, flight.mask);
-    phase_step(state, core, with_mask(pool, flight), decided)
+    let decided = decision_at_phase(flight.phase, is_key(binding, key), pool, flight.mask);
+    phase_outcome(state, core, with_mask(pool, flight), decided)
 }
 
 // ---- the VMFUNC
 
-// The binding into which VMFUNC leads: leaf 0, and its index.
+/// The binding into which VMFUNC leads: leaf 0, and its index.
 fn called_binding(thread: &Thread) -> Option<Binding>
     ensures { result ≡ called_binding thread.now }
 {
@@ -133,7 +146,7 @@ pub fn vmfunc(state: &mut PlainState, core: u8) -> Event
     };
     let flight = Flight {
         index: binding.index,
-        phase: 0,
+        phase: COMPARE_KEY,
         mask: 0,
         decided: None,
     };

@@ -11,14 +11,14 @@ ghost use Rattle.sb_plain.specs.Faults.{IsFault};
 use sb_exec::{BusStop, Effect, execute, fetch_insn, first_insn};
 use sb_insn::{Insn, Regs};
 use sb_memory::{Access, Linear};
-use sb_state::{PlainBus, PlainState, reach};
+use sb_state::{PlainBus, PlainState, page_for_access};
 
 /// The instruction at an address, in a view of a thread, where it ends in the page in which it begins.
 fn fetch_in_page(state: &PlainState, thread: u32, view: u32, rip: u64) -> Option<Insn>
     ensures fetched { IfSome result (λ insn. FetchesOn (plain thread view) state.now rip tt tt (Ok insn)) }
     ensures valid { IfSome result IsValid }
 {
-    match reach(state, thread, view, Linear(rip), Access::Fetch) {
+    match page_for_access(state, thread, view, Linear(rip), Access::Fetch) {
         Ok((_, page)) => {
             let (_, rest) = page.bytes.items().split_at((rip % 4096) as usize);
             first_insn(rest)
@@ -29,7 +29,9 @@ fn fetch_in_page(state: &PlainState, thread: u32, view: u32, rip: u64) -> Option
 
 /// The instruction at an address, in a view of a thread.
 ///
-/// Each error is a fault: a byte that cannot be fetched, or bytes with which no instruction begins.
+/// # Errors
+///
+/// A fault: a byte that cannot be fetched, or bytes with which no instruction begins.
 pub fn fetch_next(state: &mut PlainState, thread: u32, view: u16, rip: u64) -> Result<Insn, BusStop>
     ensures fetched { FetchesOn (plain thread view) state.old rip tt tt result }
     ensures valid { IfOk result IsValid }
@@ -44,8 +46,11 @@ pub fn fetch_next(state: &mut PlainState, thread: u32, view: u16, rip: u64) -> R
 
 /// Executes an instruction in a view of a thread.
 ///
-/// Each error is a fault, at the first byte that may not be accessed. It, and each effect but `Next`, leave registers and
-/// memory as they were.
+/// Each effect but `Next` leaves registers and memory as they were.
+///
+/// # Errors
+///
+/// A fault, at the first byte that may not be accessed. It leaves registers and memory as they were.
 pub fn perform(
     state: &mut PlainState,
     thread: u32,

@@ -20,12 +20,12 @@
 
 mod call;
 mod end;
+mod fault;
 mod flight;
-mod home;
 mod instruction;
 mod laws;
 mod plain;
-mod pool;
+mod server;
 mod start;
 mod step;
 mod system_call;

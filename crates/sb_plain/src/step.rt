@@ -9,11 +9,11 @@ ghost use Rattle.sb_trace.specs.OneStep.{StepsAlike};
 ghost use Rattle.sb_trace.specs.Changes.{StepChanges};
 ghost use Rattle.sb_trace.specs.Laws.{HasOneSwitch};
 ghost use Rattle.sb_trace.specs.Sound.{IsSound};
-ghost use Rattle.sb_plain.specs.Declined.{IsDeclined, LeavesAll};
+ghost use Rattle.sb_plain.specs.RefusedCall.{IsRefusedCall, LeavesAll};
 ghost use Rattle.sb_plain.specs.Faults.{IsFault};
 
+use crate::fault::fault;
 use crate::flight::{landing_step, vmfunc};
-use crate::home::fault;
 use crate::instruction::{fetch_next, perform};
 use crate::plain::Plain;
 use crate::system_call::system_call;
@@ -22,7 +22,7 @@ use sb_insn::{Insn, Regs};
 use sb_state::{EndKind, PlainState};
 use sb_trace::{Event, Line};
 
-// A refused access is a fault.
+/// A refused access is a fault.
 fn stop_thread(state: &mut PlainState, core: u8, stop: BusStop) -> Event
     requires { IsFault stop }
     ensures { StopsWith state.old core stop (result, state.new) }
@@ -33,7 +33,7 @@ fn stop_thread(state: &mut PlainState, core: u8, stop: BusStop) -> Event
     }
 }
 
-// The instruction that was fetched, from these registers, in this view.
+/// The instruction that was fetched, from these registers, in this view.
 fn execute_next(state: &mut PlainState, core: u8, view: u16, insn: &Insn, regs: &Regs) -> Event
     requires { IsValid insn.now }
     ensures { Performs vmfunc_outcome state.old core view insn.now regs.now (result, state.new) }
@@ -52,7 +52,7 @@ fn execute_next(state: &mut PlainState, core: u8, view: u16, insn: &Insn, regs: 
     }
 }
 
-// The instruction at RIP of a thread with these registers in this view.
+/// The instruction at RIP of a thread with these registers in this view.
 fn run_from(state: &mut PlainState, core: u8, view: u16, regs: &Regs) -> Event
     ensures { RunsOn vmfunc_outcome state.old core view regs.now (result, state.new) }
 {
@@ -62,7 +62,7 @@ fn run_from(state: &mut PlainState, core: u8, view: u16, regs: &Regs) -> Event
     }
 }
 
-// The step of a thread that runs: its flight goes on, or it executes an instruction.
+/// The step of a thread that runs: its flight goes on, or it executes an instruction.
 fn go_on(state: &mut PlainState, core: u8) -> Event
     ensures { GoesOn state.old core (thread_at state.old core) (flight_at state.old core) (result, state.new) }
 {
@@ -74,7 +74,7 @@ fn go_on(state: &mut PlainState, core: u8) -> Event
     run_from(state, core, view, &regs)
 }
 
-// A step of a core: a thread that has ended is idle.
+/// A step of a core: a thread that has ended is idle.
 fn next_line(state: &mut PlainState, core: u8) -> Line
     ensures core { result.core ≡ core }
     ensures step { Steps state.old core result.event state.new }
@@ -98,7 +98,7 @@ impl Plain {
         ensures step { Steps self.old core result.event self.new }
         ensures count { length self.new.threads ≡ length self.old.threads }
         ensures at_once { IsSound self.old → StepsAlike self.old core result.event self.new }
-        ensures declined { IsDeclined result.event → LeavesAll self.old self.new core }
+        ensures refused { IsRefusedCall result.event → LeavesAll self.old self.new core }
         ensures changes { StepChanges self.old core result.event self.new }
         ensures one_switch { IsSound self.old → HasOneSwitch self.new }
         ensures sound { IsSound self.old → IsSound self.new }

@@ -17,11 +17,11 @@ ghost use Rattle.sb_state.specs.State.{thread_at};
 ghost use Rattle.sb_trace.specs.SyscallAnswer.{state_after_call, syscall_refusal, syscall_acceptance};
 ghost use Rattle.sb_trace.specs.Syscall.{exit_outcome, outcome_by_number, syscall_outcome};
 
-use crate::home::send_home;
+use crate::fault::send_home;
 use bind::bind;
 use protect::protect;
 use register::register;
-use sb_abi::CallRefusal;
+use sb_abi::{Call, CallRefusal};
 use sb_calls::{after_syscall, regs_with_answer};
 use sb_insn::registers::{RAX, RDI};
 use sb_insn::{Insn, Regs};
@@ -30,36 +30,30 @@ use sb_trace::Event;
 
 // ---- the ways in which a call ends
 
-// The thread goes on after SYSCALL, with an answer and a second value.
-fn go_on(state: &mut PlainState, core: u8, next: &Regs, answer: u64, second: u64)
+/// The thread goes on after SYSCALL, with an answer and a second value.
+fn answer_call(state: &mut PlainState, core: u8, next: &Regs, answer: u64, second: u64)
     ensures { state.new ≡ state_after_call state.old core next.now answer second }
 {
     state.set_regs(core, regs_with_answer(next, answer, second));
 }
 
-// The call is refused, with a second value.
-fn decline(
-    state: &mut PlainState,
-    core: u8,
-    next: &Regs,
-    refusal: CallRefusal,
-    second: u64,
-) -> Event
+/// The call is refused, with a second value.
+fn refuse(state: &mut PlainState, core: u8, next: &Regs, refusal: CallRefusal, second: u64) -> Event
     ensures { (result, state.new) ≡ syscall_refusal state.old core next.now refusal second }
 {
     let answer = refusal.number();
-    go_on(state, core, next, answer, second);
+    answer_call(state, core, next, answer, second);
     Event::Sys {
         number: next.general[RAX],
         answer,
     }
 }
 
-// The call did what it does, and has no second value.
+/// The call did what it does, and has no second value.
 fn accept(state: &mut PlainState, core: u8, next: &Regs) -> Event
     ensures { (result, state.new) ≡ syscall_acceptance state.old core next.now }
 {
-    go_on(state, core, next, 0, 0);
+    answer_call(state, core, next, 0, 0);
     Event::Sys {
         number: next.general[RAX],
         answer: 0,
@@ -68,7 +62,7 @@ fn accept(state: &mut PlainState, core: u8, next: &Regs) -> Event
 
 // ---- exit and print
 
-// At home the thread ends with a status; in a server's view it is sent home.
+/// At home the thread ends with a status; in a server's view it is sent home.
 fn exit(state: &mut PlainState, core: u8, next: &Regs) -> Event
     ensures { (result, state.new) ≡ exit_outcome state.old core next.now }
 {
@@ -84,21 +78,31 @@ fn exit(state: &mut PlainState, core: u8, next: &Regs) -> Event
 
 // ---- by number
 
+const EXIT: u64 = Call::Exit as u64;
+
+const PRINT: u64 = Call::Print as u64;
+
+const REGISTER: u64 = Call::Register as u64;
+
+const BIND: u64 = Call::Bind as u64;
+
+const PROTECT: u64 = Call::Protect as u64;
+
 fn call_by_number(state: &mut PlainState, core: u8, next: &Regs, number: u64) -> Event
     ensures { (result, state.new) ≡ outcome_by_number state.old core (thread_at state.old core) next.now number }
 {
     match number {
-        0 => exit(state, core, next),
-        1 => {
-            go_on(state, core, next, 0, 0);
+        EXIT => exit(state, core, next),
+        PRINT => {
+            answer_call(state, core, next, 0, 0);
             Event::Printed {
                 value: next.general[RDI],
             }
         }
-        2 => register(state, core, next),
-        3 => bind(state, core, next),
-        4 => protect(state, core, next),
-        _ => decline(state, core, next, CallRefusal::NoCall, 0),
+        REGISTER => register(state, core, next),
+        BIND => bind(state, core, next),
+        PROTECT => protect(state, core, next),
+        _ => refuse(state, core, next, CallRefusal::NoCall, 0),
     }
 }
 

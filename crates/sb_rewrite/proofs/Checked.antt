@@ -12,7 +12,7 @@ use Rattle.sb_rewrite.specs.declared.text_insn.TextInsn.{TextInsn}
 use Rattle.sb_rewrite.specs.Listing.{text_address, spelled_bytes, IsListing}
 use Rattle.sb_rewrite.specs.Target.{direct_target, IsBadTarget}
 use Rattle.sb_rewrite.specs.Placing.{Placement, is_after_0f, places_from, places, area_address}
-use Rattle.sb_rewrite.specs.Output.{starts_of}
+use Rattle.sb_rewrite.specs.RewrittenText.{starts_of}
 use Rattle.sb_rewrite.specs.Rewriting.{HasBadTarget, IsUnmovable, NoneOf, IsFirstAt, ArePlaces, LeadsWell}
 use Rattle.sb_rewrite.specs.Turns.{IsFirstInsn, JumpsLeadWell, IsFirstOf}
 use Rattle.sb_rewrite.proofs.FirstAt.{none_more, none_among}

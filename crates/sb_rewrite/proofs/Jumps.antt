@@ -8,7 +8,7 @@ use Rattle.sb_forms.specs.Places.{IsPermitted, HasForm, NotInJumps, target}
 use Rattle.sb_rewrite.specs.Listing.{spelled_bytes, starts_from}
 use Rattle.sb_rewrite.specs.Target.{direct_target, MayLeadTo, IsBadTarget}
 use Rattle.sb_rewrite.specs.Turns.{IsFar}
-use Rattle.sb_rewrite.proofs.OneListing.{some_spelling}
+use Rattle.sb_decode.proofs.Exact.{some_spelling}
 
 -- starts are in the text
 pub starts_within : (at : ℕ) (insns : List Insn) (start : ℕ) → Contains (starts_from at insns) start

@@ -13,7 +13,7 @@ use Rattle.sb_forms.proofs.Room.{form_roomy}
 use Rattle.sb_forms.proofs.Small.{jump_5}
 use Rattle.sb_rewrite.specs.Listing.{text_address, spelled_bytes, AllValid}
 use Rattle.sb_rewrite.specs.Placing.{Placement, slot_bytes, is_after_0f, place, places_from, area_address}
-use Rattle.sb_rewrite.specs.Output.{Output, text_bytes, text_bytes_by}
+use Rattle.sb_rewrite.specs.RewrittenText.{RewrittenText, text_bytes, text_bytes_by}
 use Rattle.sb_rewrite.specs.Rewriting.{KeepsLength}
 use Rattle.sb_rewrite.specs.Turns.{IsAllPut}
 
@@ -54,9 +54,9 @@ text_size text at slot (insn ∷ insns) valid =
     )
 
 -- what was made of all instructions of a text
-pub made_length : (text : List ℕ) (draft : Output) → IsAllPut text draft → length draft.text ≡ length text
+pub made_length : (text : List ℕ) (draft : RewrittenText) → IsAllPut text draft → length draft.text ≡ length text
 made_length text draft (of_text, are, fits, is) =
-    ap (λ (one : Output). length one.text) is
+    ap (λ (one : RewrittenText). length one.text) is
     ∙ ap (λ (list : List Placement). length (flat_map text_bytes list)) are.places_are
     ∙ text_size text text_address area_address are.insns are.valid
     ∙ sym (ap length are.whole)

@@ -4,22 +4,10 @@ use Rattle.std.proofs.lemmas.List.{append-nil, append_cancel_left}
 use Rattle.std.specs.List.Sorted.{IsStrictlyIncreasing}
 use native.Mathlib.Numerals.{unary_clauses}
 use Rattle.sb_insn.specs.declared.insn.Insn.{Insn}
-use Rattle.sb_insn.specs.declared.insn.Op.{Op}
-use Rattle.sb_insn.specs.declared.insn.Op.TheVariants.{One, Two, Endbr, Vmfunc}
-use Rattle.sb_insn.specs.Spelling.{spelling, op_bytes}
+use Rattle.sb_insn.specs.Spelling.{spelling}
 use Rattle.sb_insn.specs.Grammar.{IsValid, BeginsWith}
-use Rattle.sb_decode.proofs.Exact.{one_begins}
+use Rattle.sb_decode.proofs.Exact.{some_spelling, one_begins}
 use Rattle.sb_rewrite.specs.Listing.{text_address, spelled_bytes, AllValid, starts_from, OneListing, OnePlace, ListedApart, StartsRise}
-
-some_op : (op : Op) → 0 < length (op_bytes op)
-some_op (One opcode) = omega arith
-some_op (Two opcode) = omega arith
-some_op Endbr = omega arith
-some_op Vmfunc = omega arith
-
--- each instruction has a byte: its opcode
-pub some_spelling : (insn : Insn) → 0 < length (spelling insn)
-some_spelling insn = simp length-append (omega (arith, some_op insn.op))
 
 -- ---- the instructions
 

@@ -8,8 +8,9 @@ use Rattle.sb_forms.specs.declared.answer.Form.{Form}
 use Rattle.sb_forms.specs.declared.answer.Form.TheVariants as form
 use Rattle.sb_rewrite.specs.declared.edit.Move.{Move}
 use Rattle.sb_rewrite.specs.Listing.{text_address}
-use Rattle.sb_rewrite.specs.Placing.{Placement, slot_bytes, area_address, area_end}
-use Rattle.sb_rewrite.specs.Output.{Output, output, starts_of, moves_of, moves_by, IsOrdered, IsMain, RunsAt}
+use Rattle.sb_forms.specs.Answers.{area_end}
+use Rattle.sb_rewrite.specs.Placing.{Placement, slot_bytes, area_address}
+use Rattle.sb_rewrite.specs.RewrittenText.{RewrittenText, rewritten_text, starts_of, moves_of, moves_by, IsOrdered, IsMain, RunsAt}
 use Rattle.sb_rewrite.specs.Rewriting.{EndsBehindArea, NoneOf, ArePlaces, OneOriginal}
 use Rattle.sb_list.proofs.Search.{in_order}
 use Rattle.sb_rewrite.proofs.Jumps.{starts_within}
@@ -63,7 +64,8 @@ same_place numbers i j rising within within' same =
     let no_more : j < i → ⊥ = not_later numbers j i rising within (sym same) in
     omega arith
 
-one_main : (made : Output) (at first second : ℕ) → IsOrdered made → IsMain made at first → IsMain made at second → first ≡ second
+one_main : (made : RewrittenText) (at first second : ℕ) → IsOrdered made → IsMain made at first → IsMain made at second
+    → first ≡ second
 one_main made at first second order one other =
     let here : move_at made.moves one.0 ≡ record { start = first; main = at } =
     place_of made.moves (record { start = first; main = at }) one in
@@ -80,29 +82,30 @@ one_main made at first second order one other =
 
 -- the area stands before the text
 apart : (text : List ℕ) (of_text : List Placement) (at start : ℕ) → ArePlaces text of_text → NoneOf EndsBehindArea of_text
-    → Contains (starts_of of_text) at → IsMain (output of_text) at start → ⊥
+    → Contains (starts_of of_text) at → IsMain (rewritten_text of_text) at start → ⊥
 apart text of_text at start are fits held main =
     let listed =
     subst (λ (list : List ℕ). Contains list at) (ap (λ (list : List Placement). starts_of list) are.places_are
     ∙ starts_placed text text_address area_address are.insns) held in
     let low : text_address ≤ at = (starts_within text_address are.insns at listed).0 in
-    let here : move_at (output of_text).moves main.0 ≡ record { start = start; main = at } =
-    place_of (output of_text).moves (record { start = start; main = at }) main in
-    let high : (move_at (output of_text).moves main.0).main ≤ area_end =
-    in_area_at (output of_text).moves main.0 (all_in_area of_text fits) main.1 in
+    let here : move_at (rewritten_text of_text).moves main.0 ≡ record { start = start; main = at } =
+    place_of (rewritten_text of_text).moves (record { start = start; main = at }) main in
+    let high : (move_at (rewritten_text of_text).moves main.0).main ≤ area_end =
+    in_area_at (rewritten_text of_text).moves main.0 (all_in_area of_text fits) main.1 in
     omega (arith, ap main_of here)
 
 one_of_places : (text : List ℕ) (of_text : List Placement) (at first second : ℕ) → ArePlaces text of_text
-    → NoneOf EndsBehindArea of_text → RunsAt (output of_text) at first → RunsAt (output of_text) at second → first ≡ second
+    → NoneOf EndsBehindArea of_text → RunsAt (rewritten_text of_text) at first → RunsAt (rewritten_text of_text) at second
+    → first ≡ second
 one_of_places text of_text at first second are fits (inl (is, here)) (inl (is', here')) = is ∙ sym is'
 one_of_places text of_text at first second are fits (inl (is, here)) (inr main) =
     absurd (apart text of_text at second are fits here.0 main)
 one_of_places text of_text at first second are fits (inr main) (inl (is, here)) =
     absurd (apart text of_text at first are fits here.0 main)
 one_of_places text of_text at first second are fits (inr main) (inr main') =
-    one_main (output of_text) at first second (ordered text of_text are) main main'
+    one_main (rewritten_text of_text) at first second (ordered text of_text are) main main'
 
 pub one_original : OneOriginal
 one_original text made at first second (of_text, are, fits, is, free) one other =
-    one_of_places text of_text at first second are fits.1 (subst (λ (made_it : Output). RunsAt made_it at first) is one)
-    (subst (λ (made_it : Output). RunsAt made_it at second) is other)
+    one_of_places text of_text at first second are fits.1 (subst (λ (made_it : RewrittenText). RunsAt made_it at first) is one)
+    (subst (λ (made_it : RewrittenText). RunsAt made_it at second) is other)

@@ -11,10 +11,11 @@ use Rattle.sb_forms.specs.Table.{Replacement, Keep, InPlace, Moved, Unmovable, r
 use Rattle.sb_rewrite.specs.declared.edit.Move.{Move}
 use Rattle.sb_rewrite.specs.Listing.{text_address}
 use Rattle.sb_rewrite.specs.Placing.{Placement, slot_bytes, is_after_0f, places_from, places, area_address}
-use Rattle.sb_rewrite.specs.Output.{output, moves_of, moves_by, IsOrdered}
+use Rattle.sb_rewrite.specs.RewrittenText.{rewritten_text, moves_of, moves_by, IsOrdered}
 use Rattle.sb_rewrite.specs.Rewriting.{ArePlaces}
-use Rattle.sb_rewrite.proofs.OneListing.{some_spelling, rises}
+use Rattle.sb_rewrite.proofs.OneListing.{rises}
 use Rattle.sb_rewrite.proofs.Placed.{starts_placed}
+use Rattle.sb_decode.proofs.Exact.{some_spelling}
 
 -- each number is behind the one before, and the first is no less than this
 Rising : ℕ → List ℕ → Type 0
@@ -114,13 +115,13 @@ mains_rise text at slot (insn ∷ insns) =
     (form_has_main insn at slot (is_after_0f text at)) (mains_rise text next next_slot insns)
 
 -- what is made of the instructions of a text is in order
-pub ordered : (text : List ℕ) (of_text : List Placement) → ArePlaces text of_text → IsOrdered (output of_text)
+pub ordered : (text : List ℕ) (of_text : List Placement) → ArePlaces text of_text → IsOrdered (rewritten_text of_text)
 ordered text of_text are =
-    let all : IsOrdered (output (places text are.insns)) = record {
+    let all : IsOrdered (rewritten_text (places text are.insns)) = record {
       starts =
           subst (λ (list : List ℕ). IsStrictlyIncreasing list) (sym (starts_placed text text_address area_address are.insns))
           (rises text_address are.insns);
       moved = increasing text_address _ (starts_rise text text_address area_address are.insns);
       mains = increasing area_address _ (mains_rise text text_address area_address are.insns);
     } in
-    subst (λ (list : List Placement). IsOrdered (output list)) (sym are.places_are) all
+    subst (λ (list : List Placement). IsOrdered (rewritten_text list)) (sym are.places_are) all

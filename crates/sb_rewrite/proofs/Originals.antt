@@ -11,7 +11,7 @@ use Rattle.std.proofs.lemmas.Cmp.{ranked}
 use Rattle.std.proofs.lemmas.List.{get_or-map, get_or_default, length-map}
 use Rattle.std.proofs.lemmas.List.Sorted.{IsNonDecreasingBy-from_default}
 use Rattle.sb_rewrite.specs.declared.edit.Move.{Move}
-use Rattle.sb_rewrite.specs.Output.{Output, IsInPlace, IsMovedTo, IsOriginal}
+use Rattle.sb_rewrite.specs.RewrittenText.{RewrittenText, IsInPlace, IsMovedTo, IsOriginal}
 use Rattle.sb_list.proofs.Search.{in_order}
 
 abbrev pub nowhere : Move
@@ -84,7 +84,7 @@ pub no_main : (moves : List Move) (at k : ℕ) → Found main_of moves at (Err k
 no_main moves at k none start held = none held.0 held.1 (ap main_of (place_of moves (record { start = start; main = at }) held))
 
 -- what is not in place is what was moved there
-pub moved_original : (made : Output) (at : ℕ) (found : Option ℕ) → ¬ IsInPlace made at → IsMovedTo made at found
+pub moved_original : (made : RewrittenText) (at : ℕ) (found : Option ℕ) → ¬ IsInPlace made at → IsMovedTo made at found
     → IsOriginal made at found
 moved_original made at (Some start) not_here main = inr main
 moved_original made at None not_here none = λ start runs. ⊎_elim (λ here. not_here here.1) (λ main. none start main) runs

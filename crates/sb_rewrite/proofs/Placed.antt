@@ -5,7 +5,7 @@ use Rattle.sb_insn.specs.declared.insn.Insn.{Insn}
 use Rattle.sb_insn.specs.Spelling.{spelling}
 use Rattle.sb_rewrite.specs.Listing.{text_address, spelled_bytes, starts_from}
 use Rattle.sb_rewrite.specs.Placing.{Placement, place, places_from, places, area_address}
-use Rattle.sb_rewrite.specs.Output.{area_bytes, starts_of}
+use Rattle.sb_rewrite.specs.RewrittenText.{area_bytes, starts_of}
 
 -- the starts are those of the listing
 pub starts_placed : (text : List ℕ) (at slot : ℕ) (insns : List Insn)

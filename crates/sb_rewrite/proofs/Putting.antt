@@ -14,7 +14,7 @@ use Rattle.sb_rewrite.specs.declared.target.Jump.{Jump}
 use Rattle.sb_rewrite.specs.Listing.{text_address, spelled_bytes, starts_from}
 use Rattle.sb_rewrite.specs.Target.{direct_target}
 use Rattle.sb_rewrite.specs.Placing.{Placement, place, places_from, places, area_address}
-use Rattle.sb_rewrite.specs.Output.{Output, starts_of, text_bytes, area_bytes, edits_of, moves_of}
+use Rattle.sb_rewrite.specs.RewrittenText.{RewrittenText, starts_of, text_bytes, area_bytes, edits_of, moves_of}
 use Rattle.sb_rewrite.specs.Rewriting.{HasBadTarget, IsUnmovable, EndsBehindArea, NoneOf, IsFirstAt, ArePlaces}
 use Rattle.sb_rewrite.specs.Turns.{IsFirstInsn, IsFar, jumps_to, started, with_start, with_place, Puts, IsAllPut}
 use Rattle.sb_rewrite.proofs.OneListing.{rising_starts}
@@ -26,14 +26,14 @@ use Rattle.sb_rewrite.proofs.Checked.{first_here, not_here, none_read}
 use Rattle.sb_rewrite.proofs.Remembered.{jumps_of, HasFarTarget, all_lead}
 
 -- the draft has what stands in place of these instructions
-pub record IsMade (draft : Output) (of_text : List Placement) : Type 0 where
+pub record IsMade (draft : RewrittenText) (of_text : List Placement) : Type 0 where
   pub text : draft.text ≡ flat_map text_bytes of_text
   pub area : draft.area ≡ flat_map area_bytes of_text
   pub edits : draft.edits ≡ flat_map edits_of of_text
   pub moves : draft.moves ≡ flat_map moves_of of_text
 
 -- it is made of the instructions that spell the text up to its rest, and these are their jumps
-pub record PutSoFar (text rest : List ℕ) (draft : Output) (jumps : List Jump) : Type 0 where
+pub record PutSoFar (text rest : List ℕ) (draft : RewrittenText) (jumps : List Jump) : Type 0 where
   pub partway : Partway text rest draft.starts
   pub made : IsMade draft (places text partway.insns)
   pub jumps_are : jumps ≡ flat_map jumps_of (places text partway.insns)
@@ -86,7 +86,7 @@ module _ (text rest starts : List ℕ) (partway : Partway text rest starts) (tex
       not_here Holds text rest partway.insns read.0 text_insn turned (subst (λ (list : List Placement). NoneOf Holds list) read.2 none)
 
 -- what is put is the instruction's place
-pub next_is : (text rest : List ℕ) (draft : Output) (jumps : List Jump) (text_insn : TextInsn) (so_far : PutSoFar text rest draft jumps)
+pub next_is : (text rest : List ℕ) (draft : RewrittenText) (jumps : List Jump) (text_insn : TextInsn) (so_far : PutSoFar text rest draft jumps)
     → IsFirstInsn text rest text_insn
     → place text text_insn.at (area_address + length draft.area) text_insn.insn ≡ here text so_far.partway.insns text_insn.insn
 next_is text rest draft jumps text_insn so_far is i =
@@ -97,7 +97,7 @@ next_is text rest draft jumps text_insn so_far is i =
     place text (at i) (slot i) text_insn.insn
 
 -- one more place is put
-made_more : (draft : Output) (at : ℕ) (of_text : List Placement) (one : Placement) → IsMade draft of_text
+made_more : (draft : RewrittenText) (at : ℕ) (of_text : List Placement) (one : Placement) → IsMade draft of_text
     → IsMade (with_place (with_start draft at) one) (of_text ++ one ∷ [])
 made_more draft at of_text one made = record {
   text = ap (λ (bytes : List ℕ). bytes ++ text_bytes one) made.text ∙ flat_map_more text_bytes [] of_text one;
@@ -106,7 +106,7 @@ made_more draft at of_text one made = record {
   moves = ap (λ (moves : List Move). moves ++ moves_of one) made.moves ∙ flat_map_more moves_of [] of_text one;
 }
 
-pub one_put : (text rest : List ℕ) (draft new : Output) (jumps more_jumps : List Jump) (text_insn : TextInsn)
+pub one_put : (text rest : List ℕ) (draft new : RewrittenText) (jumps more_jumps : List Jump) (text_insn : TextInsn)
     → PutSoFar text rest draft jumps → IsFirstInsn text rest text_insn
     → ¬ IsFar (direct_target text_insn.insn text_insn.at) → more_jumps ≡ jumps ++ jumps_to text_insn.at (direct_target text_insn.insn text_insn.at)
     → Puts (with_start draft text_insn.at) new (place text text_insn.at (area_address + length draft.area) text_insn.insn) (Ok tt)
@@ -122,7 +122,7 @@ one_put text rest draft new jumps more_jumps text_insn so_far is near more_are (
     let new_here : new ≡ with_place (with_start draft text_insn.at) one =
     new_is ∙ ap (λ (put : Placement). with_place (with_start draft text_insn.at) put) next in
     let new_starts : draft.starts ++ (text_address + (length text - length rest)) ∷ [] ≡ new.starts =
-    ap (λ (start : ℕ). draft.starts ++ start ∷ []) (sym is.here) ∙ ap (λ (made : Output). made.starts) (sym new_here) in
+    ap (λ (start : ℕ). draft.starts ++ start ∷ []) (sym is.here) ∙ ap (λ (made : RewrittenText). made.starts) (sym new_here) in
     let partway : Partway text text_insn.rest.now (draft.starts ++ (text_address + (length text - length rest)) ∷ []) =
     more_of text rest text_insn.rest.now draft.starts text_insn.insn so_far.partway (is.valid, tt) is.parts in
     record {
@@ -135,7 +135,7 @@ one_put text rest draft new jumps more_jumps text_insn so_far is near more_are (
                 ∙ partway.starts_are;
           };
       made =
-          subst (λ (made : Output). IsMade made (places text (done ++ text_insn.insn ∷ []))) (sym new_here)
+          subst (λ (made : RewrittenText). IsMade made (places text (done ++ text_insn.insn ∷ []))) (sym new_here)
           (subst (λ (of_text : List Placement). IsMade (with_place (with_start draft text_insn.at) one) of_text) (sym last)
           (made_more draft text_insn.at (places text done) one so_far.made));
       jumps_are =
@@ -152,7 +152,7 @@ one_put text rest draft new jumps more_jumps text_insn so_far is near more_are (
 
 -- ---- all instructions
 
-module _ (text rest : List ℕ) (draft : Output) (jumps : List Jump) (so_far : PutSoFar text rest draft jumps)
+module _ (text rest : List ℕ) (draft : RewrittenText) (jumps : List Jump) (so_far : PutSoFar text rest draft jumps)
     (none : length rest ≡ 0) where
   -- the starts come in order
   pub rising_so_far : IsStrictlyIncreasing draft.starts

@@ -5,13 +5,12 @@ use Rattle.std.proofs.lemmas.List.Concat.{flat_map-append}
 use Rattle.sb_insn.specs.declared.insn.Insn.{Insn}
 use Rattle.sb_insn.specs.Spelling.{spelling}
 use Rattle.sb_insn.specs.Grammar.{IsValid, BeginsWith}
-use Rattle.sb_decode.proofs.Exact.{one_begins}
+use Rattle.sb_decode.proofs.Exact.{one_begins, some_spelling}
 use Rattle.sb_rewrite.specs.declared.text_insn.TextInsn.{TextInsn}
 use Rattle.sb_rewrite.specs.Listing.{text_address, spelled_bytes, AllValid}
 use Rattle.sb_rewrite.specs.Placing.{Placement, places}
 use Rattle.sb_rewrite.specs.Rewriting.{ArePlaces}
 use Rattle.sb_rewrite.specs.Turns.{IsFirstInsn}
-use Rattle.sb_rewrite.proofs.OneListing.{some_spelling}
 
 -- the text's instructions are these and more, which spell its rest
 pub record Reads (text rest : List ℕ) (done more : List Insn) : Type 0 where

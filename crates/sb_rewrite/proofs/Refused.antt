@@ -8,7 +8,7 @@ use Rattle.sb_rewrite.specs.declared.refusal.RewriteRefusal.TheVariants.{Undecod
 use Rattle.sb_rewrite.specs.Listing.{IsListing}
 use Rattle.sb_rewrite.specs.Target.{direct_target, IsBadTarget}
 use Rattle.sb_rewrite.specs.Placing.{Placement, place, places, area_address}
-use Rattle.sb_rewrite.specs.Output.{Output, starts_of}
+use Rattle.sb_rewrite.specs.RewrittenText.{RewrittenText, starts_of}
 use Rattle.sb_rewrite.specs.Rewriting.{HasBadTarget, IsUnmovable, EndsBehindArea, NoneOf, IsFirstAt, ArePlaces, LeadsWell, Rewrites}
 use Rattle.sb_rewrite.specs.Turns.{IsFirstInsn, DecodesFirst, IsFar, Remembers, ChecksJumps, JumpsLeadWell, AllMovable, ChecksMovable, with_start, Puts, IsPutRefusal}
 use Rattle.sb_rewrite.proofs.OneListing.{listed_apart}
@@ -23,7 +23,8 @@ use Rattle.sb_rewrite.proofs.Putting.{PutSoFar, stands_here, next_is, first_so_f
 -- ---- what putting meets
 
 -- an instruction that leads far away is among those of the text
-far_refused : (text rest : List ℕ) (draft : Output) (jumps : List Jump) (text_insn : TextInsn) → PutSoFar text rest draft jumps
+far_refused : (text rest : List ℕ) (draft : RewrittenText) (jumps : List Jump) (text_insn : TextInsn)
+    → PutSoFar text rest draft jumps
     → IsFirstInsn text rest text_insn → length text ≤ 2097152
     → IsFar (direct_target text_insn.insn text_insn.at) → ¬ JumpsLeadWell text
 far_refused text rest draft jumps text_insn so_far is size far (of_text, are, well) =
@@ -36,7 +37,8 @@ far_refused text rest draft jumps text_insn so_far is size far (of_text, are, we
     (subst (λ (place : ℕ). IsBadTarget (starts_of (places text are.insns)) (direct_target text_insn.insn place)) at bad) in
     not_so_far text rest draft.starts so_far.partway text_insn is (HasBadTarget (starts_of of_text)) of_text are well bad_here
 
-pub jump_refused : (text rest : List ℕ) (draft : Output) (jumps new : List Jump) (text_insn : TextInsn) (refusal : RewriteRefusal)
+pub jump_refused : (text rest : List ℕ) (draft : RewrittenText) (jumps new : List Jump)
+    (text_insn : TextInsn) (refusal : RewriteRefusal)
     → PutSoFar text rest draft jumps → IsFirstInsn text rest text_insn
     → length text ≤ 2097152 → Remembers jumps new text_insn (Err refusal) → IsPutRefusal text refusal
 jump_refused text rest draft jumps new text_insn (Undecoded at) so_far is size remembers = absurd remembers
@@ -48,7 +50,7 @@ jump_refused text rest draft jumps new text_insn (Left at) so_far is size rememb
 jump_refused text rest draft jumps new text_insn Memory so_far is size remembers = tt
 
 -- nothing is decoded
-pub front_refused : (text rest : List ℕ) (draft : Output) (jumps : List Jump) (refusal : RewriteRefusal)
+pub front_refused : (text rest : List ℕ) (draft : RewrittenText) (jumps : List Jump) (refusal : RewriteRefusal)
     → PutSoFar text rest draft jumps → 0 < length rest
     → DecodesFirst text rest (Err refusal) → IsPutRefusal text refusal
 front_refused text rest draft jumps refusal so_far some (is, none) =
@@ -56,7 +58,8 @@ front_refused text rest draft jumps refusal so_far some (is, none) =
     (stuck_behind text rest draft.starts so_far.partway (some, none))
 
 -- an instruction is refused whose place cannot be put
-pub put_refused : (text rest : List ℕ) (draft new : Output) (jumps : List Jump) (text_insn : TextInsn) (refusal : RewriteRefusal)
+pub put_refused : (text rest : List ℕ) (draft new : RewrittenText) (jumps : List Jump)
+    (text_insn : TextInsn) (refusal : RewriteRefusal)
     → PutSoFar text rest draft jumps → IsFirstInsn text rest text_insn
     → Puts (with_start draft text_insn.at) new (place text text_insn.at (area_address + length draft.area) text_insn.insn) (Err refusal)
     → IsPutRefusal text refusal
@@ -73,7 +76,7 @@ put_refused text rest draft new jumps text_insn (Left at) so_far is puts = absur
 put_refused text rest draft new jumps text_insn Memory so_far is puts = tt
 
 -- a jump that was remembered leads to no start
-pub check_refused : (text rest : List ℕ) (draft : Output) (jumps : List Jump) (refusal : RewriteRefusal)
+pub check_refused : (text rest : List ℕ) (draft : RewrittenText) (jumps : List Jump) (refusal : RewriteRefusal)
     → PutSoFar text rest draft jumps → length rest ≡ 0
     → ChecksJumps jumps draft.starts (Err refusal) → IsPutRefusal text refusal
 check_refused text rest draft jumps (Undecoded at) so_far none checks = absurd checks

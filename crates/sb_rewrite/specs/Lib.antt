@@ -3,6 +3,6 @@ pub mod Listing
 pub mod Target
 pub mod Refusals
 pub mod Placing
-pub mod Output
+pub mod RewrittenText
 pub mod Rewriting
 pub mod Turns

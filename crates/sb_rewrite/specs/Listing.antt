@@ -31,7 +31,7 @@ IsListing text starts =
 abbrev pub IsStuck : List ℕ → Type 0
 IsStuck rest = (0 < length rest) × ((insn : Insn) → ¬ BeginsWith rest insn)
 
--- instructions spell a text_insn of the text, and behind it, at this address, no whole instruction stands
+-- instructions spell a beginning of the text, and behind it, at this address, no whole instruction stands
 abbrev pub IsUndecodedAt : List ℕ → ℕ → Type 0
 IsUndecodedAt text at =
     (insns : List Insn) × (rest : List ℕ) × AllValid insns × (text ≡ spelled_bytes insns ++ rest) × IsStuck rest

@@ -1,7 +1,6 @@
 -- What stands in place of each instruction of a text, and where its slot in the rewrite area begins.
-use Rattle.std.specs.Prelude.{ℕ, ◌+◌, ◌-◌, ◌*◌, Bool, ◌&&◌, ◌==◌, nat_lt, List, [], ◌∷◌, ◌++◌, length, slice_index}
-use Rattle.sb_abi.specs.declared.space.TheConstants.{AREA_ADDRESS, AREA_PAGES}
-use Rattle.sb_memory.specs.declared.page.TheConstants.{PAGE_SIZE}
+use Rattle.std.specs.Prelude.{ℕ, ◌+◌, ◌-◌, Bool, ◌&&◌, ◌==◌, nat_lt, List, [], ◌∷◌, ◌++◌, length, slice_index}
+use Rattle.sb_abi.specs.declared.space.TheConstants.{AREA_ADDRESS}
 use Rattle.sb_insn.specs.declared.insn.Insn.{Insn}
 use Rattle.sb_insn.specs.Spelling.{spelling}
 use Rattle.sb_forms.specs.declared.answer.Form.{Form}
@@ -13,10 +12,6 @@ use Rattle.sb_rewrite.specs.Listing.{text_address}
 abbrev pub area_address : ℕ
 area_address = AREA_ADDRESS
 
--- the first address behind it
-abbrev pub area_end : ℕ
-area_end = AREA_ADDRESS + AREA_PAGES * PAGE_SIZE
-
 -- an instruction of a text, its address, where the next slot begins, and what stands in its place
 pub record Placement : Type 0 where
   pub insn : Insn
@@ -27,7 +22,9 @@ pub record Placement : Type 0 where
 -- the bytes of a slot; only an instruction that is moved has one
 abbrev pub slot_bytes : Form → List ℕ
 slot_bytes (form.Moved pre main post) = pre ++ (main ++ post)
-slot_bytes _ = []
+slot_bytes form.Keep = []
+slot_bytes (form.InPlace bytes) = []
+slot_bytes form.Unmovable = []
 
 -- the byte before the address is 0F in the text; before the first one is none
 abbrev pub is_after_0f : List ℕ → ℕ → Bool

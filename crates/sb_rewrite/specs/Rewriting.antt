@@ -8,8 +8,9 @@ use Rattle.sb_rewrite.specs.declared.refusal.RewriteRefusal.{RewriteRefusal}
 use Rattle.sb_rewrite.specs.declared.refusal.RewriteRefusal.TheVariants.{Undecoded, BadTarget, Unmovable, AreaFull, Left, Memory}
 use Rattle.sb_rewrite.specs.Listing.{text_address, spelled_bytes, AllValid, IsUndecodedAt}
 use Rattle.sb_rewrite.specs.Target.{direct_target, IsBadTarget}
-use Rattle.sb_rewrite.specs.Placing.{Placement, slot_bytes, places, area_address, area_end}
-use Rattle.sb_rewrite.specs.Output.{Output, output, starts_of, RunsAt, IsBetween}
+use Rattle.sb_forms.specs.Answers.{area_end}
+use Rattle.sb_rewrite.specs.Placing.{Placement, slot_bytes, places, area_address}
+use Rattle.sb_rewrite.specs.RewrittenText.{RewrittenText, rewritten_text, starts_of, RunsAt, IsBetween}
 
 -- ---- what is wrong with an instruction
 
@@ -63,18 +64,18 @@ abbrev pub FitsArea : List Placement → Type 0
 FitsArea places = IsMovable places × NoneOf EndsBehindArea places
 
 -- the bytes of VMFUNC stand nowhere in what was made
-abbrev pub IsFree : Output → Type 0
+abbrev pub IsFree : RewrittenText → Type 0
 IsFree made = HasNoPattern made.area × HasNoPattern made.text
 
 -- they stand first at this address: in the area, or else in the text
-abbrev pub IsLeftAt : Output → ℕ → Type 0
+abbrev pub IsLeftAt : RewrittenText → ℕ → Type 0
 IsLeftAt made at =
     ((place : ℕ) × HasFirstPatternAt made.area place × (at ≡ area_address + place))
     ⊎ (HasNoPattern made.area × ((place : ℕ) × HasFirstPatternAt made.text place × (at ≡ text_address + place)))
 
 -- What rewriting answers. The cases exclude each other, but for want of memory.
-abbrev pub Rewrites : List ℕ → Result Output RewriteRefusal → Type 0
-Rewrites text (Ok made) = (of_text : List Placement) × ArePlaces text of_text × FitsArea of_text × (made ≡ output of_text)
+abbrev pub Rewrites : List ℕ → Result RewrittenText RewriteRefusal → Type 0
+Rewrites text (Ok made) = (of_text : List Placement) × ArePlaces text of_text × FitsArea of_text × (made ≡ rewritten_text of_text)
     × IsFree made
 Rewrites text (Err (Undecoded at)) = IsUndecodedAt text at
 Rewrites text (Err (BadTarget at)) =
@@ -83,21 +84,22 @@ Rewrites text (Err (Unmovable at)) =
     (of_text : List Placement) × ArePlaces text of_text × LeadsWell of_text × IsFirstAt IsUnmovable of_text at
 Rewrites text (Err (AreaFull at)) =
     (of_text : List Placement) × ArePlaces text of_text × IsMovable of_text × IsFirstAt EndsBehindArea of_text at
-Rewrites text (Err (Left at)) = (of_text : List Placement) × ArePlaces text of_text × FitsArea of_text × IsLeftAt (output of_text) at
+Rewrites text (Err (Left at)) =
+    (of_text : List Placement) × ArePlaces text of_text × FitsArea of_text × IsLeftAt (rewritten_text of_text) at
 Rewrites text (Err Memory) = Unit {0}
 
 -- ---- how long what is made is
 
 -- what a text becomes has as many bytes as the text
 abbrev pub KeepsLength : Type 0
-KeepsLength = (text : List ℕ) (made : Output) → Rewrites text (Ok made) → length made.text ≡ length text
+KeepsLength = (text : List ℕ) (made : RewrittenText) → Rewrites text (Ok made) → length made.text ≡ length text
 
 -- ---- where instructions start
 
 -- each start of what a text becomes is the address of one of the text's bytes
 abbrev pub StartsStandInText : Type 0
 StartsStandInText =
-    (text : List ℕ) (made : Output) → Rewrites text (Ok made)
+    (text : List ℕ) (made : RewrittenText) → Rewrites text (Ok made)
     → AllByRecursion (IsBetween text_address (text_address + length text)) made.starts
 
 -- ---- why the answer is the only one
@@ -105,11 +107,12 @@ StartsStandInText =
 -- a text has one answer, but for want of memory
 abbrev pub OneRewriting : Type 0
 OneRewriting =
-    (text : List ℕ) (first second : Result Output RewriteRefusal) → first ≢ Err Memory → second ≢ Err Memory → Rewrites text first
+    (text : List ℕ) (first second : Result RewrittenText RewriteRefusal) → first ≢ Err Memory → second ≢ Err Memory
+    → Rewrites text first
     → Rewrites text second
     → first ≡ second
 
 -- one original instruction at most runs at an address
 abbrev pub OneOriginal : Type 0
-OneOriginal = (text : List ℕ) (made : Output) (at first second : ℕ) → Rewrites text (Ok made) → RunsAt made at first
+OneOriginal = (text : List ℕ) (made : RewrittenText) (at first second : ℕ) → Rewrites text (Ok made) → RunsAt made at first
     → RunsAt made at second → first ≡ second

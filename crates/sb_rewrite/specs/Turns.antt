@@ -1,5 +1,5 @@
 -- What one turn of a rewriter's loop does: an instruction is decoded, and what stands in its place is put.
-use Rattle.std.specs.Prelude.{◌≡◌, ℕ, ◌+◌, ◌-◌, ◌*◌, ◌≤◌, Bool, ◌&&◌, nat_le, nat_lt, if◌then◌else◌, List, [], ◌∷◌, ◌++◌, length, All, Contains, Option, Some, None, Result, Ok, Err}
+use Rattle.std.specs.Prelude.{◌≡◌, ℕ, ◌+◌, ◌-◌, ◌≤◌, Bool, ◌&&◌, nat_le, nat_lt, if◌then◌else◌, List, [], ◌∷◌, ◌++◌, length, All, Contains, Option, Some, None, Result, Ok, Err}
 use Rattle.sb_insn.specs.declared.insn.Insn.{Insn}
 use Rattle.sb_insn.specs.Spelling.{spelling}
 use Rattle.sb_insn.specs.Grammar.{IsValid, BeginsWith}
@@ -9,13 +9,12 @@ use Rattle.sb_rewrite.specs.declared.refusal.RewriteRefusal.TheVariants.{Undecod
 use Rattle.sb_rewrite.specs.declared.target.Jump.{Jump}
 use Rattle.sb_rewrite.specs.Listing.{text_address, IsUndecodedAt}
 use Rattle.sb_rewrite.specs.Target.{direct_target}
-use Rattle.sb_abi.specs.declared.space.TheConstants.{TEXT_ADDRESS, WINDOW_PAGES}
-use Rattle.sb_memory.specs.declared.page.TheConstants.{PAGE_SIZE}
-use Rattle.sb_forms.specs.Places.{IsPermitted}
+use Rattle.sb_abi.specs.declared.space.TheConstants.{TEXT_ADDRESS}
+use Rattle.sb_forms.specs.Places.{text_end, IsPermitted, text_end}
 use Rattle.sb_forms.specs.declared.answer.Form.{Form}
 use Rattle.sb_forms.specs.declared.answer.Form.TheVariants as form
-use Rattle.sb_rewrite.specs.Placing.{Placement, area_address}
-use Rattle.sb_rewrite.specs.Output.{Output, output, starts_of, text_bytes, area_bytes, edits_of, moves_of}
+use Rattle.sb_rewrite.specs.Placing.{Placement, area_address, place}
+use Rattle.sb_rewrite.specs.RewrittenText.{RewrittenText, rewritten_text, starts_of, text_bytes, area_bytes, edits_of, moves_of}
 use Rattle.sb_rewrite.specs.Rewriting.{HasBadTarget, IsUnmovable, EndsBehindArea, NoneOf, IsFirstAt, ArePlaces, LeadsWell, FitsArea, IsFree, IsLeftAt}
 
 -- ---- an instruction
@@ -36,7 +35,7 @@ DecodesFirst text rest (Err refusal) =
 pub record IsTextInsn (text_insn : TextInsn) : Type 0 where
   pub valid : IsValid text_insn.insn
   pub bytes : text_insn.bytes.now ≡ spelling text_insn.insn
-  pub here : text_insn.at ≤ 0x600000
+  pub here : text_insn.at ≤ text_end
 
 -- ---- what stands in its place
 
@@ -50,20 +49,24 @@ abbrev pub moved : List ℕ → List ℕ → List ℕ → Form
 moved pre main post = form.Moved pre main post
 
 -- nothing is put yet
-abbrev pub started : Output
+abbrev pub started : RewrittenText
 started = record { text = []; area = []; starts = []; edits = []; moves = [] }
 
 -- an instruction with this in its place, and the slot that comes next
-abbrev pub next_place : Output → Insn → ℕ → Form → Placement
+abbrev pub next_place : RewrittenText → Insn → ℕ → Form → Placement
 next_place old insn at form = record { insn = insn; at = at; slot = area_address + length old.area; form = form }
 
+-- an instruction of a text with what the table of forms puts in its place, and the slot that comes next
+abbrev pub place_by_table : List ℕ → RewrittenText → TextInsn → Placement
+place_by_table text old text_insn = place text text_insn.at (area_address + length old.area) text_insn.insn
+
 -- one more instruction starts
-abbrev pub with_start : Output → ℕ → Output
+abbrev pub with_start : RewrittenText → ℕ → RewrittenText
 with_start old at =
     record { text = old.text; area = old.area; starts = old.starts ++ at ∷ []; edits = old.edits; moves = old.moves }
 
 -- what stands in its place is put
-abbrev pub with_place : Output → Placement → Output
+abbrev pub with_place : RewrittenText → Placement → RewrittenText
 with_place old place = record {
   text = old.text ++ text_bytes place;
   area = old.area ++ area_bytes place;
@@ -72,7 +75,7 @@ with_place old place = record {
   moves = old.moves ++ moves_of place;
 }
 
-abbrev pub Puts : Output → Output → Placement → Result (Unit {0}) RewriteRefusal → Type 0
+abbrev pub Puts : RewrittenText → RewrittenText → Placement → Result (Unit {0}) RewriteRefusal → Type 0
 Puts old new place (Ok done) = ¬ IsUnmovable place × ¬ EndsBehindArea place × (new ≡ with_place old place)
 Puts old new place (Err (Undecoded at)) = ⊥
 Puts old new place (Err (BadTarget at)) = ⊥
@@ -85,7 +88,7 @@ Puts old new place (Err Memory) = Unit {0}
 
 -- an address that a text can have
 abbrev pub is_in_text : ℕ → Bool
-is_in_text address = nat_le TEXT_ADDRESS address && nat_lt address (TEXT_ADDRESS + WINDOW_PAGES * PAGE_SIZE)
+is_in_text address = nat_le TEXT_ADDRESS address && nat_lt address text_end
 
 -- there is a target, and it is neither such an address nor in the trampoline
 abbrev pub IsFar : Option ℕ → Type 0
@@ -100,16 +103,24 @@ jumps_to at (Some target) = if is_in_text target then record { at = at; target =
 -- a jump that leads into the text is remembered, and one that leads far away is refused
 abbrev pub Remembers : List Jump → List Jump → TextInsn → Result (Unit {0}) RewriteRefusal → Type 0
 Remembers old new text_insn (Ok done) =
-    ¬ IsFar (direct_target text_insn.insn text_insn.at) × (new ≡ old ++ jumps_to text_insn.at (direct_target text_insn.insn text_insn.at))
+    ¬ IsFar (direct_target text_insn.insn text_insn.at)
+    × (new ≡ old ++ jumps_to text_insn.at (direct_target text_insn.insn text_insn.at))
 Remembers old new text_insn (Err (BadTarget at)) = IsFar (direct_target text_insn.insn text_insn.at)
 Remembers old new text_insn (Err Memory) = Unit {0}
-Remembers old new text_insn (Err _) = ⊥
+Remembers old new text_insn (Err (Undecoded at)) = ⊥
+Remembers old new text_insn (Err (Unmovable at)) = ⊥
+Remembers old new text_insn (Err (AreaFull at)) = ⊥
+Remembers old new text_insn (Err (Left at)) = ⊥
 
 -- all remembered jumps lead to starts, or one does not
 abbrev pub ChecksJumps : List Jump → List ℕ → Result (Unit {0}) RewriteRefusal → Type 0
 ChecksJumps jumps starts (Ok done) = All (λ jump. Contains starts jump.target) jumps
 ChecksJumps jumps starts (Err (BadTarget at)) = (jump : Jump) × Contains jumps jump × ¬ Contains starts jump.target
-ChecksJumps jumps starts (Err _) = ⊥
+ChecksJumps jumps starts (Err (Undecoded at)) = ⊥
+ChecksJumps jumps starts (Err (Unmovable at)) = ⊥
+ChecksJumps jumps starts (Err (AreaFull at)) = ⊥
+ChecksJumps jumps starts (Err (Left at)) = ⊥
+ChecksJumps jumps starts (Err Memory) = ⊥
 
 -- ---- a whole text
 
@@ -124,7 +135,11 @@ IsFirstOf Holds text at = (of_text : List Placement) × ArePlaces text of_text �
 abbrev pub ChecksTargets : List ℕ → Result (Unit {0}) RewriteRefusal → Type 0
 ChecksTargets text (Ok done) = JumpsLeadWell text
 ChecksTargets text (Err (BadTarget at)) = IsFirstOf (λ of_text. HasBadTarget (starts_of of_text)) text at
-ChecksTargets text (Err _) = ⊥
+ChecksTargets text (Err (Undecoded at)) = ⊥
+ChecksTargets text (Err (Unmovable at)) = ⊥
+ChecksTargets text (Err (AreaFull at)) = ⊥
+ChecksTargets text (Err (Left at)) = ⊥
+ChecksTargets text (Err Memory) = ⊥
 
 -- something can stand in place of each instruction of the text
 abbrev pub AllMovable : List ℕ → Type 0
@@ -133,11 +148,15 @@ AllMovable text = (of_text : List Placement) × ArePlaces text of_text × NoneOf
 abbrev pub ChecksMovable : List ℕ → Result (Unit {0}) RewriteRefusal → Type 0
 ChecksMovable text (Ok done) = AllMovable text
 ChecksMovable text (Err (Unmovable at)) = IsFirstOf (λ of_text. IsUnmovable) text at
-ChecksMovable text (Err _) = ⊥
+ChecksMovable text (Err (Undecoded at)) = ⊥
+ChecksMovable text (Err (BadTarget at)) = ⊥
+ChecksMovable text (Err (AreaFull at)) = ⊥
+ChecksMovable text (Err (Left at)) = ⊥
+ChecksMovable text (Err Memory) = ⊥
 
 -- What stands in place of the instructions, where it all can be put.
-abbrev pub IsAllPut : List ℕ → Output → Type 0
-IsAllPut text draft = (of_text : List Placement) × ArePlaces text of_text × FitsArea of_text × (draft ≡ output of_text)
+abbrev pub IsAllPut : List ℕ → RewrittenText → Type 0
+IsAllPut text draft = (of_text : List Placement) × ArePlaces text of_text × FitsArea of_text × (draft ≡ rewritten_text of_text)
 
 -- Why it cannot. Another cause may come first: what stands behind the address was not looked at.
 abbrev pub IsPutRefusal : List ℕ → RewriteRefusal → Type 0
@@ -148,13 +167,13 @@ IsPutRefusal text (AreaFull at) = (of_text : List Placement) → ArePlaces text 
 IsPutRefusal text (Left at) = ⊥
 IsPutRefusal text Memory = Unit {0}
 
-abbrev pub PutsAll : List ℕ → Result Output RewriteRefusal → Type 0
+abbrev pub PutsAll : List ℕ → Result RewrittenText RewriteRefusal → Type 0
 PutsAll text (Ok draft) = IsAllPut text draft
 PutsAll text (Err refusal) = IsPutRefusal text refusal
 
 -- ---- what was made
 
 -- the first address at which the bytes of VMFUNC stand, None where they stand nowhere
-abbrev pub IsFirstLeft : Output → Option ℕ → Type 0
+abbrev pub IsFirstLeft : RewrittenText → Option ℕ → Type 0
 IsFirstLeft made (Some at) = IsLeftAt made at
 IsFirstLeft made None = IsFree made

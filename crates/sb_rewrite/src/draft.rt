@@ -4,9 +4,11 @@ ghost use Rattle.std.specs.Prelude.{◌≡◌, ◌+◌, ◌-◌, ◌≤◌, ◌+
 ghost use Rattle.sb_insn.specs.Spelling.{spelling};
 ghost use Rattle.sb_forms.specs.Pieces.{jump_insn};
 ghost use Rattle.sb_forms.specs.Answers.{HasRoom, FitsSlot};
+ghost use Rattle.sb_forms.specs.Answers.{area_end};
+ghost use Rattle.sb_forms.specs.Places.{text_end};
 ghost use Rattle.sb_rewrite.specs.Listing.{text_address};
-ghost use Rattle.sb_rewrite.specs.Placing.{area_address, area_end};
-ghost use Rattle.sb_rewrite.specs.Output.{IsOrdered};
+ghost use Rattle.sb_rewrite.specs.Placing.{area_address};
+ghost use Rattle.sb_rewrite.specs.RewrittenText.{IsOrdered};
 ghost use Rattle.sb_rewrite.specs.Turns.{IsTextInsn, started, keep, moved, in_place, next_place, with_start, Puts, IsFirstLeft};
 
 use crate::edit::{Edit, Move};
@@ -37,21 +39,29 @@ pub struct Draft {
 
 impl Model for Draft {
     ghost use Rattle.std.specs.Prelude.{◌≤◌, length};
-    ghost use Rattle.sb_rewrite.specs.Output.{Output};
+    ghost use Rattle.sb_rewrite.specs.declared.draft.TheConstants.{AREA_SIZE};
+    ghost use Rattle.sb_rewrite.specs.RewrittenText.{RewrittenText};
 
-    ghost Value = { Output };
+    ghost Value = { RewrittenText };
 
-    ghost view = { λ draft. record { text = draft.text.items; area = draft.area.items; starts = draft.starts; edits = draft.edits.items; moves = draft.moves.items } };
+    ghost view = { λ draft. record {
+      text = draft.text.items;
+      area = draft.area.items;
+      starts = draft.starts;
+      edits = draft.edits.items;
+      moves = draft.moves.items;
+    } };
 
-    ghost invariant = { λ draft. length draft.area.items ≤ 0x10000 };
+    ghost invariant = { λ draft. length draft.area.items ≤ AREA_SIZE };
 }
 
 /// Puts the jump to a slot into a text, and NOPs for the further bytes of the instruction.
 fn put_jump(text: &mut Vec<u8>, from: u64, to: u64, length: usize) -> Result<(), AllocError>
-    requires from { from ≤ 0x600000 }
-    requires to { to ≤ 0x11000 }
+    requires from { from ≤ text_end }
+    requires to { to ≤ area_end }
     requires room { 5 ≤ length }
-    ensures { IfOk result (λ done. text.new.items ≡ text.old.items ++ (spelling (jump_insn from to) ++ replicate (length - 5) 0x90)) }
+    ensures { IfOk result (λ done. text.new.items
+        ≡ text.old.items ++ (spelling (jump_insn from to) ++ replicate (length - 5) 0x90)) }
 {
     text.extend_from_slice(jump_code(from, to).bytes())?;
     put_nops(text, length - 5)
@@ -116,7 +126,8 @@ impl Draft {
         requires text_insn { IsTextInsn text_insn.now }
         requires jump { 5 ≤ length text_insn.now.bytes.now }
         requires slot { FitsSlot pre.now main.now post.now }
-        ensures { Puts self.old self.new (next_place self.old text_insn.now.insn text_insn.now.at (moved pre.now main.now post.now)) result }
+        ensures { Puts self.old self.new
+            (next_place self.old text_insn.now.insn text_insn.now.at (moved pre.now main.now post.now)) result }
     {
         let slot = self.next_slot();
         let before = pre.bytes().len();

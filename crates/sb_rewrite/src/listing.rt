@@ -63,7 +63,7 @@ impl Listing {
 ///
 /// # Errors
 ///
-/// `Undecoded` exactly where whole instructions spell a text_insn of the text, and behind it something is left with which
+/// `Undecoded` exactly where whole instructions spell a beginning of the text, and behind it something is left with which
 /// no whole instruction begins; `Memory` where memory ran out, in place of any answer, and where the text goes on behind the
 /// addresses of 32 bits.
 pub fn list(alloc: Global, text: &[u8]) -> Result<Listing, ListRefusal>

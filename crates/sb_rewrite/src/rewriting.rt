@@ -4,8 +4,8 @@ ghost use Rattle.std.specs.Prelude.{◌≡◌, ◌+◌, ◌<◌, ◌≤◌, IfOk
 ghost use Rattle.sb_forms.specs.Answers.{IsClean};
 ghost use Rattle.sb_forms.specs.Places.{HasForm};
 ghost use Rattle.sb_rewrite.specs.Listing.{text_address, IsListing};
-ghost use Rattle.sb_rewrite.specs.Placing.{place, area_address, is_after_0f};
-ghost use Rattle.sb_rewrite.specs.Turns.{IsTextInsn, JumpsLeadWell, ChecksTargets, ChecksMovable, with_start, Puts, IsPutRefusal, PutsAll};
+ghost use Rattle.sb_rewrite.specs.Placing.{is_after_0f};
+ghost use Rattle.sb_rewrite.specs.Turns.{IsTextInsn, JumpsLeadWell, ChecksTargets, ChecksMovable, with_start, place_by_table, Puts, IsPutRefusal, PutsAll};
 ghost use Rattle.sb_rewrite.specs.Rewriting.{Rewrites, KeepsLength, StartsStandInText, OneRewriting, OneOriginal};
 
 use crate::draft::Draft;
@@ -74,7 +74,7 @@ fn put_form(draft: &mut Draft, text: &[u8], text_insn: TextInsn) -> Result<(), R
     requires text_insn { IsTextInsn text_insn }
     requires form { HasForm text_insn.insn }
     requires within { (text_address ≤ text_insn.at) × (text_insn.at < text_address + length text.now) }
-    ensures { Puts draft.old draft.new (place text.now text_insn.at (area_address + length draft.old.area) text_insn.insn) result }
+    ensures { Puts draft.old draft.new (place_by_table text.now draft.old text_insn) result }
 {
     let after_0f = is_after_0f(text, text_insn.at);
     let form = form(&text_insn.insn, text_insn.at, draft.next_slot(), after_0f);
@@ -88,7 +88,7 @@ fn put_text_insn(draft: &mut Draft, text: &[u8], text_insn: &TextInsn) -> Result
     requires text_insn { IsTextInsn text_insn.now }
     requires form { HasForm text_insn.now.insn }
     requires within { (text_address ≤ text_insn.now.at) × (text_insn.now.at < text_address + length text.now) }
-    ensures { Puts (with_start draft.old text_insn.now.at) draft.new (place text.now text_insn.now.at (area_address + length draft.old.area) text_insn.now.insn) result }
+    ensures { Puts (with_start draft.old text_insn.now.at) draft.new (place_by_table text.now draft.old text_insn.now) result }
 {
     draft.start(text_insn.at)?;
     // ADD ESP, EDX ends with this byte too, so an instruction without it is kept.

@@ -1,7 +1,7 @@
 //! A text that was rewritten.
 
 ghost use Rattle.std.specs.Prelude.{◌≡◌, ◌↔◌, IsTrue, Contains, List, ℕ};
-ghost use Rattle.sb_rewrite.specs.Output.{IsOrdered, IsMoved, IsInPlace, IsMovedTo, IsOriginal, made_of};
+ghost use Rattle.sb_rewrite.specs.RewrittenText.{IsOrdered, IsMoved, IsInPlace, IsMovedTo, IsOriginal, text_from_parts};
 
 use crate::edit::{Edit, Edits, Move};
 use crate::starts::Starts;
@@ -18,13 +18,25 @@ pub struct Rewritten {
 }
 
 impl Model for Rewritten {
-    ghost use Rattle.sb_rewrite.specs.Output.{Output, IsOrdered};
+    ghost use Rattle.sb_rewrite.specs.RewrittenText.{RewrittenText, IsOrdered};
 
-    ghost Value = { Output };
+    ghost Value = { RewrittenText };
 
-    ghost view = { λ made. record { text = made.text.items; area = made.area.items; starts = made.starts; edits = made.edits; moves = made.moves.items } };
+    ghost view = { λ made. record {
+      text = made.text.items;
+      area = made.area.items;
+      starts = made.starts;
+      edits = made.edits;
+      moves = made.moves.items;
+    } };
 
-    ghost invariant = { λ made. IsOrdered (record { text = made.text.items; area = made.area.items; starts = made.starts; edits = made.edits; moves = made.moves.items }) };
+    ghost invariant = { λ made. IsOrdered (record {
+      text = made.text.items;
+      area = made.area.items;
+      starts = made.starts;
+      edits = made.edits;
+      moves = made.moves.items;
+    }) };
 }
 
 impl Rewritten {
@@ -36,8 +48,8 @@ impl Rewritten {
         edits: Vec<Edit>,
         moves: Vec<Move>,
     ) -> Rewritten
-        requires { IsOrdered (made_of text.items area.items starts edits.items moves.items) }
-        ensures { result ≡ made_of text.items area.items starts edits.items moves.items }
+        requires { IsOrdered (text_from_parts text.items area.items starts edits.items moves.items) }
+        ensures { result ≡ text_from_parts text.items area.items starts edits.items moves.items }
     {
         Rewritten {
             text,

@@ -1,7 +1,8 @@
 //! Where a direct jump or call may lead.
 
 ghost use Rattle.std.specs.Prelude.{◌≡◌, ◌↔◌, IsTrue};
-ghost use Rattle.sb_rewrite.specs.Target.{InTrampoline, IsBadTarget};
+ghost use Rattle.sb_forms.specs.Places.{IsInTrampoline};
+ghost use Rattle.sb_rewrite.specs.Target.{IsBadTarget};
 ghost use Rattle.sb_rewrite.specs.Turns.{is_in_text, Remembers, ChecksJumps};
 
 use crate::listing::Listing;
@@ -23,7 +24,7 @@ pub(crate) struct Jump {
 /// Whether the address is in the trampoline page, to which any text may jump.
 #[inline(always)]
 fn is_in_trampoline(target: u64) -> bool
-    ensures { IsTrue result ↔ InTrampoline target }
+    ensures { IsTrue result ↔ IsInTrampoline target }
 {
     TRAMPOLINE_ADDRESS <= target && target < TRAMPOLINE_ADDRESS + PAGE_SIZE
 }

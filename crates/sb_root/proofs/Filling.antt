@@ -5,9 +5,9 @@ use Rattle.std.proofs.lemmas.Bool.{cases_lt, eqb-true, eqb-false}
 use Rattle.std.proofs.lemmas.Grind.{common_steps}
 use Rattle.sb_memory.specs.Physical.{Physical, HasSize, HoldsBytes, frame_of, frame_count}
 use Rattle.sb_memory.specs.Reading.{with_bytes}
-use Rattle.sb_memory.specs.Words.{word_at, put_word, words_put, clear_frame, zeros}
+use Rattle.sb_memory.specs.Words.{word_at, put_word, put_words, clear_frame, zeros}
 use Rattle.sb_memory.proofs.Words.{word_of_cleared, word_read_back, word_elsewhere, length_zeros}
-use Rattle.sb_memory.proofs.Pages.{length_words_put, words_put_next, cleared_holds, word_holds}
+use Rattle.sb_memory.proofs.Pages.{length_put_words, put_words_next, cleared_holds, word_holds}
 use Rattle.std.specs.List.{Contains}
 use Rattle.std.proofs.lemmas.List.Elements.{Contains-get_or}
 use Rattle.sb_memory.specs.Changes.{SameOutside}
@@ -96,7 +96,7 @@ put_next old memory new frame count place words here is size inside filled small
 
 -- zeros with the words before an index put at their start
 abbrev pub first_bytes : ℕ → List ℕ → List ℕ
-first_bytes count words = words_put (zeros 4096) 0 (take count words)
+first_bytes count words = put_words (zeros 4096) 0 (take count words)
 
 -- the same memory and the same page
 holds_same : (memory new : Physical) (frame : ℕ) (page other : List ℕ) → new ≡ memory → other ≡ page
@@ -124,8 +124,8 @@ bytes_next memory new frame count place words here is size inside within small h
     let start : 0 + 8 * count ≡ 8 * count = omega arith in
     let next : first_bytes (count + 1) words ≡ put_word page (8 * count) word =
     ap (λ (n : ℕ). first_bytes n words) one_more
-    ∙ (words_put_next words (zeros 4096) 0 count within ∙ ap (λ (at : ℕ). put_word page at word) start) in
-    let length_page : length page ≡ 4096 = length_words_put (take count words) (zeros 4096) 0 ∙ length_zeros 4096 in
+    ∙ (put_words_next words (zeros 4096) 0 count within ∙ ap (λ (at : ℕ). put_word page at word) start) in
+    let length_page : length page ≡ 4096 = length_put_words (take count words) (zeros 4096) 0 ∙ length_zeros 4096 in
     holds_same _ new frame _ (first_bytes (count + 1) words) written next
     (word_holds memory page frame (8 * count) word size inside (omega arith) length_page holds)
 

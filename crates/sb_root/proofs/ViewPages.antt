@@ -4,7 +4,7 @@ use Rattle.std.specs.List.{Contains}
 use Rattle.std.proofs.lemmas.List.Elements.{Contains-get_or}
 use Rattle.sb_memory.specs.Physical.{Physical, HasSize, HoldsBytes, frame_count}
 use Rattle.sb_memory.specs.Reading.{with_bytes}
-use Rattle.sb_memory.specs.Words.{clear_frame, words_put, zeros}
+use Rattle.sb_memory.specs.Words.{clear_frame, put_words, zeros}
 use Rattle.sb_memory.specs.Changes.{SameOutside}
 use Rattle.sb_memory.proofs.Changes.{same_outside_then, same_outside_cleared}
 use Rattle.sb_memory.proofs.Words.{byte_of_cleared}
@@ -97,7 +97,7 @@ view_written view words old upper lowest full new entries written inside differe
 
 -- the bytes of the record page
 pub bytes_written : (view : View) (words : RecordWords) (full new : Physical) (written : List ℕ) → AreDifferent (view_frames view)
-    → written ≡ words_of words → HoldsBytes full view.record_page.0 (words_put (zeros 4096) 0 written)
+    → written ≡ words_of words → HoldsBytes full view.record_page.0 (put_words (zeros 4096) 0 written)
     → new ≡ with_bytes full (clear_frame full.bytes view.scratch_page.0) → HoldsBytes new view.record_page.0 (record_bytes words)
 unfolding record_bytes
 bytes_written view words full new written different is_words holds is =
@@ -105,6 +105,6 @@ bytes_written view words full new written different is_words holds is =
     let same : SameOutside (scratch ∷ []) full new =
     subst (SameOutside (scratch ∷ []) full) (sym is)
     (same_outside_cleared (scratch ∷ []) full scratch (Contains-get_or (scratch ∷ []) 0 0 (omega arith))) in
-    holds_outside (scratch ∷ []) full new view.record_page.0 (words_put (zeros 4096) 0 (words_of words)) same
+    holds_outside (scratch ∷ []) full new view.record_page.0 (put_words (zeros 4096) 0 (words_of words)) same
     (not_one _ _ (different 4 5 (omega arith) (omega arith) (omega arith)))
-    (subst (λ (list : List ℕ). HoldsBytes full view.record_page.0 (words_put (zeros 4096) 0 list)) is_words holds)
+    (subst (λ (list : List ℕ). HoldsBytes full view.record_page.0 (put_words (zeros 4096) 0 list)) is_words holds)

@@ -1,8 +1,11 @@
 -- What calls of a root kernel take and change.
 use Rattle.std.specs.Prelude.{ℕ, ◌≡◌, ◌+◌, ◌<◌, ◌≤◌, ◌⊎◌, Bool, true, None, Some, List, [], ◌∷◌, length, get_or}
 use Rattle.std.specs.List.{Contains}
+use Rattle.sb_abi.specs.declared.frames.TheConstants.{VIEW_FRAMES}
 use Rattle.sb_memory.specs.Physical.{Physical, HoldsBytes, frame_of}
 use Rattle.sb_memory.specs.Changes.{SameOutside}
+use Rattle.sb_memory.specs.Reading.{with_bytes}
+use Rattle.sb_memory.specs.Words.{put_word}
 use Rattle.sb_memory.specs.declared.address.Frame.{Frame}
 use Rattle.sb_walks.specs.Entry.{entry_in}
 use Rattle.sb_frames.specs.Book.{Book, IsInBook, holder, with_holder, free_count}
@@ -52,6 +55,11 @@ pub record IsAddedList (root root' : RootKernel) (book book' : Book) (old new : 
   pub same : SameOutside (frame.0 ∷ []) old new
   pub rights : SameRights old new
 
+-- the entry of a thread's list at an index was set to a word, and no other byte was changed
+abbrev pub SetsEntry : RootKernel → Physical → Physical → ℕ → ℕ → ℕ → Type 0
+SetsEntry root old new thread index word = (list : Frame) → eptp_list_frame root thread ≡ Some list
+    → new ≡ with_bytes old (put_word old.bytes (entry_in list.0 index) word)
+
 -- a thread got a view at its lowest free index, in frames that were free
 pub record IsAddedView (root root' : RootKernel) (book book' : Book) (old new : Physical) (thread : ℕ) (home target : Frame)
     (words : RecordWords) (server : Bool) (index : ℕ) (view : View) : Type 0 where
@@ -59,7 +67,7 @@ pub record IsAddedView (root root' : RootKernel) (book book' : Book) (old new : 
   pub shows : (view.home_root ≡ home) × (view.target_root ≡ target) × (view.server ≡ server) × (view.listed ≡ true)
   pub free : (frame : ℕ) → Contains (view_frames view) frame → IsFree book frame
   pub taken : book' ≡ with_parts book thread 0 (view_frames view)
-  pub count : free_count book' + 6 ≡ free_count book
+  pub count : free_count book' + VIEW_FRAMES ≡ free_count book
   pub kept : root' ≡ with_view root thread index view
   pub answers : IsViewOf new view (eptp_of_view view)
   pub record_page : IsPage new view.record_page.0 (from_start (words_of words))

@@ -5,3 +5,4 @@ pub mod Standing
 pub mod Answers
 pub mod Calls
 pub mod Switch
+pub mod Laws

@@ -1,5 +1,6 @@
 -- What a root kernel keeps: for each thread the frame of its list, and for each of its indices a view.
 use Rattle.std.specs.Prelude.{ℕ, ◌≡◌, ◌≢◌, ◌<◌, ◌==◌, Bool, true, false, Option, None, Some, List, [], ◌∷◌, length, replicate, get_or, slice_set, if◌then◌else◌}
+use Rattle.sb_abi.specs.declared.space.TheConstants.{WINDOW_THREADS, MAX_VIEWS}
 use Rattle.sb_memory.specs.declared.address.Frame.{Frame}
 use Rattle.sb_frames.specs.declared.kind.Kind.{Kind}
 use Rattle.sb_frames.specs.declared.kind.Kind.TheVariants.{EptTable, EptpList, RecordPage, ScratchPage}
@@ -7,11 +8,11 @@ use Rattle.sb_root.specs.declared.root_kernel.RootKernel.{RootKernel}
 use Rattle.sb_root.specs.declared.view.View.{View}
 use Rattle.sb_root.specs.Entry.{eptp_to}
 
--- there are 32 threads, with 16 indices each
+-- there are as many threads as the windows have room for, and an index for each view
 pub record IsShaped (root : RootKernel) : Type 0 where
-  pub lists : length root.lists ≡ 32
-  pub threads : length root.views ≡ 32
-  pub views : (thread : ℕ) → thread < 32 → length (get_or root.views thread []) ≡ 16
+  pub lists : length root.lists ≡ WINDOW_THREADS
+  pub threads : length root.views ≡ WINDOW_THREADS
+  pub views : (thread : ℕ) → thread < WINDOW_THREADS → length (get_or root.views thread []) ≡ MAX_VIEWS
 
 -- the frame of a thread's list
 abbrev pub eptp_list_frame : RootKernel → ℕ → Option Frame
@@ -47,17 +48,17 @@ list_entry root thread index = entry_of_index (view_of root thread index)
 
 -- the lowest index of a thread that is not set
 pub record IsLowestFree (root : RootKernel) (thread index : ℕ) : Type 0 where
-  pub inside : index < 16
+  pub inside : index < MAX_VIEWS
   pub free : is_listed (view_of root thread index) ≡ false
   pub lowest : (lower : ℕ) → lower < index → IsSet root thread lower
 
 -- a thread that has an index which is not set
 abbrev pub HasFreeIndex : RootKernel → ℕ → Type 0
-HasFreeIndex root thread = (index : ℕ) × (index < 16) × (is_listed (view_of root thread index) ≡ false)
+HasFreeIndex root thread = (index : ℕ) × (index < MAX_VIEWS) × (is_listed (view_of root thread index) ≡ false)
 
 -- a root kernel without lists and views
 abbrev pub no_threads : RootKernel
-no_threads = record { lists = replicate 32 None; views = replicate 32 (replicate 16 None) }
+no_threads = record { lists = replicate WINDOW_THREADS None; views = replicate WINDOW_THREADS (replicate MAX_VIEWS None) }
 
 -- with a list for a thread
 abbrev pub with_list : RootKernel → ℕ → Frame → RootKernel

@@ -1,6 +1,8 @@
 -- A root kernel whose tables and lists stand in a memory, and whose frames are taken in a book.
 use Rattle.std.specs.Prelude.{ℕ, ◌≡◌, ◌≢◌, ◌+◌, ◌<◌, ◌≤◌, ◌⊎◌, None, Some, List, length}
 use Rattle.std.specs.List.{Contains}
+use Rattle.sb_abi.specs.declared.frames.TheConstants.{KEPT_FRAMES}
+use Rattle.sb_abi.specs.declared.layout.TheConstants.{FIRST_ROOT, LAST_ROOT}
 use Rattle.sb_memory.specs.Physical.{Physical, frame_count}
 use Rattle.sb_memory.specs.declared.address.Frame.{Frame}
 use Rattle.sb_frames.specs.Book.{Book, holder}
@@ -11,7 +13,7 @@ use Rattle.sb_root.specs.Root.{IsShaped, Use, ListOf, PartOf, eptp_list_frame, v
 
 -- the frame of the root of a process's page tables
 abbrev pub IsRootFrame : ℕ → Type 0
-IsRootFrame frame = (16 ≤ frame) × (frame < 32)
+IsRootFrame frame = (FIRST_ROOT ≤ frame) × (frame < LAST_ROOT + 1)
 
 -- the tables of a view stand in a memory
 pub record HasView (memory : Physical) (view : View) : Type 0 where
@@ -29,13 +31,14 @@ pub record Stands (root : RootKernel) (memory : Physical) : Type 0 where
       → IsPage memory frame.0 (list_entry root thread)
   pub views : (thread index : ℕ) (view : View) → view_of root thread index ≡ Some view → HasView memory view
   pub listed : (thread index : ℕ) (view : View) → view_of root thread index ≡ Some view → eptp_list_frame root thread ≢ None
-  pub inside : (purpose : Use) (frame : ℕ) → used_frame root purpose ≡ Some frame → (512 ≤ frame) × (frame < frame_count memory)
+  pub inside : (purpose : Use) (frame : ℕ) → used_frame root purpose ≡ Some frame
+      → (KEPT_FRAMES ≤ frame) × (frame < frame_count memory)
   pub apart : (first second : Use) (frame : ℕ) → used_frame root first ≡ Some frame → used_frame root second ≡ Some frame
       → first ≡ second
 
 -- the frames of a root kernel are taken in the book of the memory, each for its use and by its thread
 pub record IsBooked (root : RootKernel) (book : Book) (memory : Physical) : Type 0 where
-  pub size : length book + 512 ≡ frame_count memory
+  pub size : length book + KEPT_FRAMES ≡ frame_count memory
   pub held : (purpose : Use) (frame : ℕ) → used_frame root purpose ≡ Some frame
       → holder book frame ≡ Some (kind_for purpose, owner_for purpose)
 

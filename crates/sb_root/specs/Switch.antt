@@ -23,7 +23,8 @@ switch_result memory list eax ecx =
 -- an EPT pointer, where the processor goes on with one
 abbrev pub HasPointer : Switch → Type 0
 HasPointer (To eptp) = IsTrue (is_eptp eptp)
-HasPointer _ = Unit {0}
+HasPointer Unbound = Unit {0}
+HasPointer BadLeaf = Unit {0}
 
 -- the places of the words that are read for it
 unfoldable pub switch_reads : ℕ → ℕ → ℕ → List ℕ

@@ -15,14 +15,19 @@ const LIST_ENTRIES: u32 = 512;
 /// What VMFUNC does with these registers, by the list that stands in a frame.
 ///
 /// `BadLeaf` comes exactly where EAX is not 0. `Unbound` comes exactly where EAX is 0 and ECX is 512 or more, or the entry is
-/// no EPT pointer. `Missing` comes exactly where the entry would be read and the list's frame is not there.
+/// no EPT pointer.
+///
+/// # Errors
+///
+/// `Missing` comes exactly where the entry would be read and the list's frame is not there.
 #[tactic(auto, unfolding(crate::specs::Switch::switch_result, crate::specs::Switch::switch_reads))]
 pub fn switch<P: Phys>(phys: &mut P, list: Frame, eax: u32, ecx: u32) -> Result<Switch, Missing>
     requires { list.0 < frame_count (P.meaning phys.old) }
     ensures answer { result ≡ switch_result (P.meaning phys.old) list.0 eax ecx }
     ensures pointer { IfOk result HasPointer }
     ensures same { P.meaning phys.new ≡ P.meaning phys.old }
-    ensures account { P.account phys.new ≡ account_after_words P.rule (P.meaning phys.old) (switch_reads list.0 eax ecx) (P.account phys.old) }
+    ensures account { P.account phys.new
+        ≡ account_after_words P.rule (P.meaning phys.old) (switch_reads list.0 eax ecx) (P.account phys.old) }
     ensures kept { P.kept phys.new ≡ P.kept phys.old }
 {
     if eax != 0 {

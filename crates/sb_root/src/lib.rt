@@ -17,7 +17,7 @@
 
 mod entry;
 mod eptp_switch;
-mod law;
+mod laws;
 mod page;
 mod root_kernel;
 mod switch_answer;
@@ -25,8 +25,9 @@ mod tables;
 mod taking;
 mod view;
 
+pub use entry::{RIGHT_EXECUTE, RIGHT_READ, RIGHT_READ_WRITE};
 pub use eptp_switch::switch;
-pub use law::{
+pub use laws::{
     base_answers, lists_lead_to_views, roots_keep_apart, views_answer, walks_read_tables,
 };
 pub use root_kernel::{NoFrames, RootKernel};

@@ -4,7 +4,7 @@ ghost use Rattle.std.specs.Prelude.{◌≡◌, ◌<◌, ◌≤◌, [], ◌∷◌
 ghost use Rattle.sb_memory.specs.declared.page.TheConstants.{PAGE_SIZE};
 ghost use Rattle.sb_memory.specs.Physical.{HasSize, HoldsBytes, frame_count};
 ghost use Rattle.sb_memory.specs.Changes.{SameOutside};
-ghost use Rattle.sb_memory.specs.Words.{words_put, zeros};
+ghost use Rattle.sb_memory.specs.Words.{put_words, zeros};
 ghost use Rattle.sb_root.specs.Tables.{IsPage, from_start};
 
 use sb_memory::{Frame, Memory};
@@ -14,7 +14,7 @@ pub fn put_page(memory: &mut Memory, frame: Frame, words: &[u64])
     requires inside { frame.0 < frame_count memory.old }
     requires fits { length words.now ≤ 512 }
     ensures page { IsPage memory.new frame.0 (from_start words.now) }
-    ensures bytes { HoldsBytes memory.new frame.0 (words_put (zeros PAGE_SIZE) 0 words.now) }
+    ensures bytes { HoldsBytes memory.new frame.0 (put_words (zeros PAGE_SIZE) 0 words.now) }
     ensures size { HasSize memory.new }
     ensures same { SameOutside (frame.0 ∷ []) memory.old memory.new }
 {

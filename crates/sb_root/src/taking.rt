@@ -2,6 +2,7 @@
 
 ghost use Rattle.std.specs.Prelude.{ℕ, ◌≡◌, ◌+◌, ◌≤◌, true};
 ghost use Rattle.std.specs.List.{Contains};
+ghost use Rattle.sb_abi.specs.declared.frames.TheConstants.{VIEW_FRAMES};
 ghost use Rattle.sb_frames.specs.Book.{free_count};
 ghost use Rattle.sb_root.specs.Root.{AreDifferent, view_frames};
 ghost use Rattle.sb_root.specs.Calls.{IsFree, with_parts};
@@ -19,7 +20,7 @@ pub fn take_view(
     target_root: Frame,
     server: bool,
 ) -> View
-    requires { 6 ≤ free_count book.old }
+    requires { VIEW_FRAMES ≤ free_count book.old }
     ensures home { result.home_root ≡ home_root }
     ensures target { result.target_root ≡ target_root }
     ensures server { result.server ≡ server }
@@ -27,7 +28,7 @@ pub fn take_view(
     ensures different { AreDifferent (view_frames result) }
     ensures free { (frame : ℕ) → Contains (view_frames result) frame → IsFree book.old frame }
     ensures taken { book.new ≡ with_parts book.old thread 0 (view_frames result) }
-    ensures count { free_count book.new + 6 ≡ free_count book.old }
+    ensures count { free_count book.new + VIEW_FRAMES ≡ free_count book.old }
 {
     let owner = u32::from(thread);
     let root = book.take_free(Kind::EptTable, owner);

@@ -1,6 +1,7 @@
 //! Views: EPTs that equal the base but for four pages.
 
-ghost use Rattle.std.specs.Prelude.{ℕ, ◌≡◌, ◌≢◌, ◌<◌, ◌≤◌, length, get_or};
+ghost use Rattle.std.specs.Prelude.{ℕ, ◌≡◌, ◌≢◌, ◌+◌, ◌<◌, ◌≤◌, length, get_or};
+ghost use Rattle.sb_abi.specs.declared.layout.TheConstants.{LAST_ROOT};
 ghost use Rattle.sb_memory.specs.Physical.{HasSize, HoldsBytes, frame_count};
 ghost use Rattle.sb_memory.specs.Changes.{SameOutside};
 ghost use Rattle.sb_tramp.specs.Record.{record_bytes, words_of};
@@ -11,19 +12,15 @@ ghost use Rattle.sb_root.specs.Calls.{IsZeroed};
 use crate::entry::{RIGHT_EXECUTE, RIGHT_READ, RIGHT_READ_WRITE, eptp, leaf};
 use crate::page::put_page;
 use crate::tables::ViewTables;
-use sb_abi::{FIRST_ROOT, HOME_TRAMPOLINE_FRAME, LAST_ROOT, SERVER_TRAMPOLINE_FRAME};
+use sb_abi::{
+    FIRST_ROOT, HOME_TRAMPOLINE_FRAME, LAST_ROOT, RECORD_GUEST_PAGE, SCRATCH_GUEST_PAGE,
+    SERVER_TRAMPOLINE_FRAME, TRAMPOLINE_GUEST_PAGE,
+};
 use sb_memory::{Frame, Memory};
 use sb_tramp::RecordWords;
 
 /// How many pages at the start of the guest-physical addresses the base and views map by entries of their own.
-const LOW_PAGES: usize = 32;
-
-/// The guest-physical page of the trampoline. It is also the frame of the home trampoline page.
-const TRAMPOLINE_GUEST_PAGE: u32 = 1;
-/// The guest-physical page of the view's record.
-const RECORD_GUEST_PAGE: u32 = 2;
-/// The guest-physical page of the view's scratch page.
-const SCRATCH_GUEST_PAGE: u32 = 3;
+const LOW_PAGES: usize = LAST_ROOT as usize + 1;
 
 /// A view of a thread, by its frames and by what it shows.
 #[derive(Clone, Copy, Debug, PartialEq, Eq)]
@@ -59,7 +56,7 @@ impl View {
     pub fn put(&self, memory: &mut Memory, words: &RecordWords)
         requires inside { (part : ℕ) → part < 6 → get_or (view_frames self.now) part 0 < frame_count memory.old }
         requires different { AreDifferent (view_frames self.now) }
-        requires home { self.now.home_root.0 < 32 }
+        requires home { self.now.home_root.0 < LAST_ROOT + 1 }
         ensures tables { HasTables memory.new self.now.tables (view_entries self.now) }
         ensures words { IsPage memory.new self.now.record_page.0 (from_start (words_of words.now)) }
         ensures record_bytes { HoldsBytes memory.new self.now.record_page.0 (record_bytes words.now) }
@@ -74,8 +71,8 @@ impl View {
     }
 
     /// The lowest entries of the pages that the view maps by entries of its own.
-    fn low_entries(&self) -> [u64; 32]
-        requires { self.now.home_root.0 < 32 }
+    fn low_entries(&self) -> [u64; LOW_PAGES]
+        requires { self.now.home_root.0 < LAST_ROOT + 1 }
         ensures { (page : ℕ) → get_or result page 0 ≡ view_entries self.now page }
     {
         let mut entries = [0; LOW_PAGES];
@@ -106,7 +103,7 @@ impl View {
 }
 
 /// The lowest entries of the pages that the base maps by entries of its own.
-pub fn base_entries() -> [u64; 32]
+pub fn base_entries() -> [u64; LOW_PAGES]
     ensures { (page : ℕ) → get_or result page 0 ≡ base_entries page }
 {
     let mut entries = [0; LOW_PAGES];

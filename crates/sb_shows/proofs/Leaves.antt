@@ -15,7 +15,7 @@ use Rattle.sb_walks.specs.declared.stop.NestedStop.{NestedStop}
 use Rattle.sb_walks.specs.declared.stop.NestedStop.TheVariants as nested
 use Rattle.sb_walks.specs.Ept.{ept_walk, phys_in}
 use Rattle.sb_walks.specs.Guest.{guest_entry_answer, address_in}
-use Rattle.sb_walks.specs.Nested.{mapped_answer, page_behind}
+use Rattle.sb_walks.specs.Nested.{memory_behind, page_behind}
 use Rattle.sb_pagewalk.specs.TableSet.{page_walked}
 use Rattle.sb_nested.specs.Stop.{stop_at, memory_fault}
 use Rattle.sb_root.specs.Entry.{entry_reached}
@@ -69,7 +69,7 @@ pub record IsBehind (memory : Physical) (eptp page frame : ℕ) (how : Mode) : T
 
 module _ (memory : Physical) (eptp page frame linear : ℕ) where
   abbrev after : Access → Result GuestPhys WalkStop → Result PhysAddr NestedStop
-  after one answer = page_behind (mapped_answer memory eptp) one answer
+  after one answer = page_behind (memory_behind memory eptp) one answer
 
   same_offset : phys_in (4096 * page + linear % 4096) frame ≡ phys_in linear frame
   same_offset = ap (λ (offset : ℕ). record { 0 = 4096 * frame + offset }) (omega arith)

@@ -5,13 +5,13 @@ use Rattle.sb_memory.specs.declared.address.Access.{Access}
 use Rattle.sb_bus.specs.declared.stop.BusStop.{BusStop}
 use Rattle.sb_state.specs.declared.page.PageName.{PageName}
 use Rattle.sb_state.specs.declared.page.Page.{Page}
-use Rattle.sb_state.specs.declared.page.Seen.{Seen}
+use Rattle.sb_state.specs.declared.page.SeenPage.{SeenPage}
 use Rattle.sb_state.specs.PageName.{permits}
 use Rattle.sb_state.specs.State.{State, find_page}
 use Rattle.sb_state.specs.Windows.{page_for}
 use Rattle.sb_state.specs.PlainMemory.{plain_byte, is_canonical}
-use Rattle.sb_state.specs.Reach.{reached, reached_as}
-use Rattle.sb_state.proofs.Reached.{byte_reached, byte_refused}
+use Rattle.sb_state.specs.NameForAccess.{name_for_access, name_if_permitted}
+use Rattle.sb_state.proofs.NameForAccess.{byte_reached, byte_refused}
 use Rattle.sb_bus.specs.Access.{byte_for, loaded_from}
 use Rattle.sb_bus.proofs.Loads.{loaded_none, loaded_stop, loaded_more}
 use Rattle.byteorder.specs.Endian.{little_from}
@@ -25,14 +25,14 @@ permits_by : (test : Bool) (name found : PageName) (stop other : BusStop)
 permits_by true name found stop other is = is
 permits_by false name found stop other is = cc
 
-seen_by : (seen : Option Seen) (address other : ℕ) (how : Access) (name : PageName)
-    → reached_as seen address how ≡ Ok name → reached_as seen other how ≡ Ok name
+seen_by : (seen : Option SeenPage) (address other : ℕ) (how : Access) (name : PageName)
+    → name_if_permitted seen address how ≡ Ok name → name_if_permitted seen other how ≡ Ok name
 seen_by None address other how name is = cc
 seen_by (Some page) address other how name is = permits_by (permits page.mode how) page.name name _ _ is
 
-canonical_by : (test : Bool) (seen : Option Seen) (address other : ℕ) (how : Access) (name : PageName) (stop again : BusStop)
-    → (if test then reached_as seen address how else Err stop) ≡ Ok name
-    → (if test then reached_as seen other how else Err again) ≡ Ok name
+canonical_by : (test : Bool) (seen : Option SeenPage) (address other : ℕ) (how : Access) (name : PageName) (stop again : BusStop)
+    → (if test then name_if_permitted seen address how else Err stop) ≡ Ok name
+    → (if test then name_if_permitted seen other how else Err again) ≡ Ok name
 canonical_by true seen address other how name stop again is = seen_by seen address other how name is
 canonical_by false seen address other how name stop again is = cc
 
@@ -42,9 +42,9 @@ same_canonical address other page =
 
 -- an access reaches the same page wherever in the page its address is
 pub reached_again : (thread view : ℕ) (state : State) (address other : ℕ) (how : Access) (name : PageName)
-    → other / 4096 ≡ address / 4096 → reached thread view state address how ≡ Ok name
-    → reached thread view state other how ≡ Ok name
-unfolding reached
+    → other / 4096 ≡ address / 4096 → name_for_access thread view state address how ≡ Ok name
+    → name_for_access thread view state other how ≡ Ok name
+unfolding name_for_access
 reached_again thread view state address other how name page is =
     rw (same_canonical address other page, page)
     (canonical_by (is_canonical address) (page_for state thread view (address / 4096)) address other how name _ _ is)
@@ -52,7 +52,8 @@ reached_again thread view state address other how name page is =
 -- a byte further on in the page
 pub byte_in_page : (thread view : ℕ) (state : State) (address count : ℕ) (how : Access) (name : PageName) (page : Page)
     → address < 2 ^ 64
-    → address % 4096 + count < 4096 → reached thread view state address how ≡ Ok name → find_page state.pages name ≡ Some page
+    → address % 4096 + count < 4096 → name_for_access thread view state address how ≡ Ok name
+    → find_page state.pages name ≡ Some page
     → plain_byte thread view state (further address count) how ≡ Ok (slice_index page.bytes (address % 4096 + count))
 byte_in_page thread view state address count how name page fits inside is found =
     let here : further address count ≡ address + count = omega (arith, fits, inside) in
@@ -66,7 +67,7 @@ byte_in_page thread view state address count how name page fits inside is found 
 
 loaded_on : (size thread view : ℕ) (state : State) (address index : ℕ) (how : Access) (name : PageName) (page : Page)
     → address < 2 ^ 64
-    → address % 4096 + index + size ≤ 4096 → reached thread view state address how ≡ Ok name
+    → address % 4096 + index + size ≤ 4096 → name_for_access thread view state address how ≡ Ok name
     → find_page state.pages name ≡ Some page
     → loaded_from (byte_for (plain_byte thread view state) how) (further address index) size
     ≡ Ok (little_from (address % 4096 + index) size page.bytes)
@@ -88,7 +89,7 @@ loaded_on (suc size) thread view state address index how name page fits inside i
 -- the word at an address, if it ends in the page
 pub word_in_page : (thread view : ℕ) (state : State) (address : ℕ) (how : Access) (name : PageName) (page : Page)
     → address < 2 ^ 64
-    → address % 4096 + 8 ≤ 4096 → reached thread view state address how ≡ Ok name → find_page state.pages name ≡ Some page
+    → address % 4096 + 8 ≤ 4096 → name_for_access thread view state address how ≡ Ok name → find_page state.pages name ≡ Some page
     → loaded_from (byte_for (plain_byte thread view state) how) address 8 ≡ Ok (little_from (address % 4096) 8 page.bytes)
 word_in_page thread view state address how name page fits inside is found =
     let here : further address 0 ≡ address = omega (arith, fits) in
@@ -98,7 +99,7 @@ word_in_page thread view state address how name page fits inside is found =
     ∙ ap (λ (n : ℕ). Ok (little_from n 8 page.bytes)) place
 
 pub word_refused : (thread view : ℕ) (state : State) (address : ℕ) (how : Access) (stop : BusStop)
-    → reached thread view state address how ≡ Err stop
+    → name_for_access thread view state address how ≡ Err stop
     → loaded_from (byte_for (plain_byte thread view state) how) address 8 ≡ Err stop
 word_refused thread view state address how stop is =
     loaded_stop (byte_for (plain_byte thread view state) how) address 8 stop (omega arith)

@@ -7,9 +7,9 @@ pub mod EqualNames
 pub mod Places
 pub mod Known
 pub mod Listed
-pub mod Reached
+pub mod NameForAccess
 pub mod InPage
-pub mod Spots
+pub mod PagePlaces
 pub mod Stored
 pub mod WordBytes
 pub mod WholeWord

@@ -1,10 +1,11 @@
 -- What is listed is what a list of starts contains.
-use Rattle.std.proofs.Common.{◌≡◌, ℕ, zero, suc, List, [], ◌∷◌, ◌==◌, ◌||◌, Bool, true, false, refl, sym, arith}
+use Rattle.std.proofs.Common.{◌≡◌, ℕ, zero, suc, List, [], ◌∷◌, ◌==◌, ◌||◌, Bool, true, false, refl, arith}
 use Rattle.std.specs.Prelude.{IsTrue, ◌↔◌}
 use Rattle.std.specs.List.{Contains}
 use Rattle.std.proofs.lemmas.Bool.{eqb-true, eq-eqb}
 use Rattle.std.proofs.lemmas.List.Elements.{Contains-append_right}
 use Rattle.sb_state.specs.State.{is_listed}
+use Rattle.sb_state.proofs.Cases.{same_tests}
 
 contained_behind : (start address : ℕ) (starts : List ℕ) (first : Bool) → (start == address) ≡ first
     → (is_listed starts address ≡ true → Contains starts address) → (first || is_listed starts address) ≡ true
@@ -27,14 +28,9 @@ contained_listed (start ∷ starts) address (zero, within, same) = rw (eq-eqb st
 contained_listed (start ∷ starts) address (suc place, within, same) =
     or_behind (start == address) (is_listed starts address) (contained_listed starts address (place, omega arith, same))
 
-by_test : (test listed : Bool) → (test ≡ true → listed ≡ true) → (listed ≡ true → test ≡ true) → test ≡ listed
-by_test true listed there back = sym (there refl)
-by_test false true there back = back refl
-by_test false false there back = refl
-
 -- a test that answers whether the starts have an address
 pub same_as_listed : (test : Bool) (starts : List ℕ) (address : ℕ) → (IsTrue test ↔ Contains starts address)
     → test ≡ is_listed starts address
 same_as_listed test starts address tells =
-    by_test test (is_listed starts address) (λ is. contained_listed starts address (tells.0 is))
+    same_tests test (is_listed starts address) (λ is. contained_listed starts address (tells.0 is))
     (λ is. tells.1 (listed_contained starts address is))

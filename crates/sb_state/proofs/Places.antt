@@ -28,7 +28,8 @@ never_first : (found : Option ℕ) → option_map suc found ≡ Some zero → �
 never_first None is = cc
 never_first (Some next) is = cc
 
-below_by : (test : Bool) (found : Option ℕ) (count place : ℕ) → ((next : ℕ) → found ≡ Some next → next < count)
+-- a place that is the first, or one behind a place in the rest, is among all
+pub below_by : (test : Bool) (found : Option ℕ) (count place : ℕ) → ((next : ℕ) → found ≡ Some next → next < count)
     → (if test then Some 0 else option_map suc found) ≡ Some place → place < suc count
 below_by true found count place more is = grind (arith, common_steps, is)
 below_by false found count zero more is = omega arith

@@ -2,8 +2,8 @@
 use Rattle.std.proofs.Common.{◌≡◌, ◌∙◌, ap, subst, ℕ, zero, suc, ◌+◌, Bool, true, false, List, [], ◌∷◌, ◌++◌, length, refl}
 use Rattle.std.specs.Prelude.{Option, Some, if◌then◌else◌}
 use Rattle.std.proofs.lemmas.List.{length-replicate}
-use Rattle.sb_memory.specs.Words.{words_put, zeros as so_many_zeros}
-use Rattle.sb_memory.proofs.Pages.{length_words_put}
+use Rattle.sb_memory.specs.Words.{put_words, zeros as so_many_zeros}
+use Rattle.sb_memory.proofs.Pages.{length_put_words}
 use Rattle.sb_tramp.specs.declared.record_words.RecordWords.{RecordWords}
 use Rattle.sb_tramp.specs.Record.{words_of}
 use Rattle.sb_state.specs.declared.page.PageName.{PageName}
@@ -21,13 +21,13 @@ unfolding zeros
 zeros_size = length-replicate {A = ℕ} 4096 0
 
 -- a record page is a page of zeros in which words were put
-pub record_page : (words : RecordWords) → record_bytes words ≡ words_put zeros 0 (words_of words)
+pub record_page : (words : RecordWords) → record_bytes words ≡ put_words zeros 0 (words_of words)
 unfolding record_bytes zeros so_many_zeros
 record_page words = refl
 
 -- and has the size of a page
 pub record_size : (words : RecordWords) → length (record_bytes words) ≡ 4096
-record_size words = ap length (record_page words) ∙ (length_words_put (words_of words) zeros 0 ∙ zeros_size)
+record_size words = ap length (record_page words) ∙ (length_put_words (words_of words) zeros 0 ∙ zeros_size)
 
 -- ---- each page of a list
 

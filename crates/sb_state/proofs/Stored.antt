@@ -6,9 +6,9 @@ use Rattle.std.proofs.Math.Nat.{pow-suc, div-div-eq-div-mul, mul_comm}
 use Rattle.std.proofs.lemmas.List.{get_or-set_same, get_or-set_other}
 use Rattle.sb_state.specs.declared.page.PageName.{PageName}
 use Rattle.sb_state.specs.declared.page.Page.{Page}
-use Rattle.sb_state.specs.declared.page.Seen.{Seen}
+use Rattle.sb_state.specs.declared.page.SeenPage.{SeenPage}
 use Rattle.sb_state.specs.PageName.{same_name}
-use Rattle.sb_state.specs.PlainMemory.{Placed, byte_in, put_byte, put_all, placed_at, bytes_to_put, plain_stored}
+use Rattle.sb_state.specs.PlainMemory.{ByteToPut, byte_in, put_byte, put_all, with_byte_to_put, bytes_to_put, plain_stored}
 use Rattle.sb_state.specs.State.{State, find_page, bytes_of, contents, with_contents}
 use Rattle.sb_state.specs.Windows.{page_for}
 use Rattle.sb_state.proofs.Names.{name_same}
@@ -39,25 +39,25 @@ put_by false state name other offset place value is apart =
 -- ---- the bytes of a store
 
 -- none of these bytes is put at this place
-abbrev AllBeside : PageName → ℕ → List Placed → Type 0
+abbrev AllBeside : PageName → ℕ → List ByteToPut → Type 0
 AllBeside name place [] = Unit {0}
 AllBeside name place (byte ∷ bytes) = (byte.name ≡ name → byte.offset ≢ place) × AllBeside name place bytes
 
-put_beside : (state : State) (bytes : List Placed) (name : PageName) (place : ℕ) → AllBeside name place bytes
+put_beside : (state : State) (bytes : List ByteToPut) (name : PageName) (place : ℕ) → AllBeside name place bytes
     → byte_in (put_all state bytes) name place ≡ byte_in state name place
 put_beside state [] name place beside = refl
 put_beside state (byte ∷ bytes) name place beside =
     put_beside (put_byte state byte.name byte.offset byte.value) bytes name place beside.1
     ∙ put_by (same_name byte.name name) state byte.name name byte.offset place byte.value refl beside.0
 
-placed_beside : (seen : Option Seen) (address value : ℕ) (bytes : List Placed) (name : PageName) (place : ℕ)
-    → ((page : Seen) → seen ≡ Some page → page.name ≡ name → address % 4096 ≢ place)
-    → AllBeside name place bytes → AllBeside name place (placed_at seen address value bytes)
+placed_beside : (seen : Option SeenPage) (address value : ℕ) (bytes : List ByteToPut) (name : PageName) (place : ℕ)
+    → ((page : SeenPage) → seen ≡ Some page → page.name ≡ name → address % 4096 ≢ place)
+    → AllBeside name place bytes → AllBeside name place (with_byte_to_put seen address value bytes)
 placed_beside None address value bytes name place apart beside = beside
 placed_beside (Some page) address value bytes name place apart beside = (apart page refl, beside)
 
 beside_all : (state : State) (thread view address size value : ℕ) (name : PageName) (place : ℕ) → address < 2 ^ 64
-    → ((k : ℕ) (page : Seen) → k < size → page_for state thread view ((address + k) % 2 ^ 64 / 4096) ≡ Some page
+    → ((k : ℕ) (page : SeenPage) → k < size → page_for state thread view ((address + k) % 2 ^ 64 / 4096) ≡ Some page
     → page.name ≡ name → (address + k) % 2 ^ 64 % 4096 ≢ place)
     → AllBeside name place (bytes_to_put state thread view address size value)
 unfolding bytes_to_put
@@ -66,7 +66,7 @@ beside_all state thread view address (suc size) value name place small apart =
     let start : (address + 0) % 2 ^ 64 ≡ address = omega arith in
     placed_beside (page_for state thread view (address / 4096)) address (value % 256)
     (bytes_to_put state thread view ((address + 1) % 2 ^ 64) size (value / 256)) name place
-    (subst (λ (at : ℕ). (page : Seen) → page_for state thread view (at / 4096) ≡ Some page → page.name ≡ name
+    (subst (λ (at : ℕ). (page : SeenPage) → page_for state thread view (at / 4096) ≡ Some page → page.name ≡ name
     → at % 4096 ≢ place) start (λ page. apart 0 page (omega arith)))
     (beside_all state thread view ((address + 1) % 2 ^ 64) size (value / 256) name place (omega arith)
     (λ k page few.
@@ -77,7 +77,7 @@ beside_all state thread view address (suc size) value name place small apart =
 -- where no address of a store leads, each byte stays
 pub stored_elsewhere : (thread view : ℕ) (state : State) (address size value : ℕ) (name : PageName) (offset : ℕ)
     → address < 2 ^ 64
-    → ((k : ℕ) (page : Seen) → k < size → page_for state thread view ((address + k) % 2 ^ 64 / 4096) ≡ Some page
+    → ((k : ℕ) (page : SeenPage) → k < size → page_for state thread view ((address + k) % 2 ^ 64 / 4096) ≡ Some page
     → page.name ≡ name → (address + k) % 2 ^ 64 % 4096 ≢ offset)
     → byte_in (plain_stored thread view state address size value) name offset ≡ byte_in state name offset
 unfolding plain_stored
@@ -117,26 +117,26 @@ put_there state name offset value inside =
     ∙ placed (find_page state.pages name) offset value inside
 
 -- the state before the other bytes are put
-abbrev after_first : Option Seen → ℕ → ℕ → State → State
+abbrev after_first : Option SeenPage → ℕ → ℕ → State → State
 after_first None address value now = now
 after_first (Some page) address value now = put_byte now page.name (address % 4096) value
 
-first_put : (seen : Option Seen) (address value : ℕ) (bytes : List Placed) (now : State)
-    → put_all now (placed_at seen address value bytes) ≡ put_all (after_first seen address value now) bytes
+first_put : (seen : Option SeenPage) (address value : ℕ) (bytes : List ByteToPut) (now : State)
+    → put_all now (with_byte_to_put seen address value bytes) ≡ put_all (after_first seen address value now) bytes
 first_put None address value bytes now = refl
 first_put (Some page) address value bytes now = refl
 
-length_first : (seen : Option Seen) (address value : ℕ) (now : State) (name : PageName)
+length_first : (seen : Option SeenPage) (address value : ℕ) (now : State) (name : PageName)
     → length (contents (after_first seen address value now) name) ≡ length (contents now name)
 length_first None address value now name = refl
 length_first (Some page) address value now name =
     length_by (same_name page.name name) now page.name name (address % 4096) value refl
 
 -- where an address of a store leads, and no later one, the number's byte is put
-put_reached : (size k : ℕ) (now state : State) (thread view address value : ℕ) (page : Seen) → address < 2 ^ 64 → k < size
+put_reached : (size k : ℕ) (now state : State) (thread view address value : ℕ) (page : SeenPage) → address < 2 ^ 64 → k < size
     → page_for state thread view ((address + k) % 2 ^ 64 / 4096) ≡ Some page
     → (address + k) % 2 ^ 64 % 4096 < length (contents now page.name)
-    → ((j : ℕ) (other : Seen) → k < j → j < size → page_for state thread view ((address + j) % 2 ^ 64 / 4096) ≡ Some other
+    → ((j : ℕ) (other : SeenPage) → k < j → j < size → page_for state thread view ((address + j) % 2 ^ 64 / 4096) ≡ Some other
     → other.name ≡ page.name → (address + j) % 2 ^ 64 % 4096 ≢ (address + k) % 2 ^ 64 % 4096)
     → byte_in (put_all now (bytes_to_put state thread view address size value)) page.name ((address + k) % 2 ^ 64 % 4096)
     ≡ value / 256 ^ k % 256
@@ -158,9 +158,10 @@ put_reached (suc size) zero now state thread view address value page small few s
     → (address + suc j) % 2 ^ 64 % 4096 ≢ at % 4096) start (last (suc j) other (omega arith) (omega arith)))) in
     let there : address % 4096 < length (contents now page.name) =
     subst (λ (at : ℕ). at % 4096 < length (contents now page.name)) start inside in
-    ap (λ (at : ℕ). byte_in (put_all now (placed_at (page_for state thread view (address / 4096)) address (value % 256) others))
+    ap (λ (at : ℕ).
+    byte_in (put_all now (with_byte_to_put (page_for state thread view (address / 4096)) address (value % 256) others))
     page.name (at % 4096)) start
-    ∙ (ap (λ found. byte_in (put_all now (placed_at found address (value % 256) others)) page.name (address % 4096)) here
+    ∙ (ap (λ found. byte_in (put_all now (with_byte_to_put found address (value % 256) others)) page.name (address % 4096)) here
     ∙ (put_beside (put_byte now page.name (address % 4096) (value % 256)) others page.name (address % 4096) beside
     ∙ (put_there now page.name (address % 4096) (value % 256) there ∙ ap (λ (n : ℕ). n % 256) (sym whole))))
 put_reached (suc size) (suc k) now state thread view address value page small few seen inside last =
@@ -178,7 +179,7 @@ put_reached (suc size) (suc k) now state thread view address value page small fe
     → at % 4096 ≢ ((address + 1) % 2 ^ 64 + k) % 2 ^ 64 % 4096) (same j)
     (subst (λ (at : ℕ). page_for state thread view ((address + suc j) % 2 ^ 64 / 4096) ≡ Some other → other.name ≡ page.name
     → (address + suc j) % 2 ^ 64 % 4096 ≢ at % 4096) (same k) (last (suc j) other (omega arith) (omega arith)))) in
-    ap (λ (at : ℕ). byte_in (put_all now (placed_at (page_for state thread view (address / 4096)) address (value % 256)
+    ap (λ (at : ℕ). byte_in (put_all now (with_byte_to_put (page_for state thread view (address / 4096)) address (value % 256)
     (bytes_to_put state thread view ((address + 1) % 2 ^ 64) size (value / 256)))) page.name (at % 4096)) (same k)
     ∙ (ap (λ (after : State). byte_in after page.name (((address + 1) % 2 ^ 64 + k) % 2 ^ 64 % 4096))
     (first_put (page_for state thread view (address / 4096)) address (value % 256)
@@ -188,10 +189,10 @@ put_reached (suc size) (suc k) now state thread view address value page small fe
     (mul_comm 256 (256 ^ k) ∙ sym (pow-suc 256 k)))))
 
 -- so each byte of the number is where its address led, unless a later one led there too
-pub stored_there : (thread view : ℕ) (state : State) (address size value k : ℕ) (page : Seen) → address < 2 ^ 64 → k < size
+pub stored_there : (thread view : ℕ) (state : State) (address size value k : ℕ) (page : SeenPage) → address < 2 ^ 64 → k < size
     → page_for state thread view ((address + k) % 2 ^ 64 / 4096) ≡ Some page
     → (address + k) % 2 ^ 64 % 4096 < length (contents state page.name)
-    → ((j : ℕ) (other : Seen) → k < j → j < size → page_for state thread view ((address + j) % 2 ^ 64 / 4096) ≡ Some other
+    → ((j : ℕ) (other : SeenPage) → k < j → j < size → page_for state thread view ((address + j) % 2 ^ 64 / 4096) ≡ Some other
     → other.name ≡ page.name → (address + j) % 2 ^ 64 % 4096 ≢ (address + k) % 2 ^ 64 % 4096)
     → byte_in (plain_stored thread view state address size value) page.name ((address + k) % 2 ^ 64 % 4096)
     ≡ value / 256 ^ k % 256

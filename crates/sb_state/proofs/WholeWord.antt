@@ -12,16 +12,17 @@ use Rattle.sb_bus.proofs.Loads.{stored_where_loaded, stops_where_loaded}
 use Rattle.sb_state.specs.declared.page.PageName.{PageName}
 use Rattle.sb_state.specs.declared.page.Page.{Page}
 use Rattle.sb_state.specs.State.{State, find_page, contents, with_contents}
-use Rattle.sb_state.specs.PlainMemory.{plain_byte, Placed, put_byte, bytes_to_put, put_all, plain_stored}
+use Rattle.sb_state.specs.PlainMemory.{plain_byte, ByteToPut, put_byte, bytes_to_put, put_all, plain_stored}
 use Rattle.sb_state.proofs.PageLists.{found_same, contents_own, contents_there, contents_twice}
-use Rattle.sb_state.specs.Reach.{reached}
-use Rattle.sb_state.specs.Spots.{spot_at}
+use Rattle.sb_state.specs.NameForAccess.{name_for_access}
+use Rattle.sb_state.specs.PagePlaces.{page_place_at}
 use Rattle.sb_state.proofs.InPage.{further, reached_again, word_in_page, word_refused}
-use Rattle.sb_state.proofs.Spots.{placed_first}
+use Rattle.sb_state.proofs.PagePlaces.{placed_first}
 
 -- ---- bytes that are put one after another into one page
 
-abbrev placed_from : PageName → ℕ → List ℕ → List Placed
+-- bytes that are to be put into a page from a place on
+abbrev pub placed_from : PageName → ℕ → List ℕ → List ByteToPut
 placed_from name offset [] = []
 placed_from name offset (byte ∷ bytes) =
     record { name = name; offset = offset; value = byte } ∷ placed_from name (suc offset) bytes
@@ -32,7 +33,7 @@ unfolding with_contents
 found_given state name page bytes found = rw (found_same state.pages name bytes, found) refl
 
 -- byte by byte, or all at once
-puts_sets : (bytes : List ℕ) (state : State) (name : PageName) (page : Page) (offset : ℕ) → find_page state.pages name ≡ Some page
+pub puts_sets : (bytes : List ℕ) (state : State) (name : PageName) (page : Page) (offset : ℕ) → find_page state.pages name ≡ Some page
     → put_all state (placed_from name offset bytes) ≡ with_contents state name (sets (contents state name) offset bytes)
 unfolding put_byte
 puts_sets [] state name page offset found = sym (contents_own state name)
@@ -65,13 +66,14 @@ low_bytes (suc count) index value =
 
 -- ---- a store in one page
 
-spot_of : (thread view : ℕ) (state : State) (address : ℕ) (name : PageName) → reached thread view state address Write ≡ Ok name
-    → spot_at thread view state address ≡ Ok (record { name = name; offset = address % 4096 })
-unfolding spot_at
-spot_of thread view state address name is = rw is refl
+page_place_of : (thread view : ℕ) (state : State) (address : ℕ) (name : PageName)
+    → name_for_access thread view state address Write ≡ Ok name
+    → page_place_at thread view state address ≡ Ok (record { name = name; offset = address % 4096 })
+unfolding page_place_at
+page_place_of thread view state address name is = rw is refl
 
 placed_on : (size thread view : ℕ) (state : State) (address index value : ℕ) (name : PageName) → address < 2 ^ 64
-    → address % 4096 + index + size ≤ 4096 → reached thread view state address Write ≡ Ok name
+    → address % 4096 + index + size ≤ 4096 → name_for_access thread view state address Write ≡ Ok name
     → bytes_to_put state thread view (further address index) size value
     ≡ placed_from name (address % 4096 + index) (low size value)
 unfolding bytes_to_put
@@ -82,17 +84,18 @@ placed_on (suc size) thread view state address index value name fits inside is =
     let next : (further address index + 1) % 2 ^ 64 ≡ further address (suc index) = omega (arith, fits) in
     let behind : address % 4096 + suc index ≡ suc (address % 4096 + index) = omega arith in
     let others = placed_on size thread view state address (suc index) (value / 256) name fits (omega (arith, inside)) is in
-    let spot : spot_at thread view state (further address index)
+    let page_place : page_place_at thread view state (further address index)
     ≡ Ok (record { name = name; offset = further address index % 4096 }) =
-    spot_of thread view state (further address index) name
+    page_place_of thread view state (further address index) name
     (reached_again thread view state address _ Write name same is) in
     placed_first thread view state (further address index) (value % 256)
-    (record { name = name; offset = further address index % 4096 }) _ spot
+    (record { name = name; offset = further address index % 4096 }) _ page_place
     ∙ rw (next, others, place, behind) refl
 
 -- a word that ends in the page in which it begins
 pub word_stored : (thread view : ℕ) (state : State) (address value : ℕ) (name : PageName) (page : Page) → address < 2 ^ 64
-    → address % 4096 + 8 ≤ 4096 → reached thread view state address Write ≡ Ok name → find_page state.pages name ≡ Some page
+    → address % 4096 + 8 ≤ 4096 → name_for_access thread view state address Write ≡ Ok name
+    → find_page state.pages name ≡ Some page
     → plain_stored thread view state address 8 value
     ≡ with_contents state name (put_word (contents state name) (address % 4096) value)
 unfolding plain_stored put_word
@@ -105,20 +108,21 @@ word_stored thread view state address value name page fits inside is found =
     placed_on 8 thread view state address 0 value name fits (omega (arith, inside)) is in
     let bytes : low 8 value ≡ bytes_low_first 0 8 value = ap (λ (n : ℕ). low 8 n) (sym whole) ∙ low_bytes 8 0 value in
     ap (λ (at : ℕ). put_all state (bytes_to_put state thread view at 8 value)) (sym here)
-    ∙ ap (λ (all : List Placed). put_all state all) list
+    ∙ ap (λ (all : List ByteToPut). put_all state all) list
     ∙ ap (λ (all : List ℕ). put_all state (placed_from name (address % 4096 + 0) all)) bytes
     ∙ ap (λ (at : ℕ). put_all state (placed_from name at (bytes_low_first 0 8 value))) place
     ∙ puts_sets (bytes_low_first 0 8 value) state name page (address % 4096) found
 
 pub word_may_be_stored : (thread view : ℕ) (state : State) (address : ℕ) (name : PageName) (page : Page) → address < 2 ^ 64
-    → address % 4096 + 8 ≤ 4096 → reached thread view state address Write ≡ Ok name → find_page state.pages name ≡ Some page
+    → address % 4096 + 8 ≤ 4096 → name_for_access thread view state address Write ≡ Ok name
+    → find_page state.pages name ≡ Some page
     → store_answer (byte_for (plain_byte thread view state) Write) address 8 ≡ Ok tt
 word_may_be_stored thread view state address name page fits inside is found =
     stored_where_loaded (byte_for (plain_byte thread view state) Write) address 8 _
     (word_in_page thread view state address Write name page fits inside is found)
 
 pub word_not_stored : (thread view : ℕ) (state : State) (address : ℕ) (stop : BusStop)
-    → reached thread view state address Write ≡ Err stop
+    → name_for_access thread view state address Write ≡ Err stop
     → store_answer (byte_for (plain_byte thread view state) Write) address 8 ≡ Err stop
 word_not_stored thread view state address stop is =
     stops_where_loaded (byte_for (plain_byte thread view state) Write) address 8 stop

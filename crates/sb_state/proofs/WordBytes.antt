@@ -3,7 +3,7 @@ use Rattle.std.proofs.Common.{◌≡◌, ℕ, suc, ◌+◌, ◌*◌, ◌<◌, Li
 use Rattle.std.proofs.lemmas.List.{drop_more}
 use Rattle.std.proofs.lemmas.List.Edits.{sets}
 use Rattle.sb_memory.specs.Words.{put_word}
-use Rattle.sb_state.specs.PageWords.{words_put}
+use Rattle.sb_state.specs.PageWords.{put_words}
 
 -- one more byte
 pub sets_more : (bytes word : List ℕ) (place index : ℕ) → index < length word
@@ -15,8 +15,8 @@ sets_more bytes word place index within =
 
 -- one more word
 pub words_more : (bytes words : List ℕ) (place index : ℕ) → index < length words
-    → words_put (put_word bytes (place + 8 * index) (get_or words index 0)) (place + 8 * (index + 1)) (drop (index + 1) words)
-    ≡ words_put bytes (place + 8 * index) (drop index words)
+    → put_words (put_word bytes (place + 8 * index) (get_or words index 0)) (place + 8 * (index + 1)) (drop (index + 1) words)
+    ≡ put_words bytes (place + 8 * index) (drop index words)
 words_more bytes words place index within =
     let next : place + 8 * (index + 1) ≡ place + 8 * index + 8 = omega arith in
     rw (next, drop_more words index 0 within) refl

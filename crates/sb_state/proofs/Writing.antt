@@ -6,7 +6,7 @@ use Rattle.sb_memory.specs.Outcome.{and_then}
 use Rattle.sb_bus.specs.declared.stop.BusStop.{BusStop}
 use Rattle.sb_bus.specs.Access.{byte_for, byte_for_write, loaded_from}
 use Rattle.sb_state.specs.declared.page.PageName.{PageName}
-use Rattle.sb_state.specs.declared.page.Seen.{Seen}
+use Rattle.sb_state.specs.declared.page.SeenPage.{SeenPage}
 use Rattle.sb_state.specs.declared.page.Mode.{Mode}
 use Rattle.sb_state.specs.declared.page.Mode.TheVariants as mode
 use Rattle.sb_state.specs.State.{State}
@@ -14,7 +14,7 @@ use Rattle.sb_state.specs.Windows.{page_for}
 use Rattle.sb_state.specs.PlainMemory.{plain_byte, byte_seen, is_canonical}
 
 -- the page with this name in this mode
-abbrev seen_in : PageName → Mode → Option Seen
+abbrev seen_in : PageName → Mode → Option SeenPage
 seen_in name how = Some (record { name = name; mode = how })
 
 mode_by : (state : State) (name : PageName) (how : Mode) (address : ℕ)
@@ -24,12 +24,12 @@ mode_by state name mode.Fetch address = refl
 mode_by state name mode.Read address = refl
 mode_by state name mode.ReadWrite address = refl
 
-seen_by : (state : State) (seen : Option Seen) (address : ℕ)
+seen_by : (state : State) (seen : Option SeenPage) (address : ℕ)
     → and_then (byte_seen state seen address Write) (λ _. byte_seen state seen address Read) ≡ byte_seen state seen address Write
 seen_by state None address = refl
 seen_by state (Some page) address = mode_by state page.name page.mode address
 
-canonical_by : (test : Bool) (state : State) (seen : Option Seen) (stop : BusStop) (address : ℕ)
+canonical_by : (test : Bool) (state : State) (seen : Option SeenPage) (stop : BusStop) (address : ℕ)
     → and_then (if test then byte_seen state seen address Write else Err stop)
     (λ _. if test then byte_seen state seen address Read else Err stop)
     ≡ (if test then byte_seen state seen address Write else Err stop)

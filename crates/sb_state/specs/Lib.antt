@@ -9,7 +9,8 @@ pub mod Registers
 pub mod Pattern
 pub mod Store
 pub mod Places
-pub mod Reach
-pub mod Spots
+pub mod NameForAccess
+pub mod PagePlaces
 pub mod ThreadMemory
 pub mod Start
+pub mod Laws

@@ -32,11 +32,21 @@ mode_of (Heap process page) executable = if executable then mode.Fetch else mode
 mode_of (Record thread view) executable = mode.Read
 mode_of HomeTrampoline executable = mode.Fetch
 mode_of ServerTrampoline executable = mode.Fetch
-mode_of _ executable = mode.ReadWrite
+mode_of (Data process page) executable = mode.ReadWrite
+mode_of (Pool process) executable = mode.ReadWrite
+mode_of (ServerStack process page) executable = mode.ReadWrite
+mode_of (Save thread) executable = mode.ReadWrite
+mode_of (Stack thread page) executable = mode.ReadWrite
+mode_of (Buffer thread index page) executable = mode.ReadWrite
+mode_of (Scratch thread view) executable = mode.ReadWrite
 
 abbrev pub permits : Mode → Access → Bool
 permits mode.Fetch access.Fetch = true
+permits mode.Fetch access.Read = false
+permits mode.Fetch access.Write = false
+permits mode.Read access.Fetch = false
 permits mode.Read access.Read = true
+permits mode.Read access.Write = false
+permits mode.ReadWrite access.Fetch = false
 permits mode.ReadWrite access.Read = true
 permits mode.ReadWrite access.Write = true
-permits _ _ = false

@@ -1,13 +1,14 @@
 -- Words of 8 bytes in pages, the lowest byte first.
 use Rattle.std.specs.Prelude.{ℕ, List, replicate}
 use Rattle.sb_memory.specs.Words.{word_at, put_word}
-pub use Rattle.sb_memory.specs.Words.{words_put}
+pub use Rattle.sb_memory.specs.Words.{put_words}
+use Rattle.sb_memory.specs.declared.page.TheConstants.{PAGE_SIZE}
 use Rattle.sb_state.specs.declared.page.PageName.{PageName}
 use Rattle.sb_state.specs.State.{State, contents, with_contents}
 
 -- a page of zeros
 unfoldable pub zeros : List ℕ
-zeros = replicate 4096 0
+zeros = replicate PAGE_SIZE 0
 
 -- the word at an offset of a page
 abbrev pub word_in : State → PageName → ℕ → ℕ

@@ -1,6 +1,8 @@
 -- The bytes of VMFUNC, `0F 01 D4`, in a heap page and across its borders.
 use Rattle.std.specs.Prelude.{ℕ, suc, ◌+◌, ◌-◌, ◌*◌, ◌==◌, ◌&&◌, Bool, List, [], ◌∷◌, ◌++◌, length, take, drop, get_or, Option, Some, None, if◌then◌else◌}
 use Rattle.std.specs.Option.{option_map}
+use Rattle.sb_abi.specs.declared.space.TheConstants.{HEAP_ADDRESS}
+use Rattle.sb_memory.specs.declared.page.TheConstants.{PAGE_SIZE}
 use Rattle.sb_state.specs.declared.page.Page.{Page}
 use Rattle.sb_state.specs.declared.page.PageName.TheVariants.{Heap}
 use Rattle.sb_state.specs.State.{State, find_page}
@@ -26,7 +28,7 @@ executable_bytes (Some page) = if page.executable then page.bytes else []
 abbrev pub bytes_before : State → ℕ → ℕ → List ℕ
 bytes_before state process page =
     if page == 0 then []
-    else drop 4094 (executable_bytes (find_page state.pages (Heap process (page - 1))))
+    else drop (PAGE_SIZE - 2) (executable_bytes (find_page state.pages (Heap process (page - 1))))
 
 -- the first two bytes of the page behind, if there is one and it is executable
 abbrev pub bytes_behind : State → ℕ → ℕ → List ℕ
@@ -34,7 +36,7 @@ bytes_behind state process page = take 2 (executable_bytes (find_page state.page
 
 -- the address of a place in a page's bytes that so many others stand before
 abbrev pub heap_address : ℕ → ℕ → ℕ → ℕ
-heap_address page before place = 0xC00000 + 4096 * page + place - before
+heap_address page before place = HEAP_ADDRESS + PAGE_SIZE * page + place - before
 
 -- the first place of the pattern in a page that is there, or across its borders with the bytes before and behind it
 abbrev pub pattern_around : List ℕ → List ℕ → Option Page → Option ℕ

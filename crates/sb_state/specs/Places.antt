@@ -2,6 +2,7 @@
 use Rattle.std.specs.Prelude.{◌≡◌, ℕ, suc, ◌+◌, ◌≤◌, Bool, List, [], ◌∷◌, length, Option, Some, None, if◌then◌else◌}
 use Rattle.std.specs.List.{All}
 use Rattle.std.specs.Option.{option_map}
+use Rattle.sb_memory.specs.declared.page.TheConstants.{PAGE_SIZE}
 use Rattle.sb_state.specs.declared.page.PageName.{PageName}
 use Rattle.sb_state.specs.declared.page.Page.{Page}
 use Rattle.sb_state.specs.contracts.page.PageNamePartialEq.TheImpl.{eq-value}
@@ -36,7 +37,7 @@ IsNoted old new name place =
 
 -- the page has as many bytes as a page has
 abbrev pub IsWhole : Page → Type 0
-IsWhole page = length page.bytes ≡ 4096
+IsWhole page = length page.bytes ≡ PAGE_SIZE
 
 abbrev pub AreWhole : List Page → Type 0
 AreWhole pages = All IsWhole pages

@@ -1,6 +1,8 @@
 -- The state at the start of images and entries (docs/FORMATS.md, "The start").
 use Rattle.std.specs.Prelude.{ℕ, zero, suc, ◌+◌, ◌-◌, ◌*◌, List, [], ◌∷◌, ◌++◌, length, take, drop, map, replicate, slice_set, None}
+use Rattle.sb_abi.specs.declared.space.TheConstants.{STACKS_ADDRESS, THREAD_DISTANCE}
 pub use Rattle.sb_memory.specs.Pages.{page_count}
+use Rattle.sb_memory.specs.declared.page.TheConstants.{PAGE_SIZE}
 use Rattle.sb_insn.specs.declared.registers.Regs.{Regs}
 use Rattle.sb_state.specs.declared.end_kind.EndKind.TheVariants.{Running}
 use Rattle.sb_state.specs.declared.page.PageName.{PageName}
@@ -34,11 +36,11 @@ pub record ThreadEntry : Type 0 where
 
 -- bytes filled up to a page
 abbrev pub page_padded : ℕ → List ℕ → List ℕ
-page_padded filler bytes = bytes ++ replicate (4096 - length bytes) filler
+page_padded filler bytes = bytes ++ replicate (PAGE_SIZE - length bytes) filler
 
 -- one page of bytes that go over several pages, of which the last is filled up
 abbrev pub page_of : ℕ → List ℕ → ℕ → List ℕ
-page_of filler bytes page = page_padded filler (take 4096 (drop (4096 * page) bytes))
+page_of filler bytes page = page_padded filler (take PAGE_SIZE (drop (PAGE_SIZE * page) bytes))
 
 -- the pages from a first number on, so many
 abbrev pub pages_from : (ℕ → Page) → ℕ → ℕ → List Page
@@ -70,7 +72,7 @@ process_pages process image =
 
 -- where the save page of a thread is
 abbrev pub save_address : ℕ → ℕ
-save_address thread = 0x3000000 + thread * 0x8000
+save_address thread = STACKS_ADDRESS + thread * THREAD_DISTANCE
 
 -- what the record page of a home view says
 abbrev pub home_words : ℕ → ℕ → RecordWords
@@ -101,7 +103,7 @@ threads_pages thread (entry ∷ entries) = thread_pages thread entry.home ++ thr
 -- RSP is the end of the thread's stack, RDI its number, all else is 0
 unfoldable pub start_registers : ℕ → ℕ → Regs
 start_registers thread address = record {
-  general = slice_set (slice_set (replicate 16 0) 4 (0x3008000 + thread * 0x8000)) 7 thread;
+  general = slice_set (slice_set (replicate 16 0) 4 (STACKS_ADDRESS + (thread + 1) * THREAD_DISTANCE)) 7 thread;
   rip = address;
   flags = no_flags;
 }

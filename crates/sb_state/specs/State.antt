@@ -68,7 +68,7 @@ contents state name = bytes_of (find_page state.pages name)
 unfoldable pub with_contents : State → PageName → List ℕ → State
 with_contents state name bytes = record state { pages = with_page_bytes state.pages name bytes }
 
--- ---- threads by number
+-- ---- threads: a core runs the one of its number
 
 -- the state has no more threads than the page tables serve
 abbrev pub HasFewThreads : State → Type 0
@@ -89,37 +89,37 @@ no_thread = record {
 }
 
 unfoldable pub thread_at : State → ℕ → Thread
-thread_at state number = unwrap_or (slice_get state.threads number) no_thread
+thread_at state core = unwrap_or (slice_get state.threads core) no_thread
 
 abbrev pub with_thread : State → ℕ → Thread → State
-with_thread state number thread = record state { threads = slice_set state.threads number thread }
+with_thread state core thread = record state { threads = slice_set state.threads core thread }
 
--- the thread of this number has these registers
+-- the thread of this core has these registers
 unfoldable pub with_regs : State → ℕ → Regs → State
-with_regs state number regs = with_thread state number (record (thread_at state number) { regs = regs })
+with_regs state core regs = with_thread state core (record (thread_at state core) { regs = regs })
 
--- the thread of this number goes on, or has ended so
+-- the thread of this core goes on, or has ended so
 unfoldable pub with_end : State → ℕ → EndKind → State
-with_end state number end = with_thread state number (record (thread_at state number) { state = end })
+with_end state core end = with_thread state core (record (thread_at state core) { state = end })
 
--- the thread of this number has these registers, in this view
+-- the thread of this core has these registers, in this view
 unfoldable pub with_view : State → ℕ → ℕ → Regs → State
-with_view state number view regs = with_thread state number (record (thread_at state number) { view = view; regs = regs })
+with_view state core view regs = with_thread state core (record (thread_at state core) { view = view; regs = regs })
 
--- ---- flights by number
+-- ---- flights, by the core
 
 -- Flights stand beside the threads, so that a machine without flights is the state without this list.
 unfoldable pub flight_at : State → ℕ → Option Flight
-flight_at state number = unwrap_or (slice_get state.flights number) None
+flight_at state core = unwrap_or (slice_get state.flights core) None
 
--- the thread of this number is in this flight, or in none
+-- the thread of this core is in this flight, or in none
 unfoldable pub with_flight : State → ℕ → Option Flight → State
-with_flight state number flight = record state { flights = slice_set state.flights number flight }
+with_flight state core flight = record state { flights = slice_set state.flights core flight }
 
 -- ---- processes by number
 
 unfoldable pub process_at : State → ℕ → Option Process
-process_at state number = slice_get state.processes number
+process_at state process = slice_get state.processes process
 
 -- what the process told as a server, if it did
 abbrev pub registration_of : Option Process → Option Registration

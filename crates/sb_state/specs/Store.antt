@@ -16,5 +16,5 @@ abbrev pub with_room : Store → ℕ → Store
 with_room store room = record store { room = room }
 
 -- with a page more, for which room was kept
-abbrev pub added : Store → Page → Store
-added store page = record { pages = store.pages ++ page ∷ []; room = store.room - 1 }
+abbrev pub with_added_page : Store → Page → Store
+with_added_page store page = record { pages = store.pages ++ page ∷ []; room = store.room - 1 }

@@ -15,11 +15,11 @@ pub record ThreadMemory : Type 0 where
 abbrev pub memory_of : ℕ → ℕ → State → ThreadMemory
 memory_of thread view state = record { thread = thread; view = view; state = state }
 
-abbrev pub memory_byte : ThreadMemory → ℕ → Access → Result ℕ BusStop
-memory_byte memory = plain_byte memory.thread memory.view memory.state
+abbrev pub thread_memory_byte : ThreadMemory → ℕ → Access → Result ℕ BusStop
+thread_memory_byte memory = plain_byte memory.thread memory.view memory.state
 
-abbrev pub memory_stored : ThreadMemory → ℕ → ℕ → ℕ → ThreadMemory
-memory_stored memory address size value =
+abbrev pub thread_memory_stored : ThreadMemory → ℕ → ℕ → ℕ → ThreadMemory
+thread_memory_stored memory address size value =
     memory_of memory.thread memory.view (plain_stored memory.thread memory.view memory.state address size value)
 
 -- no account is kept
@@ -27,4 +27,4 @@ abbrev pub no_rule : BusCall → ThreadMemory → Unit {0} → Unit {0}
 no_rule call memory account = account
 
 abbrev pub thread_memory : Interface ThreadMemory (Unit {0})
-thread_memory = record { byte = memory_byte; stored = memory_stored; rule = no_rule }
+thread_memory = record { byte = thread_memory_byte; stored = thread_memory_stored; rule = no_rule }

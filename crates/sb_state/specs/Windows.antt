@@ -1,13 +1,13 @@
 -- Which page a thread sees at each linear address (docs/FORMATS.md, "The memory of a thread").
 use Rattle.std.specs.Prelude.{ℕ, ◌+◌, ◌-◌, ◌/◌, ◌%◌, ◌==◌, ◌&&◌, ◌||◌, Bool, false, nat_lt, nat_le, List, Option, Some, None, slice_get, unwrap_or, if◌then◌else◌}
 use Rattle.std.specs.Option.{option_map, option_and_then}
-use Rattle.sb_abi.specs.declared.space.TheConstants.{WINDOW_PAGES, BUFFERS_WINDOW_PAGES, AREA_PAGE, AREA_PAGES, TEXT_PAGE, DATA_PAGE, HEAP_PAGE, BUFFERS_PAGE, STACKS_PAGE, SERVER_STACKS_PAGE}
+use Rattle.sb_abi.specs.declared.space.TheConstants.{WINDOW_PAGES, BUFFERS_WINDOW_PAGES, AREA_PAGE, AREA_PAGES, TEXT_PAGE, DATA_PAGE, HEAP_PAGE, BUFFERS_PAGE, STACKS_PAGE, SERVER_STACKS_PAGE, THREAD_PAGES, STACK_PAGES, BUFFERS_DISTANCE_PAGES, BUFFER_PAGES, BUFFERS_PER_THREAD}
 use Rattle.sb_abi.specs.declared.trampoline.TheConstants.{TRAMPOLINE_PAGE, RECORD_PAGE, SCRATCH_PAGE, POOL_PAGE}
 use Rattle.sb_state.specs.declared.page.PageName.{PageName}
 use Rattle.sb_state.specs.declared.page.PageName.TheVariants.{Text, Area, Data, Heap, Pool, ServerStack, Save, Stack, Buffer, Record, Scratch, HomeTrampoline, ServerTrampoline}
 use Rattle.sb_state.specs.PageName.{mode_of}
 use Rattle.sb_state.specs.declared.page.Page.{Page}
-use Rattle.sb_state.specs.declared.page.Seen.{Seen}
+use Rattle.sb_state.specs.declared.page.SeenPage.{SeenPage}
 use Rattle.sb_state.specs.declared.state.Thread.{Thread}
 use Rattle.sb_state.specs.declared.state.Binding.{Binding}
 use Rattle.sb_state.specs.State.{State, find_page}
@@ -52,16 +52,17 @@ is_in_buffers page = nat_le BUFFERS_PAGE page && nat_lt page (BUFFERS_PAGE + BUF
 -- process.
 abbrev pub stack_name : List Thread → ℕ → ℕ → Option PageName
 stack_name threads process page =
-    if page % 8 == 0 then name_if (is_process (process_shown threads (page / 8) 0) process) (Save (page / 8))
-    else name_if (is_process (process_shown threads (page / 8) 0) process && nat_le 4 (page % 8))
-    (Stack (page / 8) (page % 8 - 4))
+    if page % THREAD_PAGES == 0
+    then name_if (is_process (process_shown threads (page / THREAD_PAGES) 0) process) (Save (page / THREAD_PAGES))
+    else name_if (is_process (process_shown threads (page / THREAD_PAGES) 0) process && nat_le STACK_PAGES (page % THREAD_PAGES))
+    (Stack (page / THREAD_PAGES) (page % THREAD_PAGES - STACK_PAGES))
 
 -- Four pages a binding, sixteen bindings a thread; of those whose thread is at home in the process, or whose server it is.
 abbrev pub buffer_name : List Thread → ℕ → ℕ → Option PageName
 buffer_name threads process page =
-    name_if (is_process (process_shown threads (page / 64) 0) process || is_process
-    (process_shown threads (page / 64) (page / 4 % 16)) process)
-    (Buffer (page / 64) (page / 4 % 16) (page % 4))
+    name_if (is_process (process_shown threads (page / BUFFERS_DISTANCE_PAGES) 0) process || is_process
+    (process_shown threads (page / BUFFERS_DISTANCE_PAGES) (page / BUFFER_PAGES % BUFFERS_PER_THREAD)) process)
+    (Buffer (page / BUFFERS_DISTANCE_PAGES) (page / BUFFER_PAGES % BUFFERS_PER_THREAD) (page % BUFFER_PAGES))
 
 -- the trampoline, record and scratch page of the view, and the pool page of the process
 abbrev pub special_name : ℕ → ℕ → ℕ → ℕ → Option PageName
@@ -85,15 +86,15 @@ name_at threads thread view page process =
 
 -- ---- what is seen
 
-abbrev pub page_and_mode : PageName → Page → Seen
+abbrev pub page_and_mode : PageName → Page → SeenPage
 page_and_mode name page = record { name = name; mode = mode_of name page.executable }
 
 -- the page of this name, if it is there
-abbrev pub page_by_name : List Page → PageName → Option Seen
+abbrev pub page_by_name : List Page → PageName → Option SeenPage
 page_by_name pages name = option_map (page_and_mode name) (find_page pages name)
 
 -- The page that a thread sees at a page number in a view, and how it may be accessed: the table of plain memory.
-unfoldable pub page_for : State → ℕ → ℕ → ℕ → Option Seen
+unfoldable pub page_for : State → ℕ → ℕ → ℕ → Option SeenPage
 page_for state thread view page =
     option_and_then (page_by_name state.pages)
     (option_and_then (name_at state.threads thread view page) (process_shown state.threads thread view))

@@ -7,7 +7,42 @@ ghost use Rattle.sb_state.specs.Windows.{process_of_view, process_now, process_s
 
 use crate::page::{Mode, PageName};
 use crate::state::Thread;
+use sb_abi::{
+    AREA_PAGE, AREA_PAGES, BUFFER_PAGES, BUFFERS_DISTANCE_PAGES, BUFFERS_PAGE, BUFFERS_PER_THREAD,
+    BUFFERS_WINDOW_PAGES, DATA_PAGE, HEAP_PAGE, POOL_PAGE, RECORD_PAGE, SCRATCH_PAGE,
+    SERVER_STACKS_PAGE, STACK_PAGES, STACKS_PAGE, TEXT_PAGE, THREAD_PAGES, TRAMPOLINE_PAGE,
+    WINDOW_PAGES,
+};
 use sb_memory::Access;
+
+// ---- the last pages of the windows
+
+const LAST_AREA: u64 = AREA_PAGE + AREA_PAGES - 1;
+
+const LAST_TEXT: u64 = TEXT_PAGE + WINDOW_PAGES - 1;
+
+const LAST_DATA: u64 = DATA_PAGE + WINDOW_PAGES - 1;
+
+const LAST_HEAP: u64 = HEAP_PAGE + WINDOW_PAGES - 1;
+
+const LAST_BUFFERS: u64 = BUFFERS_PAGE + BUFFERS_WINDOW_PAGES - 1;
+
+const LAST_STACKS: u64 = STACKS_PAGE + WINDOW_PAGES - 1;
+
+const LAST_SERVER_STACKS: u64 = SERVER_STACKS_PAGE + WINDOW_PAGES - 1;
+
+// ---- pages inside of a window, whose numbers have 32 bits
+
+/// The pages from one thread's to the next one's, of which the last half are its stack.
+const THREAD: u32 = THREAD_PAGES as u32;
+/// The first page of its stack.
+const STACK: u32 = (THREAD_PAGES - STACK_PAGES) as u32;
+/// The pages of the buffers of a thread.
+const BUFFERS: u32 = BUFFERS_DISTANCE_PAGES as u32;
+/// The pages of a buffer.
+const BUFFER: u32 = BUFFER_PAGES as u32;
+/// The indices of a thread's buffers.
+const INDICES: u32 = BUFFERS_PER_THREAD as u32;
 
 /// The process that a thread's view shows.
 pub fn process_of_view(view: u32, thread: &Thread) -> Option<u32>
@@ -36,7 +71,7 @@ pub fn process_shown(threads: &[Thread], thread: u32, view: u32) -> Option<u32>
 }
 
 /// Whether a view shows this process.
-fn shows(threads: &[Thread], thread: u32, view: u32, process: u32) -> bool
+fn shows_process(threads: &[Thread], thread: u32, view: u32, process: u32) -> bool
     ensures { result ≡ is_process (process_shown threads.now thread view) process }
 {
     match process_shown(threads, thread, view) {
@@ -50,13 +85,13 @@ fn shows(threads: &[Thread], thread: u32, view: u32, process: u32) -> bool
 fn stack_name(threads: &[Thread], process: u32, page: u32) -> Option<PageName>
     ensures { result ≡ stack_name threads.now process page }
 {
-    let (thread, number) = (page / 8, page % 8);
-    if !shows(threads, thread, 0, process) {
+    let (thread, number) = (page / THREAD, page % THREAD);
+    if !shows_process(threads, thread, 0, process) {
         return None;
     }
     match number {
         0 => Some(PageName::Save(thread)),
-        4..=7 => Some(PageName::Stack(thread, number - 4)),
+        STACK.. => Some(PageName::Stack(thread, number - STACK)),
         _ => None,
     }
 }
@@ -66,9 +101,11 @@ fn stack_name(threads: &[Thread], process: u32, page: u32) -> Option<PageName>
 fn buffer_name(threads: &[Thread], process: u32, page: u32) -> Option<PageName>
     ensures { result ≡ buffer_name threads.now process page }
 {
-    let (thread, index) = (page / 64, page / 4 % 16);
-    if shows(threads, thread, 0, process) || shows(threads, thread, index, process) {
-        Some(PageName::Buffer(thread, index, page % 4))
+    let (thread, index) = (page / BUFFERS, page / BUFFER % INDICES);
+    if shows_process(threads, thread, 0, process)
+        || shows_process(threads, thread, index, process)
+    {
+        Some(PageName::Buffer(thread, index, page % BUFFER))
     } else {
         None
     }
@@ -79,39 +116,43 @@ fn special_name(thread: u32, view: u32, process: u32, page: u64) -> Option<PageN
     ensures { result ≡ special_name thread view process page }
 {
     match page {
-        0x70000 if view == 0 => Some(PageName::HomeTrampoline),
-        0x70000 => Some(PageName::ServerTrampoline),
-        0x70002 => Some(PageName::Record(thread, view)),
-        0x70004 => Some(PageName::Scratch(thread, view)),
-        0x70006 => Some(PageName::Pool(process)),
+        TRAMPOLINE_PAGE if view == 0 => Some(PageName::HomeTrampoline),
+        TRAMPOLINE_PAGE => Some(PageName::ServerTrampoline),
+        RECORD_PAGE => Some(PageName::Record(thread, view)),
+        SCRATCH_PAGE => Some(PageName::Scratch(thread, view)),
+        POOL_PAGE => Some(PageName::Pool(process)),
         _ => None,
     }
 }
 
 /// The name at a page number, where the view of the thread shows this process.
 #[tactic(auto, unfolding(crate::specs::Windows::name_at))]
-fn name_in(threads: &[Thread], thread: u32, view: u32, page: u64, process: u32) -> Option<PageName>
+fn name_at(threads: &[Thread], thread: u32, view: u32, page: u64, process: u32) -> Option<PageName>
     requires { page < 2 ^ 52 }
     ensures { result ≡ name_at threads.now thread view page process }
 {
     match page {
-        0x1..=0x10 => Some(PageName::Area(process, (page - 0x1) as u32)),
-        0x400..=0x5FF => Some(PageName::Text(process, (page - 0x400) as u32)),
-        0x800..=0x9FF => Some(PageName::Data(process, (page - 0x800) as u32)),
-        0xC00..=0xDFF => Some(PageName::Heap(process, (page - 0xC00) as u32)),
-        0x2000..=0x27FF => buffer_name(threads, process, (page - 0x2000) as u32),
-        0x3000..=0x31FF => stack_name(threads, process, (page - 0x3000) as u32),
-        0x4000..=0x41FF => Some(PageName::ServerStack(process, (page - 0x4000) as u32)),
+        AREA_PAGE..=LAST_AREA => Some(PageName::Area(process, (page - AREA_PAGE) as u32)),
+        TEXT_PAGE..=LAST_TEXT => Some(PageName::Text(process, (page - TEXT_PAGE) as u32)),
+        DATA_PAGE..=LAST_DATA => Some(PageName::Data(process, (page - DATA_PAGE) as u32)),
+        HEAP_PAGE..=LAST_HEAP => Some(PageName::Heap(process, (page - HEAP_PAGE) as u32)),
+        BUFFERS_PAGE..=LAST_BUFFERS => {
+            buffer_name(threads, process, (page - BUFFERS_PAGE) as u32)
+        },
+        STACKS_PAGE..=LAST_STACKS => stack_name(threads, process, (page - STACKS_PAGE) as u32),
+        SERVER_STACKS_PAGE..=LAST_SERVER_STACKS => {
+            Some(PageName::ServerStack(process, (page - SERVER_STACKS_PAGE) as u32))
+        },
         _ => special_name(thread, view, process, page),
     }
 }
 
 /// The name at a page number in a view of a thread.
-pub fn name_at(threads: &[Thread], thread: u32, view: u32, page: u64) -> Option<PageName>
+pub fn name_for(threads: &[Thread], thread: u32, view: u32, page: u64) -> Option<PageName>
     requires { page < 2 ^ 52 }
     ensures { result ≡ option_and_then (name_at threads.now thread view page) (process_shown threads.now thread view) }
 {
-    name_in(
+    name_at(
         threads,
         thread,
         view,
@@ -132,7 +173,14 @@ pub fn mode_of(name: PageName, executable: bool) -> Mode
         | PageName::HomeTrampoline
         | PageName::ServerTrampoline => Mode::Fetch,
         PageName::Record(_, _) => Mode::Read,
-        _ => Mode::ReadWrite,
+        PageName::Data(_, _)
+        | PageName::Heap(_, _)
+        | PageName::Pool(_)
+        | PageName::ServerStack(_, _)
+        | PageName::Save(_)
+        | PageName::Stack(_, _)
+        | PageName::Buffer(_, _, _)
+        | PageName::Scratch(_, _) => Mode::ReadWrite,
     }
 }
 
@@ -144,6 +192,8 @@ pub fn permits(mode: Mode, access: Access) -> bool
         (Mode::Fetch, Access::Fetch)
         | (Mode::Read, Access::Read)
         | (Mode::ReadWrite, Access::Read | Access::Write) => true,
-        _ => false,
+        (Mode::Fetch, Access::Read | Access::Write)
+        | (Mode::Read, Access::Write | Access::Fetch)
+        | (Mode::ReadWrite, Access::Fetch) => false,
     }
 }

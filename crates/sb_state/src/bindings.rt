@@ -1,22 +1,21 @@
 //! The bindings of a thread.
 
 ghost use Rattle.std.specs.Prelude.{◌≡◌, ◌<◌, ◌≤◌, ◌++◌, ◌∷◌, [], length};
+ghost use Rattle.sb_abi.specs.declared.space.TheConstants.{MAX_BINDINGS};
 ghost use Rattle.sb_state.specs.Bindings.{binding_with, has_index, free_index, IsFreeIndex};
 
 use crate::state::Binding;
 use arrayvec::ArrayVec;
+use sb_abi::MAX_BINDINGS;
 use std::marker::Model;
 
-/// How many bindings a thread has at most: with its home view it has 16 views.
-pub const MAX_BINDINGS: usize = 15;
-
 /// The greatest index of a binding.
-const LAST_INDEX: u16 = 15;
+const LAST_INDEX: u16 = MAX_BINDINGS as u16;
 
 /// Bindings in the order in which they were made: to contracts, their list. They take no memory but their own.
 #[derive(Debug, Drop)]
 pub struct Bindings {
-    bindings: ArrayVec<Binding, 15>,
+    bindings: ArrayVec<Binding, MAX_BINDINGS>,
 }
 
 /// The first of the bindings with this index.
@@ -75,8 +74,8 @@ impl Bindings {
     #[tactic(auto, using(crate::proofs::Indices::indices_are_free))]
     pub fn free_index(&self) -> u16
         ensures index { result ≡ free_index self.now }
-        ensures range { result ≤ 15 }
-        ensures free { length self.now < 15 → IsFreeIndex self.now result }
+        ensures range { result ≤ MAX_BINDINGS }
+        ensures free { length self.now < MAX_BINDINGS → IsFreeIndex self.now result }
     {
         let mut index = 1;
         while index < LAST_INDEX && self.has_index(index) {
@@ -87,7 +86,7 @@ impl Bindings {
 
     /// Adds a binding behind the others.
     pub fn push(&mut self, binding: Binding)
-        requires { length self.old < 15 }
+        requires { length self.old < MAX_BINDINGS }
         ensures { self.new ≡ self.old ++ binding ∷ [] }
     {
         self.bindings.push(binding);

@@ -1,6 +1,7 @@
 //! The bytes of VMFUNC, `0F 01 D4`, in a heap page and across its borders.
 
-ghost use Rattle.std.specs.Prelude.{◌≡◌, ◌<◌, ◌≤◌, ◌+◌, ◌*◌, ◌^◌, ◌++◌, IfSome, length, drop};
+ghost use Rattle.std.specs.Prelude.{◌≡◌, ◌<◌, ◌≤◌, ◌+◌, ◌-◌, ◌*◌, ◌^◌, ◌++◌, IfSome, length, drop};
+ghost use Rattle.sb_memory.specs.declared.page.TheConstants.{PAGE_SIZE};
 ghost use Rattle.sb_state.specs.declared.page.PageName.TheVariants.{Heap};
 ghost use Rattle.sb_state.specs.State.{find_page};
 ghost use Rattle.sb_state.specs.Pattern.{executable_bytes, bytes_before, bytes_behind, heap_pattern};
@@ -11,9 +12,9 @@ use crate::plain_state::PlainState;
 use sb_abi::HEAP_ADDRESS;
 use sb_scan::first_place;
 
-// The bytes of a heap page that is executable; none of another.
+/// The bytes of a heap page that is executable; none of another.
 fn executable_bytes(state: &PlainState, process: u32, page: u32) -> &[u8]
-    ensures size { length result.now ≤ 4096 }
+    ensures size { length result.now ≤ PAGE_SIZE }
     ensures bytes { result.now ≡ executable_bytes (find_page state.now.pages (Heap process page)) }
 {
     match state.pages.find(PageName::Heap(process, page)) {
@@ -24,15 +25,15 @@ fn executable_bytes(state: &PlainState, process: u32, page: u32) -> &[u8]
 
 /// The last two bytes of a page; none of no bytes.
 pub fn last_two(bytes: &[u8]) -> &[u8]
-    requires { length bytes.now ≤ 4096 }
-    ensures bytes { result.now ≡ drop 4094 bytes.now }
+    requires { length bytes.now ≤ PAGE_SIZE }
+    ensures bytes { result.now ≡ drop (PAGE_SIZE - 2) bytes.now }
     ensures size { length result.now ≤ 2 }
 {
     let start = (PAGE_SIZE - 2).min(bytes.len());
     &bytes[start..]
 }
 
-// The last two bytes of the page before, if there is one and it is executable.
+/// The last two bytes of the page before, if there is one and it is executable.
 fn bytes_before(state: &PlainState, process: u32, page: u32) -> &[u8]
     ensures bytes { result.now ≡ bytes_before state.now process page }
     ensures size { length result.now ≤ 2 }
@@ -43,8 +44,8 @@ fn bytes_before(state: &PlainState, process: u32, page: u32) -> &[u8]
     last_two(executable_bytes(state, process, page - 1))
 }
 
-// The first two bytes of the page behind, if there is one and it is executable.
-fn bytes_after(state: &PlainState, process: u32, page: u32) -> &[u8]
+/// The first two bytes of the page behind, if there is one and it is executable.
+fn bytes_behind(state: &PlainState, process: u32, page: u32) -> &[u8]
     requires { page + 1 < 2 ^ 32 }
     ensures bytes { result.now ≡ bytes_behind state.now process page }
     ensures size { length result.now ≤ 2 }
@@ -62,7 +63,7 @@ impl PlainState {
     {
         let found = self.pages.find(PageName::Heap(process, page))?;
         let before = bytes_before(self, process, page);
-        let behind = bytes_after(self, process, page);
+        let behind = bytes_behind(self, process, page);
         let place = first_place(before, found.bytes.items(), behind)?;
         let page_address = HEAP_ADDRESS + (PAGE_SIZE as u64) * u64::from(page);
         Some(page_address + (place as u64) - (before.len() as u64))

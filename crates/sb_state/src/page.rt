@@ -60,7 +60,7 @@ pub type PageBytes = Listed<u8>;
 
 /// A page as a thread sees it in a view.
 #[derive(Clone, Copy, Debug, PartialEq, Eq)]
-pub struct Seen {
+pub struct SeenPage {
     pub name: PageName,
     pub mode: Mode,
 }

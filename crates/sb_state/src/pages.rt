@@ -4,10 +4,11 @@ ghost use Rattle.std.specs.Prelude.{◌≡◌, ◌+◌, ◌*◌, ◌≤◌, ◌<
 ghost use Rattle.std.specs.Option.{option_copied};
 ghost use Rattle.std.specs.HashMap.{get, spare};
 ghost use Rattle.sb_memory.specs.Words.{word_at, put_word};
+ghost use Rattle.sb_memory.specs.declared.page.TheConstants.{PAGE_SIZE};
 ghost use Rattle.sb_state.specs.State.{find_page, with_page_bytes, bytes_of, page_with, with_mode};
-ghost use Rattle.sb_state.specs.PageWords.{zeros, words_put};
+ghost use Rattle.sb_state.specs.PageWords.{zeros, put_words};
 ghost use Rattle.sb_state.specs.Places.{place_of, equal_names, IsIndex, IsNoted, AreWhole, AreBlank, AreKnown, known_at, KeepsKnown, Remembers};
-ghost use Rattle.sb_state.specs.Store.{with_pages, with_room, added};
+ghost use Rattle.sb_state.specs.Store.{with_pages, with_room, with_added_page};
 
 use crate::page::{Page, PageBytes, PageName};
 use crate::page_words::{put_word, put_words};
@@ -90,14 +91,15 @@ impl Model for Pages {
 
     ghost view = { λ pages. record { pages = pages.pages.items; room = length pages.blank.items } };
 
-    ghost invariant = { λ pages. IsSound (get equal_names pages.places) pages.pages.items pages.blank.items (vec_capacity pages.pages) (spare pages.places) pages.known.items };
+    ghost invariant = { λ pages. IsSound (get equal_names pages.places) pages.pages.items pages.blank.items
+        (vec_capacity pages.pages) (spare pages.places) pages.known.items };
 }
 
 /// Bytes of zero for a page.
 #[tactic(auto, unfolding(crate::specs::PageWords::zeros))]
 pub fn zero_bytes(alloc: Global) -> Result<PageBytes, AllocError>
     ensures bytes { IfOk result (λ bytes. bytes ≡ zeros) }
-    ensures size { IfOk result (λ bytes. length bytes ≡ 4096) }
+    ensures size { IfOk result (λ bytes. length bytes ≡ PAGE_SIZE) }
 {
     Ok(PageBytes::new(vec![in alloc; 0; PAGE_SIZE]?))
 }
@@ -196,7 +198,7 @@ impl Pages {
     ///
     /// An error means that there is no memory, and leaves the pages as they were.
     pub fn push(&mut self, page: Page) -> Result<(), AllocError>
-        requires { length page.bytes ≡ 4096 }
+        requires { length page.bytes ≡ PAGE_SIZE }
         ensures ok { OnOk result (self.new ≡ with_pages self.old (self.old.pages ++ page ∷ [])) }
         ensures err { OnErr result (self.new ≡ self.old) }
     {
@@ -223,8 +225,8 @@ impl Pages {
     /// Adds a page of zeros, but for these words from a place on. It takes no memory.
     pub fn add(&mut self, name: PageName, place: usize, words: &[u64])
         requires room { 0 < self.old.room }
-        requires within { place + 8 * length words.now ≤ 4096 }
-        ensures { self.new ≡ added self.old (page_with name (words_put zeros place words.now)) }
+        requires within { place + 8 * length words.now ≤ PAGE_SIZE }
+        ensures { self.new ≡ with_added_page self.old (page_with name (put_words zeros place words.now)) }
     {
         let mut bytes = self.blank.take_last();
         put_words(&mut bytes, place, words);
@@ -251,7 +253,7 @@ impl Pages {
     #[tactic(auto, using(crate::proofs::Places::found_none))]
     pub fn find(&self, name: PageName) -> Option<&Page>
         ensures page { option_copied result ≡ find_page self.now.pages name }
-        ensures size { IfSome result (λ page. length page.now.bytes ≡ 4096) }
+        ensures size { IfSome result (λ page. length page.now.bytes ≡ PAGE_SIZE) }
     {
         match self.place(name) {
             Some(place) => Some(&self.pages[place]),
@@ -271,7 +273,8 @@ impl Pages {
 
     /// Puts a byte into a page. Where the page or the byte is not there, nothing changes.
     pub fn put(&mut self, name: PageName, offset: usize, value: u8)
-        ensures { self.new ≡ with_pages self.old (with_page_bytes self.old.pages name (slice_set (bytes_of (find_page self.old.pages name)) offset value)) }
+        ensures { self.new ≡ with_pages self.old
+            (with_page_bytes self.old.pages name (slice_set (bytes_of (find_page self.old.pages name)) offset value)) }
     {
         if let Some(place) = self.place(name) {
             let bytes = &mut self.pages[place].bytes;
@@ -284,7 +287,7 @@ impl Pages {
     /// The word of 8 bytes at a place of a page, and 0 where there is no such page.
     #[tactic(auto, unfolding(sb_memory::specs::Words::word_at))]
     pub fn word(&self, name: PageName, place: usize) -> u64
-        requires { place + 8 ≤ 4096 }
+        requires { place + 8 ≤ PAGE_SIZE }
         ensures { result ≡ word_at (bytes_of (find_page self.now.pages name)) place }
     {
         match self.find(name) {
@@ -295,8 +298,9 @@ impl Pages {
 
     /// Puts a word of 8 bytes into a page. Where the page is not there, nothing changes.
     pub fn put_word(&mut self, name: PageName, place: usize, word: u64)
-        requires { place + 8 ≤ 4096 }
-        ensures { self.new ≡ with_pages self.old (with_page_bytes self.old.pages name (put_word (bytes_of (find_page self.old.pages name)) place word)) }
+        requires { place + 8 ≤ PAGE_SIZE }
+        ensures { self.new ≡ with_pages self.old
+            (with_page_bytes self.old.pages name (put_word (bytes_of (find_page self.old.pages name)) place word)) }
     {
         if let Some(index) = self.place(name) {
             put_word(&mut self.pages[index].bytes, place, word);

@@ -32,7 +32,15 @@ impl Model for PlainState {
 
     ghost Value = { State };
 
-    ghost view = { λ state. record { pages = state.pages.pages; processes = state.processes.items; threads = state.threads.items; flights = state.flights.items; free = state.free; keys = state.keys } };
+    ghost view = { λ state. record {
+      pages = state.pages.pages;
+      processes = state.processes.items;
+      threads = state.threads.items;
+      flights = state.flights.items;
+      free = state.free;
+      keys = state.keys;
+    } };
 
-    ghost invariant = { λ state. (state.free ≤ state.pages.room) × (length state.processes.items < 2 ^ 32) × (state.absent ≡ no_thread) };
+    ghost invariant = { λ state. (state.free ≤ state.pages.room) × (length state.processes.items < 2 ^ 32)
+        × (state.absent ≡ no_thread) };
 }

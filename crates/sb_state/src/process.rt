@@ -22,7 +22,11 @@ impl Model for Process {
 
     ghost Value = { Process };
 
-    ghost view = { λ process. record { starts = process.starts; heap_pages = process.heap_pages; registration = process.registration } };
+    ghost view = { λ process. record {
+      starts = process.starts;
+      heap_pages = process.heap_pages;
+      registration = process.registration;
+    } };
 
     ghost invariant = { λ process. IsStrictlyIncreasing process.starts };
 }

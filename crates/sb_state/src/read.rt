@@ -5,12 +5,12 @@ ghost use Rattle.sb_bus.specs.Access.{byte_for, loaded_from};
 ghost use Rattle.sb_state.specs.PlainMemory.{plain_byte};
 
 use crate::plain_state::PlainState;
-use crate::translate::reach;
+use crate::translate::page_for_access;
 use sb_bus::BusStop;
 use sb_memory::{Access, Linear, word};
 
 /// The byte at an address, for an access.
-#[tactic(auto, using(crate::proofs::Reached::byte_reached, crate::proofs::Reached::byte_refused))]
+#[tactic(auto, using(crate::proofs::NameForAccess::byte_reached, crate::proofs::NameForAccess::byte_refused))]
 pub fn byte(
     state: &PlainState,
     thread: u32,
@@ -20,7 +20,7 @@ pub fn byte(
 ) -> Result<u8, BusStop>
     ensures { result ≡ plain_byte thread view state.now at.0 access }
 {
-    let (_, page) = reach(state, thread, view, at, access)?;
+    let (_, page) = page_for_access(state, thread, view, at, access)?;
     let offset = (at.0 % 4096) as usize;
     Ok(page.bytes.items().get(offset).copied().unwrap_or(0))
 }
@@ -37,7 +37,7 @@ fn load_word(
     requires { at.0 % 4096 + 8 ≤ 4096 }
     ensures { result ≡ loaded_from (byte_for (plain_byte thread view state.now) access) at.0 8 }
 {
-    let (_, page) = reach(state, thread, view, at, access)?;
+    let (_, page) = page_for_access(state, thread, view, at, access)?;
     Ok(word(page.bytes.items(), (at.0 % 4096) as usize))
 }
 

@@ -21,7 +21,7 @@ pub fn ecx(regs: &Regs) -> u32
 }
 
 /// The flags of a logical instruction whose result is 0.
-pub fn zero_result() -> Flags
+pub fn zero_flags() -> Flags
     ensures { result ≡ zero_flags }
 {
     Flags {

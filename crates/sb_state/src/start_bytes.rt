@@ -1,6 +1,7 @@
 //! The bytes of pages at the start.
 
 ghost use Rattle.std.specs.Prelude.{◌≡◌, ◌*◌, ◌^◌, ◌<◌, ◌≤◌, IfOk, length, take};
+ghost use Rattle.sb_memory.specs.declared.page.TheConstants.{PAGE_SIZE};
 ghost use Rattle.sb_state.specs.Start.{page_padded, page_of, save_address, home_words, record_bytes};
 ghost use Rattle.sb_tramp.specs.Home.{home_page};
 ghost use Rattle.sb_tramp.specs.Server.{server_page};
@@ -15,8 +16,8 @@ use std::alloc::{AllocError, Global};
 /// The first bytes, as many as a page has.
 #[tactic(auto, using(crate::proofs::Filling::short_page))]
 fn first_page(bytes: &[u8]) -> &[u8]
-    ensures first { result.now ≡ take 4096 bytes.now }
-    ensures within { length result.now ≤ 4096 }
+    ensures first { result.now ≡ take PAGE_SIZE bytes.now }
+    ensures within { length result.now ≤ PAGE_SIZE }
 {
     if bytes.len() < PAGE_SIZE {
         bytes
@@ -27,10 +28,10 @@ fn first_page(bytes: &[u8]) -> &[u8]
 
 /// A chunk of at most a page, filled up to a page.
 #[tactic(auto, using(crate::proofs::Filling::filled_more, crate::proofs::Filling::filled_whole))]
-fn filled_up(alloc: Global, filler: u8, chunk: &[u8]) -> Result<PageBytes, AllocError>
-    requires { length chunk.now ≤ 4096 }
+fn page_padded(alloc: Global, filler: u8, chunk: &[u8]) -> Result<PageBytes, AllocError>
+    requires { length chunk.now ≤ PAGE_SIZE }
     ensures bytes { IfOk result (λ bytes. bytes ≡ page_padded filler chunk.now) }
-    ensures size { IfOk result (λ bytes. length bytes ≡ 4096) }
+    ensures size { IfOk result (λ bytes. length bytes ≡ PAGE_SIZE) }
 {
     let mut bytes = Vec::from_slice(alloc, chunk)?;
     for _ in chunk.len()..PAGE_SIZE {
@@ -40,17 +41,17 @@ fn filled_up(alloc: Global, filler: u8, chunk: &[u8]) -> Result<PageBytes, Alloc
 }
 
 /// One page of bytes that go over several pages, filled up where it is the last.
-pub fn page_bytes(
+pub fn page_of(
     alloc: Global,
     filler: u8,
     bytes: &[u8],
     page: usize,
 ) -> Result<PageBytes, AllocError>
-    requires { 4096 * page < length bytes.now }
+    requires { PAGE_SIZE * page < length bytes.now }
     ensures bytes { IfOk result (λ bytes_of_page. bytes_of_page ≡ page_of filler bytes.now page) }
-    ensures size { IfOk result (λ bytes_of_page. length bytes_of_page ≡ 4096) }
+    ensures size { IfOk result (λ bytes_of_page. length bytes_of_page ≡ PAGE_SIZE) }
 {
-    filled_up(alloc, filler, first_page(&bytes[PAGE_SIZE * page..]))
+    page_padded(alloc, filler, first_page(&bytes[PAGE_SIZE * page..]))
 }
 
 /// The linear address of a thread's save page.
@@ -64,7 +65,7 @@ fn save_address(thread: u32) -> u64
 #[tactic(auto, using(crate::proofs::Start::record_page))]
 pub fn home_record(alloc: Global, thread: u32, home: u32) -> Result<PageBytes, AllocError>
     ensures bytes { IfOk result (λ bytes. bytes ≡ record_bytes (home_words thread home)) }
-    ensures size { IfOk result (λ bytes. length bytes ≡ 4096) }
+    ensures size { IfOk result (λ bytes. length bytes ≡ PAGE_SIZE) }
 {
     let words = RecordWords {
         key: 0,
@@ -82,7 +83,7 @@ pub fn home_record(alloc: Global, thread: u32, home: u32) -> Result<PageBytes, A
 /// The trampoline page of every home view.
 pub fn home_trampoline(alloc: Global) -> Result<PageBytes, AllocError>
     ensures bytes { IfOk result (λ bytes. bytes ≡ home_page) }
-    ensures size { IfOk result (λ bytes. length bytes ≡ 4096) }
+    ensures size { IfOk result (λ bytes. length bytes ≡ PAGE_SIZE) }
 {
     let mut bytes = vec![in alloc; 0u8; PAGE_SIZE]?;
     put_home(&mut bytes);
@@ -92,7 +93,7 @@ pub fn home_trampoline(alloc: Global) -> Result<PageBytes, AllocError>
 /// The trampoline page of every server's view.
 pub fn server_trampoline(alloc: Global) -> Result<PageBytes, AllocError>
     ensures bytes { IfOk result (λ bytes. bytes ≡ server_page) }
-    ensures size { IfOk result (λ bytes. length bytes ≡ 4096) }
+    ensures size { IfOk result (λ bytes. length bytes ≡ PAGE_SIZE) }
 {
     let mut bytes = vec![in alloc; 0u8; PAGE_SIZE]?;
     put_server(&mut bytes);

@@ -42,7 +42,7 @@ pub struct Flight {
     pub index: u16,
     /// The phase of the landing that the thread's next step does.
     pub phase: u8,
-    /// The pool word that phase 2 loaded last; 0 before.
+    /// The pool word that was loaded last; 0 before.
     pub mask: u64,
     /// How the call was decided, once it was.
     pub decided: Option<Decision>,

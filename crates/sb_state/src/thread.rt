@@ -1,6 +1,7 @@
 //! The thread that a core runs: the one of its number. Where there is none, it is one that has ended, and no call changes it.
 
 ghost use Rattle.std.specs.Prelude.{◌≡◌, ◌<◌, ◌++◌, ◌∷◌, [], length};
+ghost use Rattle.sb_abi.specs.declared.space.TheConstants.{MAX_BINDINGS};
 ghost use Rattle.sb_state.specs.State.{no_thread, thread_at, with_thread, with_regs, with_end, with_view, flight_at, with_flight};
 
 use crate::bindings::Bindings;
@@ -71,12 +72,19 @@ impl PlainState {
         }
     }
 
-    /// The flight of the thread of a core, where it is in flight.
+    /// The flight of the thread with this number, where it is in flight.
     #[tactic(auto, unfolding(crate::specs::State::flight_at))]
+    pub fn flight_at(&self, number: usize) -> Option<Flight>
+        ensures { result ≡ flight_at self.now number }
+    {
+        *self.flights.get(number)?
+    }
+
+    /// The flight of the thread of a core, where it is in flight.
     pub fn flight(&self, core: u8) -> Option<Flight>
         ensures { result ≡ flight_at self.now core }
     {
-        *self.flights.get(usize::from(core))?
+        self.flight_at(usize::from(core))
     }
 
     /// Puts the thread of a core into a flight, or into none.
@@ -93,8 +101,9 @@ impl PlainState {
     /// Gives the thread of a core a binding behind its others.
     #[tactic(auto, unfolding(crate::specs::State::thread_at))]
     pub fn push_binding(&mut self, core: u8, binding: Binding)
-        requires { length (thread_at self.old core).bindings < 15 }
-        ensures { self.new ≡ with_thread self.old core (record (thread_at self.old core) { bindings = (thread_at self.old core).bindings ++ binding ∷ [] }) }
+        requires { length (thread_at self.old core).bindings < MAX_BINDINGS }
+        ensures { self.new ≡ with_thread self.old core
+            (record (thread_at self.old core) { bindings = (thread_at self.old core).bindings ++ binding ∷ [] }) }
     {
         if usize::from(core) < self.threads.len() {
             self.threads[usize::from(core)].bindings.push(binding);

@@ -1,35 +1,28 @@
 //! The page that an access reaches.
 
 ghost use Rattle.std.specs.Prelude.{◌≡◌, Some, IfOk, length};
+ghost use Rattle.sb_memory.specs.declared.page.TheConstants.{PAGE_SIZE};
 ghost use Rattle.sb_state.specs.State.{find_page};
 ghost use Rattle.sb_state.specs.Windows.{page_by_name};
-ghost use Rattle.sb_state.specs.PlainMemory.{is_canonical};
-ghost use Rattle.sb_state.specs.Reach.{reached, reached_as, name_only};
+ghost use Rattle.sb_state.specs.NameForAccess.{name_for_access, name_if_permitted, name_only};
 
-use crate::address_space::{mode_of, name_at, permits};
+use crate::address_space::{mode_of, name_for, permits};
 use crate::page::{Page, PageName};
 use crate::pages::Pages;
 use crate::plain_state::PlainState;
 use sb_bus::{BusStop, FaultKind};
 use sb_memory::{Access, Linear};
 
-/// Whether bits 63 to 47 of an address are equal (SDM volume 1, section 3.3.7.1).
-fn is_canonical(at: Linear) -> bool
-    ensures { result ≡ is_canonical at.0 }
-{
-    at.0 < 1 << 47 || at.0 >= !0 << 47
-}
-
 /// The page of a name, if an access to it is permitted.
-fn reach_named(
+fn page_if_permitted(
     pages: &Pages,
     name: PageName,
     at: Linear,
     access: Access,
 ) -> Result<(PageName, &Page), BusStop>
-    ensures name { name_only result ≡ reached_as (page_by_name pages.now.pages name) at.0 access }
+    ensures name { name_only result ≡ name_if_permitted (page_by_name pages.now.pages name) at.0 access }
     ensures page { IfOk result (λ found. find_page pages.now.pages found.0 ≡ Some found.1.now) }
-    ensures size { IfOk result (λ found. length found.1.now.bytes ≡ 4096) }
+    ensures size { IfOk result (λ found. length found.1.now.bytes ≡ PAGE_SIZE) }
 {
     match pages.find(name) {
         Some(page) if permits(mode_of(name, page.executable), access) => Ok((name, page)),
@@ -38,23 +31,23 @@ fn reach_named(
 }
 
 /// The page that an access in a view of a thread reaches, with its name.
-#[tactic(auto, unfolding(crate::specs::Windows::page_for, crate::specs::Reach::reached))]
-pub fn reach(
+#[tactic(auto, unfolding(crate::specs::Windows::page_for, crate::specs::NameForAccess::name_for_access))]
+pub fn page_for_access(
     state: &PlainState,
     thread: u32,
     view: u32,
     at: Linear,
     access: Access,
 ) -> Result<(PageName, &Page), BusStop>
-    ensures name { name_only result ≡ reached thread view state.now at.0 access }
+    ensures name { name_only result ≡ name_for_access thread view state.now at.0 access }
     ensures page { IfOk result (λ found. find_page state.now.pages found.0 ≡ Some found.1.now) }
-    ensures size { IfOk result (λ found. length found.1.now.bytes ≡ 4096) }
+    ensures size { IfOk result (λ found. length found.1.now.bytes ≡ PAGE_SIZE) }
 {
-    if !is_canonical(at) {
+    if !at.is_canonical() {
         return Err(BusStop::Fault(FaultKind::Canon, at));
     }
-    match name_at(&state.threads, thread, view, at.0 / 4096) {
-        Some(name) => reach_named(&state.pages, name, at, access),
+    match name_for(&state.threads, thread, view, at.0 / 4096) {
+        Some(name) => page_if_permitted(&state.pages, name, at, access),
         None => Err(BusStop::Fault(FaultKind::Memory, at)),
     }
 }

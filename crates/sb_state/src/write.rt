@@ -4,62 +4,67 @@ ghost use Rattle.std.specs.Prelude.{◌≡◌, ◌≤◌, ◌+◌, ◌%◌, Ok, 
 ghost use Rattle.sb_memory.specs.declared.address.Access.TheVariants.{Write};
 ghost use Rattle.sb_bus.specs.Access.{bytes_from, byte_for, store_answer, where_stored};
 ghost use Rattle.sb_state.specs.PlainMemory.{plain_byte, plain_stored, put_all};
-ghost use Rattle.sb_state.specs.Spots.{spot_at, placed_in};
+ghost use Rattle.sb_state.specs.PagePlaces.{page_place_at, bytes_to_put_in};
 
 use crate::page::PageName;
 use crate::plain_state::PlainState;
-use crate::translate::reach;
+use crate::translate::page_for_access;
 use sb_bus::BusStop;
 use sb_memory::{Access, Linear};
 
 /// A place in a page.
 #[derive(Clone, Copy)]
-pub struct Spot {
+pub struct PagePlace {
     name: PageName,
     offset: usize,
 }
 
 /// No place of its own, before a place is found.
-const NOWHERE: Spot = Spot {
+const NOWHERE: PagePlace = PagePlace {
     name: PageName::HomeTrampoline,
     offset: 0,
 };
 
 /// Where a byte that is written at an address goes.
-#[tactic(auto, unfolding(crate::specs::Spots::spot_at))]
-fn find_spot(state: &PlainState, thread: u32, view: u32, at: Linear) -> Result<Spot, BusStop>
-    ensures { result ≡ spot_at thread view state.now at.0 }
-{
-    let (name, _) = reach(state, thread, view, at, Access::Write)?;
-    let offset = (at.0 % 4096) as usize;
-    Ok(Spot { name, offset })
-}
-
-/// Where the bytes that are written from an address upwards go.
-#[tactic(auto, using(crate::proofs::Spots::spots_none, crate::proofs::Spots::spots_stop, crate::proofs::Spots::spots_stop_later, crate::proofs::Spots::spots_more))]
-fn find_spots(
+#[tactic(auto, unfolding(crate::specs::PagePlaces::page_place_at))]
+fn page_place_at(
     state: &PlainState,
     thread: u32,
     view: u32,
     at: Linear,
-    spots: &mut [Spot],
-) -> Result<(), BusStop>
-    ensures ok { OnOk result (bytes_from (spot_at thread view state.now) at.0 (length spots.old) ≡ Ok spots.new) }
-    ensures err { IfErr result (λ stop. bytes_from (spot_at thread view state.now) at.0 (length spots.old) ≡ Err stop) }
+) -> Result<PagePlace, BusStop>
+    ensures { result ≡ page_place_at thread view state.now at.0 }
 {
-    if let Some((lowest, others)) = spots.split_first_mut() {
-        *lowest = find_spot(state, thread, view, at)?;
-        find_spots(state, thread, view, Linear(at.0.wrapping_add(1)), others)?;
+    let (name, _) = page_for_access(state, thread, view, at, Access::Write)?;
+    let offset = (at.0 % 4096) as usize;
+    Ok(PagePlace { name, offset })
+}
+
+/// Where the bytes that are written from an address upwards go.
+#[tactic(auto, using(crate::proofs::PagePlaces::places_none, crate::proofs::PagePlaces::places_stop, crate::proofs::PagePlaces::places_stop_later, crate::proofs::PagePlaces::places_more))]
+fn find_page_places(
+    state: &PlainState,
+    thread: u32,
+    view: u32,
+    at: Linear,
+    places: &mut [PagePlace],
+) -> Result<(), BusStop>
+    ensures ok { OnOk result (bytes_from (page_place_at thread view state.now) at.0 (length places.old) ≡ Ok places.new) }
+    ensures err { IfErr result (λ stop. bytes_from (page_place_at thread view state.now) at.0 (length places.old) ≡ Err stop) }
+{
+    if let Some((lowest, others)) = places.split_first_mut() {
+        *lowest = page_place_at(state, thread, view, at)?;
+        find_page_places(state, thread, view, Linear(at.0.wrapping_add(1)), others)?;
     }
     Ok(())
 }
 
 /// Puts the lowest bytes of a number at these places, the lowest first.
 #[tactic(auto, unfolding(crate::specs::PlainMemory::put_byte, crate::specs::State::with_contents, crate::specs::State::contents))]
-fn put(state: &mut PlainState, spots: &[Spot], value: u64)
-    ensures { state.new ≡ put_all state.old (placed_in spots.now value) }
+fn put(state: &mut PlainState, places: &[PagePlace], value: u64)
+    ensures { state.new ≡ put_all state.old (bytes_to_put_in places.now value) }
 {
-    if let Some((lowest, others)) = spots.split_first() {
+    if let Some((lowest, others)) = places.split_first() {
         state
             .pages
             .put(lowest.name, lowest.offset, (value % 256) as u8);
@@ -69,20 +74,21 @@ fn put(state: &mut PlainState, spots: &[Spot], value: u64)
 
 /// Writes the lowest bytes of a number from an address upwards, as many as there is room for their places, if each of
 /// them may be written.
-#[tactic(auto, using(crate::proofs::Spots::store_done, crate::proofs::Spots::store_stopped, crate::proofs::Spots::spots_stored))]
+#[tactic(auto, using(crate::proofs::PagePlaces::store_done, crate::proofs::PagePlaces::store_stopped, crate::proofs::PagePlaces::places_stored))]
 fn store_by(
     state: &mut PlainState,
     thread: u32,
     view: u32,
     at: Linear,
     value: u64,
-    spots: &mut [Spot],
+    places: &mut [PagePlace],
 ) -> Result<(), BusStop>
-    ensures answer { result ≡ store_answer (byte_for (plain_byte thread view state.old) Write) at.0 (length spots.old) }
-    ensures written { state.new ≡ where_stored result (plain_stored thread view state.old at.0 (length spots.old) value) state.old }
+    ensures answer { result ≡ store_answer (byte_for (plain_byte thread view state.old) Write) at.0 (length places.old) }
+    ensures written { state.new
+        ≡ where_stored result (plain_stored thread view state.old at.0 (length places.old) value) state.old }
 {
-    find_spots(state, thread, view, at, spots)?;
-    put(state, spots, value);
+    find_page_places(state, thread, view, at, places)?;
+    put(state, places, value);
     Ok(())
 }
 
@@ -100,7 +106,7 @@ fn store_word(
     ensures answer { result ≡ store_answer (byte_for (plain_byte thread view state.old) Write) at.0 8 }
     ensures written { state.new ≡ where_stored result (plain_stored thread view state.old at.0 8 value) state.old }
 {
-    let (name, _) = reach(state, thread, view, at, Access::Write)?;
+    let (name, _) = page_for_access(state, thread, view, at, Access::Write)?;
     state.pages.put_word(name, (at.0 % 4096) as usize, value);
     Ok(())
 }
@@ -121,13 +127,13 @@ pub fn store(
     if size == 8 && at.0 % 4096 <= 4088 {
         return store_word(state, thread, view, at, value);
     }
-    let mut spots = [NOWHERE; 8];
+    let mut places = [NOWHERE; 8];
     store_by(
         state,
         thread,
         view,
         at,
         value,
-        &mut spots[..usize::from(size)],
+        &mut places[..usize::from(size)],
     )
 }

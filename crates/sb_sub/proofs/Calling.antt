@@ -15,7 +15,7 @@ use Rattle.sb_state.specs.declared.state.Thread.{Thread}
 use Rattle.sb_trace.specs.State.{State, thread_at, with_regs, with_end, with_view, process_at, no_thread}
 use Rattle.sb_trace.specs.Registers.{rax, rdi, rsi}
 use Rattle.sb_calls.specs.SyscallRegisters.{server_fault_regs}
-use Rattle.sb_trace.specs.Home.{Outcome, sent_home}
+use Rattle.sb_trace.specs.Home.{Outcome, state_at_home}
 use Rattle.sb_trace.specs.Pattern.{heap_pattern}
 use Rattle.sb_trace.specs.Windows.{process_now}
 use Rattle.sb_abi.specs.declared.call.CallRefusal.{CallRefusal}
@@ -241,7 +241,7 @@ module _ (kernel : Kernel) (root : RootKernel) (book : Book) (memory : Physical)
         event.Exit (rdi (entered old)),
         with_end (with_regs state thread (entered old)) thread (EndedWith (rdi (entered old))),
       ) else
-      (event.ServerExit (rdi (entered old)), sent_home state thread))
+      (event.ServerExit (rdi (entered old)), state_at_home state thread))
   exit_by true now = record {
     line = ap event.Exit (sym (rdi_entered old));
     registers = now ∙ (sym (regs_set state thread (entered old) below)
@@ -264,7 +264,7 @@ module _ (kernel : Kernel) (root : RootKernel) (book : Book) (memory : Physical)
         event.Exit (rdi (entered old)),
         with_end (with_regs state thread (entered old)) thread (EndedWith (rdi (entered old))),
       ) else
-      (event.ServerExit (rdi (entered old)), sent_home state thread) in
+      (event.ServerExit (rdi (entered old)), state_at_home state thread) in
       subst (Serves kernel root book memory thread (exit_answer view (rdi old)) new)
       (ap outcome (sym is) ∙ sym (called_exit state thread (entered old) (rax_entered old ∙ number)))
       (exit_by (view == 0) now)

@@ -2,6 +2,7 @@
 use Rattle.std.proofs.Common.{◌≡◌, ◌∙◌, sym, ap, subst, ℕ, ◌+◌, ◌-◌, ◌*◌, ◌/◌, ◌^◌, ◌<◌, ◌≤◌, Bool, true, false, List, [], ◌∷◌, length, Result, Ok, Err, refl, lit≤, arith}
 use Rattle.std.specs.Prelude.{Some, None, IfOk, if◌then◌else◌}
 use Rattle.std.specs.Option.{option_map}
+use Rattle.sb_abi.specs.declared.trampoline.TheConstants.{POOL_ADDRESS}
 use Rattle.sb_memory.specs.Outcome.{and_then}
 use Rattle.sb_memory.specs.Physical.{Physical, frame_count}
 use Rattle.sb_memory.specs.Reading.{with_bytes}
@@ -36,14 +37,14 @@ use Rattle.sb_shows.proofs.Threads.{keeps_moved}
 use Rattle.sb_state.proofs.Cases.{same_some}
 use Rattle.sb_sub.specs.Heap.{led_to}
 use Rattle.sb_sub.specs.Carries.{Carries}
-use Rattle.sb_sub.specs.Registering.{FindsPool, RegistersPages, Registered, pool_at, pool_found}
+use Rattle.sb_sub.specs.Registering.{FindsPool, RegistersPages, Registered, pool_found}
 use Rattle.sb_sub.proofs.Led.{on_judged, led_if, answer_fact}
 use Rattle.sb_sub.proofs.Stacks.{StacksCarried, stacks_carried}
 use Rattle.sb_shows.proofs.Registering.{registered_count}
 use Rattle.sb_shows.proofs.Seen.{pool_named}
 use Rattle.sb_shows.proofs.Registering.{pools_differ}
 
-pool_window : IsInWindow pool_at
+pool_window : IsInWindow POOL_ADDRESS
 unfolding page_table_of
 pool_window = λ e. cc
 
@@ -67,7 +68,7 @@ module _ (placement : Placement) (root : RootKernel) (book : Book) (memory : Phy
   unfolding is_own
   pool_own = refl
 
-  entry_is : entries_of placement.frame state 0 0 process (pool_at / 4096)
+  entry_is : entries_of placement.frame state 0 0 process (POOL_ADDRESS / 4096)
       ≡ leaf_for (placement.frame name) (mode_of name one.executable)
   entry_is =
       ap (entry_of placement.frame state.pages) (pool_named state.threads 0 0 process)
@@ -81,16 +82,16 @@ module _ (placement : Placement) (root : RootKernel) (book : Book) (memory : Phy
   pool_small : placement.frame name < 2 ^ 32
   pool_small = let most = carries.keeps.leads.stands.whole.most in let within = pool_inside in omega arith
 
-  walked_is : walked_in memory (placement.sets process) pool_at access.Read
-      ≡ (if guest_permits (mode_of name one.executable) access.Read then Ok (address_in pool_at (placement.frame name)) else Err
+  walked_is : walked_in memory (placement.sets process) POOL_ADDRESS access.Read
+      ≡ (if guest_permits (mode_of name one.executable) access.Read then Ok (address_in POOL_ADDRESS (placement.frame name)) else Err
       (Denied 1))
   walked_is =
-      (carries.keeps.leads.guests process there).maps 0 0 pool_at access.Read
-      ∙ (set_walked_window (entries_of placement.frame state 0 0 process) pool_at access.Read pool_window
-      ∙ (ap (λ (entry : ℕ). page_walked entry pool_at access.Read) entry_is
-      ∙ (ap (λ (judged : Result ℕ WalkStop). and_then judged (λ (led : ℕ). Ok (address_in pool_at led)))
+      (carries.keeps.leads.guests process there).maps 0 0 POOL_ADDRESS access.Read
+      ∙ (set_walked_window (entries_of placement.frame state 0 0 process) POOL_ADDRESS access.Read pool_window
+      ∙ (ap (λ (entry : ℕ). page_walked entry POOL_ADDRESS access.Read) entry_is
+      ∙ (ap (λ (judged : Result ℕ WalkStop). and_then judged (λ (led : ℕ). Ok (address_in POOL_ADDRESS led)))
       (leaf_judged (mode_of name one.executable) access.Read (placement.frame name) pool_small)
-      ∙ on_judged (guest_permits (mode_of name one.executable) access.Read) (placement.frame name) pool_at)))
+      ∙ on_judged (guest_permits (mode_of name one.executable) access.Read) (placement.frame name) POOL_ADDRESS)))
 
   may : guest_permits (mode_of name one.executable) access.Read ≡ true
   unfolding guest_permits mode_of
@@ -98,7 +99,7 @@ module _ (placement : Placement) (root : RootKernel) (book : Book) (memory : Phy
 
   pool_frame : pool_found memory (placement.sets process) ≡ Some (record { 0 = placement.frame name })
   pool_frame =
-      ap led_to walked_is ∙ (led_if (guest_permits (mode_of name one.executable) access.Read) (placement.frame name) pool_at
+      ap led_to walked_is ∙ (led_if (guest_permits (mode_of name one.executable) access.Read) (placement.frame name) POOL_ADDRESS
       ∙ ap (λ (test : Bool). if test then Some (record { 0 = placement.frame name }) else None) may)
 
   purpose_is : placement.purpose (placement.frame name) ≡ Holds name
@@ -110,7 +111,7 @@ module _ (placement : Placement) (root : RootKernel) (book : Book) (memory : Phy
     small = (let most = carries.keeps.leads.stands.whole.most in omega arith);
     inside = subst (λ (answer : Result GuestPhys WalkStop). IfOk answer (λ at. at.0 / 4096 < frame_count memory)) (sym walked_is)
         (answer_fact (λ (frame : ℕ). frame < frame_count memory) (guest_permits (mode_of name one.executable) access.Read)
-        (placement.frame name) pool_at pool_inside);
+        (placement.frame name) POOL_ADDRESS pool_inside);
     frame = record { 0 = placement.frame name };
     found = pool_frame;
     set_apart =

@@ -6,7 +6,7 @@ use Rattle.sb_memory.specs.Words.{put_word}
 use Rattle.sb_state.specs.declared.page.PageName.{PageName}
 use Rattle.sb_state.specs.declared.page.PageName.TheVariants.{Pool}
 use Rattle.sb_state.specs.declared.page.Page.{Page}
-use Rattle.sb_state.specs.declared.page.Seen.{Seen}
+use Rattle.sb_state.specs.declared.page.SeenPage.{SeenPage}
 use Rattle.sb_trace.specs.PageName.{same_name}
 use Rattle.sb_trace.specs.PageWords.{with_word}
 use Rattle.sb_trace.specs.State.{find_page, with_page_bytes, contents, with_contents}
@@ -33,12 +33,12 @@ replaced_seen true pages one name bytes is =
     ∙ ap (λ (n : PageName). option_map (page_and_mode name) (find_page pages n)) same)
 replaced_seen false pages one name bytes is = ap (option_map (page_and_mode name)) (found_other pages one name bytes is)
 
-added_seen : (name : PageName) (one : Seen) (found rest : Option Page) → option_map (page_and_mode name) found ≡ Some one
+added_seen : (name : PageName) (one : SeenPage) (found rest : Option Page) → option_map (page_and_mode name) found ≡ Some one
     → option_map (page_and_mode name) (either found rest) ≡ Some one
 added_seen name one None rest is = absurd (let e = is in cc)
 added_seen name one (Some page) rest is = is
 
-seen_after : (pages extra : List Page) (pool : PageName) (bytes : List ℕ) (name : Option PageName) (one : Seen)
+seen_after : (pages extra : List Page) (pool : PageName) (bytes : List ℕ) (name : Option PageName) (one : SeenPage)
     → option_and_then (page_by_name pages) name ≡ Some one
     → option_and_then (page_by_name (with_page_bytes pages pool bytes ++ extra)) name ≡ Some one
 seen_after pages extra pool bytes None one is = absurd (let e = is in cc)

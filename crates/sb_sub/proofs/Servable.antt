@@ -4,6 +4,7 @@ use Rattle.std.specs.Prelude.{Option, Some, None, if◌then◌else◌, slice_get
 use Rattle.std.proofs.lemmas.Bool.{eqb-true, eqb-false}
 use Rattle.std.proofs.lemmas.List.{length-set}
 use Rattle.std.proofs.lemmas.Option.{slice_get_within}
+use Rattle.std.proofs.Math.Bool.{or-false}
 use Rattle.sb_state.specs.declared.page.PageName.{PageName}
 use Rattle.sb_state.specs.declared.page.PageName.TheVariants.{Pool, ServerStack}
 use Rattle.sb_state.specs.declared.state.Registration.{Registration}
@@ -20,7 +21,7 @@ use Rattle.sb_state.proofs.Threads.{set_other}
 use Rattle.sb_trace.proofs.NamedPages.{hold_from, is_below, below_none}
 use Rattle.sb_trace.proofs.NameNumbers.{server_stack_place, server_stacks_numbered}
 use Rattle.sb_trace.proofs.TableKept.{is_added, Grows, Grown, word_names}
-use Rattle.sb_trace.proofs.TablePages.{or_false, grown_table}
+use Rattle.sb_trace.proofs.TablePages.{grown_table}
 use Rattle.sb_shows.proofs.Needs as needs
 use Rattle.sb_sub.specs.StandsFor.{IsServable}
 
@@ -100,7 +101,7 @@ module _ (state : State) (process handler stacks : ℕ) (one : Process) (found :
       (ap (λ (test : Bool). test || nat_lt page (4 * stacks)) (none_before page)
       ∙ ap (λ (p : Option Process). nat_lt page (4 * stacks_in (registration_of p))) (sym here))
   stacks_by false other page is =
-      or_false _
+      or-false _
       ∙ ap (λ (p : Option Process). nat_lt page (4 * stacks_in (registration_of p)))
       (sym (there other (λ same. eqb-false process other is (sym same))))
 
@@ -113,9 +114,9 @@ module _ (state : State) (process handler stacks : ℕ) (one : Process) (found :
     heaps = heap_same;
     others = no_other_stack process (4 * stacks);
     stacks = λ images other page. stacks_by (process == other) other page refl;
-    buffers = λ images thread view page. or_false _;
-    records = λ thread view. or_false (has_view state thread view);
-    scratches = λ thread view. or_false (has_view state thread view);
+    buffers = λ images thread view page. or-false _;
+    records = λ thread view. or-false (has_view state thread view);
+    scratches = λ thread view. or-false (has_view state thread view);
   }
 
   no_stack_before : (images : ℕ → ImagePages) (page : ℕ) → is_in_table images state (ServerStack process page) ≡ false

@@ -8,7 +8,7 @@ use Rattle.sb_walks.specs.Guest.{is_canonical}
 use Rattle.sb_walks.specs.Ept.{phys_in}
 use Rattle.sb_nested.specs.View.{View}
 use Rattle.sb_state.specs.declared.page.PageName.{PageName}
-use Rattle.sb_state.specs.declared.page.Seen.{Seen}
+use Rattle.sb_state.specs.declared.page.SeenPage.{SeenPage}
 use Rattle.sb_trace.specs.PageName.{permits}
 use Rattle.sb_trace.specs.State.{State}
 use Rattle.sb_trace.specs.Windows.{page_for}
@@ -33,9 +33,9 @@ permitted false frame frame' linear answer answer' place same was now gives =
     absurd (refused_not linear answer was.stop place was.is gives)
 
 led_kept : (frame frame' : PageName
-    → ℕ) (seen seen' : Option Seen) (linear : ℕ) (access : Access) (answer answer' : Result PhysAddr NestedStop)
+    → ℕ) (seen seen' : Option SeenPage) (linear : ℕ) (access : Access) (answer answer' : Result PhysAddr NestedStop)
     (place : PhysAddr)
-    → ((one : Seen) → seen ≡ Some one → (seen' ≡ Some one) × (frame' one.name ≡ frame one.name))
+    → ((one : SeenPage) → seen ≡ Some one → (seen' ≡ Some one) × (frame' one.name ≡ frame one.name))
     → IsSeenLed frame seen linear access answer → IsSeenLed frame' seen' linear access answer' → answer ≡ Ok place
     → answer' ≡ Ok place
 led_kept frame frame' None seen' linear access answer answer' place stays was now gives =
@@ -43,7 +43,7 @@ led_kept frame frame' None seen' linear access answer answer' place stays was no
 led_kept frame frame' (Some one) seen' linear access answer answer' place stays was now gives =
     let still = stays one refl in
     permitted (permits one.mode access) (frame one.name) (frame' one.name) linear answer answer' place still.1 was
-    (subst (λ (found : Option Seen). IsSeenLed frame' found linear access answer') still.0 now) gives
+    (subst (λ (found : Option SeenPage). IsSeenLed frame' found linear access answer') still.0 now) gives
 
 kept_by : (canon : Bool) (placement placement' : Placement) (thread index : ℕ) (state state' : State) (core core' : View)
     → Sees placement thread index state core → Sees placement' thread index state' core'

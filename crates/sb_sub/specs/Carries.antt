@@ -1,6 +1,9 @@
 -- What is kept of bytes, root kernel and frame book while a call adds pages: all that stands for a state but its fields.
-use Rattle.std.specs.Prelude.{ℕ, zero, suc, ◌≡◌, ◌+◌, ◌*◌, ◌%◌, ◌==◌, if◌then◌else◌}
+use Rattle.std.specs.Prelude.{ℕ, zero, suc, ◌≡◌, ◌+◌, ◌-◌, ◌*◌, ◌%◌, ◌==◌, if◌then◌else◌}
+use Rattle.sb_abi.specs.declared.space.TheConstants.{SERVER_STACKS_PAGE, STACK_PAGES}
+use Rattle.sb_abi.specs.declared.trampoline.TheConstants.{EXIT_STUB}
 use Rattle.sb_memory.specs.Physical.{Physical}
+use Rattle.sb_memory.specs.declared.page.TheConstants.{PAGE_SIZE}
 use Rattle.sb_frames.specs.Book.{Book}
 use Rattle.sb_pagewalk.specs.declared.table_set.TableSet.{TableSet}
 use Rattle.sb_root.specs.declared.root_kernel.RootKernel.{RootKernel}
@@ -26,11 +29,11 @@ pub record StaysPlaced (old : Placement) (new : Placement) (state : State) : Typ
 
 -- the word at the top of a page of a server stack: the address of the exit stub in the last of four
 abbrev pub stack_top : ℕ → ℕ
-stack_top page = if page % 4 == 3 then 0x70000000 else 0
+stack_top page = if page % STACK_PAGES == STACK_PAGES - 1 then EXIT_STUB else 0
 
 -- the linear address of a page of a server stack
 abbrev pub stack_at : ℕ → ℕ
-stack_at page = 4096 * (0x4000 + page)
+stack_at page = PAGE_SIZE * (SERVER_STACKS_PAGE + page)
 
 -- the first pages of the server stacks of a process were added, one after another
 abbrev pub TakesStacks : TableSet → RootKernel → Book → Book → Physical → Physical → ℕ → ℕ → Type 0

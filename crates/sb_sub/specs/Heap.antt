@@ -1,11 +1,14 @@
 -- Where the pages of a heap are, read off the tables of its process, and where the pattern stands in them.
 use Rattle.std.specs.Prelude.{ℕ, ◌≡◌, ◌+◌, ◌*◌, ◌/◌, ◌-◌, ◌^◌, ◌<◌, ◌≤◌, ◌==◌, nat_lt, Bool, List, [], ◌++◌, length, take, drop, Option, Some, None, Result, Ok, Err, IfOk, if◌then◌else◌}
 use Rattle.std.specs.Option.{option_map}
+use Rattle.sb_abi.specs.declared.frames.TheConstants.{KEPT_FRAMES}
+use Rattle.sb_abi.specs.declared.space.TheConstants.{HEAP_ADDRESS, WINDOW_PAGES}
 use Rattle.sb_memory.specs.Physical.{Physical, frame_count}
 use Rattle.sb_memory.specs.declared.address.Access.{Access}
 use Rattle.sb_memory.specs.declared.address.Access.TheVariants.{Read, Fetch}
 use Rattle.sb_memory.specs.declared.address.Frame.{Frame}
 use Rattle.sb_memory.specs.declared.address.GuestPhys.{GuestPhys}
+use Rattle.sb_memory.specs.declared.page.TheConstants.{PAGE_SIZE}
 use Rattle.sb_walks.specs.declared.stop.WalkStop.{WalkStop}
 use Rattle.sb_pagewalk.specs.declared.table_set.TableSet.{TableSet}
 use Rattle.sb_pagewalk.specs.TableSet.{walked_in}
@@ -18,7 +21,7 @@ use Rattle.sb_shows.specs.Calls.{SetsPage, ExposesFrame}
 
 -- the linear address of a heap page
 abbrev pub heap_at : ℕ → ℕ
-heap_at page = 0xC00000 + 4096 * page
+heap_at page = HEAP_ADDRESS + PAGE_SIZE * page
 
 -- the frame to which a walk led
 abbrev pub led_to : Result GuestPhys WalkStop → Option Frame
@@ -32,7 +35,7 @@ heap_frame memory set page access = led_to (walked_in memory set (heap_at page) 
 -- the bytes of a frame; none of no frame
 abbrev pub frame_bytes : Physical → Option Frame → List ℕ
 frame_bytes memory None = []
-frame_bytes memory (Some frame) = take 4096 (drop (4096 * frame.0) memory.bytes)
+frame_bytes memory (Some frame) = take PAGE_SIZE (drop (PAGE_SIZE * frame.0) memory.bytes)
 
 -- the frame of the page before, where there is one and it is executable
 abbrev pub frame_before : Physical → TableSet → ℕ → Option Frame
@@ -45,9 +48,9 @@ frame_behind memory set page count = if nat_lt (page + 1) count then heap_frame 
 -- the lowest address of the pattern in the page in a frame, or across its borders with the pages in others
 abbrev pub pattern_by : Physical → ℕ → Option Frame → Frame → Option Frame → Option ℕ
 pattern_by memory page before found behind =
-    option_map (heap_address page (length (drop 4094 (frame_bytes memory before))))
+    option_map (heap_address page (length (drop (PAGE_SIZE - 2) (frame_bytes memory before))))
     (first_pattern
-    (drop 4094 (frame_bytes memory before) ++ (frame_bytes memory (Some found) ++ take 2 (frame_bytes memory behind))))
+    (drop (PAGE_SIZE - 2) (frame_bytes memory before) ++ (frame_bytes memory (Some found) ++ take 2 (frame_bytes memory behind))))
 
 abbrev pub pattern_where : Physical → ℕ → Option Frame → Option Frame → Option Frame → Option ℕ
 pattern_where memory page before None behind = None
@@ -59,15 +62,15 @@ pattern_at memory set page count =
     pattern_where memory page (frame_before memory set page) (heap_frame memory set page Read)
     (frame_behind memory set page count)
 
--- Each page of a heap of so many pages is there, in a frame from 512 on.
+-- Each page of a heap of so many pages is there, in a frame that the kernels do not keep.
 pub record FindsHeap (memory : Physical) (set : TableSet) (count : ℕ) : Type 0 where
-  pub few : count ≤ 512
+  pub few : count ≤ WINDOW_PAGES
   pub small : frame_count memory < 2 ^ 32
-  pub size : length memory.bytes ≡ 4096 * frame_count memory
+  pub size : length memory.bytes ≡ PAGE_SIZE * frame_count memory
   pub inside : (page : ℕ) (access : Access) → page < count
       → IfOk (walked_in memory set (heap_at page) access) (λ at. at.0 / 4096 < frame_count memory)
   pub above : (page : ℕ) (access : Access) → page < count
-      → IfOk (walked_in memory set (heap_at page) access) (λ at. 512 ≤ at.0 / 4096)
+      → IfOk (walked_in memory set (heap_at page) access) (λ at. KEPT_FRAMES ≤ at.0 / 4096)
   pub there : (page : ℕ) → page < count → (frame : Frame) × (heap_frame memory set page Read ≡ Some frame)
 
 -- how a heap page may be accessed in its two modes

@@ -1,6 +1,8 @@
 -- What is stood for is shown.
 use Rattle.std.specs.Prelude.{ℕ, ◌≡◌, ◌+◌, slice_get, slice_set, ◌*◌, ◌<◌, ◌≤◌, false, [], ◌∷◌, ◌++◌, length, None, Some}
+use Rattle.sb_abi.specs.declared.space.TheConstants.{MAX_STACKS, STACK_PAGES}
 use Rattle.sb_memory.specs.Physical.{Physical}
+use Rattle.sb_memory.specs.declared.page.TheConstants.{PAGE_SIZE}
 use Rattle.sb_frames.specs.Book.{Book, free_count}
 use Rattle.sb_root.specs.declared.root_kernel.RootKernel.{RootKernel}
 use Rattle.sb_state.specs.declared.page.Mode.TheVariants.{ReadWrite}
@@ -39,7 +41,7 @@ PagesCarried = (placement : Placement) (root : RootKernel) (book : Book) (memory
     → Carries placement root book memory state
     → (process : ℕ) → process < length state.processes
     → (name : PageName) (owner top : ℕ) (book' : Book) (new : Physical)
-    → (takes : TakesPage (placement.sets process) root book book' memory new owner (4096 * page_number name) top)
+    → (takes : TakesPage (placement.sets process) root book book' memory new owner (PAGE_SIZE * page_number name) top)
     → IsNewPage state.threads (length state.processes) state.pages (process ∷ []) (page_with name (top_bytes top))
     → mode_of name false ≡ ReadWrite
     → Carries (placed_with placement name takes.frame.0) root book' new
@@ -57,7 +59,7 @@ abbrev pub RegistersCarried : Type 0
 RegistersCarried = (placement : Placement) (root : RootKernel) (book : Book) (memory : Physical) (state : State)
     → Carries placement root book memory state
     → (process : ℕ) (pool : Page) → process < length state.processes → find_page state.pages (Pool process) ≡ Some pool
-    → (handler stacks : ℕ) (book' : Book) (new : Physical) → stacks ≤ 16
+    → (handler stacks : ℕ) (book' : Book) (new : Physical) → stacks ≤ MAX_STACKS
     → ((page : ℕ) → find_page state.pages (ServerStack process page) ≡ None)
     → RegistersPages (placement.sets process) root book book' memory new process stacks
     → Registered placement root book' new state process handler stacks
@@ -78,8 +80,8 @@ abbrev pub ServersStand : Type 0
 ServersStand = (kernel : Kernel) (root : RootKernel) (book : Book) (memory : Physical) (state : State)
     → StandsFor kernel root book memory state
     → (process : ℕ) (entry : Entry) → slice_get kernel.processes process ≡ Some entry → entry.process.registration ≡ None
-    → (handler stacks : ℕ) (book' : Book) (new : Physical) → stacks ≤ 16
+    → (handler stacks : ℕ) (book' : Book) (new : Physical) → stacks ≤ MAX_STACKS
     → RegistersPages entry.set root book book' memory new process stacks
-    → free_count book' + 4 * stacks ≡ free_count book
+    → free_count book' + STACK_PAGES * stacks ≡ free_count book
     → StandsFor (record kernel { processes = slice_set kernel.processes process (with_entry entry handler stacks) }) root book'
     new (with_server state process handler stacks)

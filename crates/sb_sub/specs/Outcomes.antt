@@ -4,6 +4,7 @@ use Rattle.sb_abi.specs.declared.call.CallRefusal.{CallRefusal}
 use Rattle.sb_insn.specs.declared.registers.Regs.{Regs}
 use Rattle.sb_memory.specs.Physical.{Physical}
 use Rattle.sb_frames.specs.Book.{Book}
+use Rattle.sb_calls.specs.declared.refusals.TheConstants.{EXECUTE_MODE}
 use Rattle.sb_root.specs.declared.root_kernel.RootKernel.{RootKernel}
 use Rattle.sb_trace.specs.State.{State, process_at}
 use Rattle.sb_trace.specs.Home.{Outcome}
@@ -16,13 +17,13 @@ use Rattle.sb_sub.specs.StandsFor.{StandsFor}
 
 -- the state after protect, but for the thread's registers
 abbrev pub after_protect : State → ℕ → ℕ → ℕ → Option (CallRefusal × ℕ) → State
-after_protect state process page mode None = with_heap_mode state process page (mode == 1)
+after_protect state process page mode None = with_heap_mode state process page (mode == EXECUTE_MODE)
 after_protect state process page mode (Some refusal) = state
 
 -- protect by its refusal
 abbrev pub protect_by : State → ℕ → Regs → ℕ → ℕ → ℕ → Option (CallRefusal × ℕ) → Outcome
 protect_by state number next process page mode None =
-    syscall_acceptance (with_heap_mode state process page (mode == 1)) number next
+    syscall_acceptance (with_heap_mode state process page (mode == EXECUTE_MODE)) number next
 protect_by state number next process page mode (Some refusal) = syscall_refusal state number next refusal.0 refusal.1
 
 -- what protect answers and leaves

@@ -3,7 +3,11 @@ use Rattle.std.specs.Prelude.{ℕ, ◌==◌, Bool, Option, Some, None, if◌then
 use Rattle.sb_abi.specs.declared.call.CallRefusal.{CallRefusal}
 use Rattle.sb_abi.specs.declared.call.CallRefusal.TheVariants.{Pattern}
 use Rattle.sb_abi.specs.Numbers.{refusal_number}
+use Rattle.sb_memory.specs.Physical.{Physical}
 use Rattle.sb_calls.specs.Refusals.{protect_refusal}
+use Rattle.sb_calls.specs.declared.refusals.TheConstants.{EXECUTE_MODE}
+use Rattle.sb_sub.specs.Heap.{pattern_at}
+use Rattle.sb_sub.specs.Kernel.{Entry}
 
 -- where the pattern stands it refuses, and the address is the second value
 abbrev pub pattern_refusal : Option ℕ → Option (CallRefusal × ℕ)
@@ -17,7 +21,12 @@ with_pattern None executable pattern = if executable then pattern_refusal patter
 
 -- protect, in a heap of so many pages
 abbrev pub page_refusal : ℕ → ℕ → ℕ → Option ℕ → Option (CallRefusal × ℕ)
-page_refusal count page mode pattern = with_pattern (protect_refusal count page mode) (mode == 1) pattern
+page_refusal count page mode pattern = with_pattern (protect_refusal count page mode) (mode == EXECUTE_MODE) pattern
+
+-- protect, in the heap of a process, as its tables stand in a memory
+abbrev pub heap_page_refusal : Physical → Entry → ℕ → ℕ → Option (CallRefusal × ℕ)
+heap_page_refusal memory entry page mode =
+    page_refusal entry.process.heap_pages page mode (pattern_at memory entry.set page entry.process.heap_pages)
 
 -- the answer of a call and its second value, by its refusal
 abbrev pub answer_by : Option (CallRefusal × ℕ) → ℕ × ℕ

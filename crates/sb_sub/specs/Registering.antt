@@ -1,10 +1,13 @@
 -- What register does to bytes: the pool word is put, and the pages of the stacks are added.
 use Rattle.std.specs.Prelude.{ℕ, ◌≡◌, ◌-◌, ◌*◌, ◌/◌, ◌^◌, ◌<◌, [], ◌∷◌, Option, Some, IfOk}
+use Rattle.sb_abi.specs.declared.space.TheConstants.{STACK_PAGES}
+use Rattle.sb_abi.specs.declared.trampoline.TheConstants.{POOL_ADDRESS}
 use Rattle.sb_memory.specs.Physical.{Physical, frame_count}
 use Rattle.sb_memory.specs.Reading.{with_bytes}
 use Rattle.sb_memory.specs.Words.{put_word}
 use Rattle.sb_memory.specs.declared.address.Access.TheVariants.{Read}
 use Rattle.sb_memory.specs.declared.address.Frame.{Frame}
+use Rattle.sb_memory.specs.declared.page.TheConstants.{PAGE_SIZE}
 use Rattle.sb_frames.specs.Book.{Book}
 use Rattle.sb_pagewalk.specs.declared.table_set.TableSet.{TableSet}
 use Rattle.sb_pagewalk.specs.TableSet.{walked_in}
@@ -18,18 +21,14 @@ use Rattle.sb_sub.specs.Kernel.{Entry}
 use Rattle.sb_sub.specs.Heap.{led_to}
 use Rattle.sb_sub.specs.Carries.{Carries, StaysPlaced, TakesStacks}
 
--- the linear address of the pool page
-abbrev pub pool_at : ℕ
-pool_at = 0x70006000
-
 -- the frame of the pool page
 abbrev pub pool_found : Physical → TableSet → Option Frame
-pool_found memory set = led_to (walked_in memory set pool_at Read)
+pool_found memory set = led_to (walked_in memory set POOL_ADDRESS Read)
 
 -- The pool page is there, in a frame that holds no table.
 pub record FindsPool (memory : Physical) (set : TableSet) (root : RootKernel) : Type 0 where
   pub small : frame_count memory < 2 ^ 32
-  pub inside : IfOk (walked_in memory set pool_at Read) (λ at. at.0 / 4096 < frame_count memory)
+  pub inside : IfOk (walked_in memory set POOL_ADDRESS Read) (λ at. at.0 / 4096 < frame_count memory)
   pub frame : Frame
   pub found : pool_found memory set ≡ Some frame
   pub set_apart : IsSetApart set (frame.0 ∷ [])
@@ -40,8 +39,8 @@ pub record RegistersPages (set : TableSet) (root : RootKernel) (book book' : Boo
   pub frame : Frame
   pub found : pool_found old set ≡ Some frame
   pub mid : Physical
-  pub written : mid ≡ with_bytes old (put_word old.bytes (4096 * frame.0) (2 ^ stacks - 1))
-  pub stacks_taken : TakesStacks set root book book' mid new owner (4 * stacks)
+  pub written : mid ≡ with_bytes old (put_word old.bytes (PAGE_SIZE * frame.0) (2 ^ stacks - 1))
+  pub stacks_taken : TakesStacks set root book book' mid new owner (STACK_PAGES * stacks)
 
 -- what is carried after register: the state with the server, and each page and table where it was
 pub record Registered (placement : Placement) (root : RootKernel) (book : Book) (memory : Physical) (state : State)

@@ -31,7 +31,9 @@ line_of (GoHome status) = event.ServerExit status
 -- a call that was refused
 abbrev pub IsRefused : Answer → Type 0
 IsRefused (Back number answer) = answer ≢ 0
-IsRefused _ = ⊥
+IsRefused (Printed value) = ⊥
+IsRefused (Ended status) = ⊥
+IsRefused (GoHome status) = ⊥
 
 -- The line is the outcome's, the thread's registers are those of the state after it, and that state is what is stood for.
 pub record Serves (kernel : Kernel) (root : RootKernel) (book : Book) (memory : Physical) (thread : ℕ) (answer : Answer)

@@ -1,5 +1,6 @@
 -- When what a Subkernel, its root kernel, the frame book and physical memory hold stands for a state of plain memory.
 use Rattle.std.specs.Prelude.{ℕ, ◌≡◌, ◌≤◌, length, map, slice_get, Some}
+use Rattle.sb_abi.specs.declared.space.TheConstants.{WINDOW_PAGES}
 use Rattle.sb_memory.specs.Physical.{Physical}
 use Rattle.sb_frames.specs.Book.{Book, free_count}
 use Rattle.sb_root.specs.declared.root_kernel.RootKernel.{RootKernel}
@@ -16,7 +17,7 @@ use Rattle.sb_sub.specs.Kernel.{Entry, Kernel, process_of, seat_of}
 -- pages are those of the table, heaps are within their window, and there is a flight, or none, for each thread.
 pub record IsServable (state : State) : Type 0 where
   pub table : ArePagesOfTable state
-  pub heaps : (process : ℕ) → heap_count (process_at state process) ≤ 512
+  pub heaps : (process : ℕ) → heap_count (process_at state process) ≤ WINDOW_PAGES
   pub few : HasFewThreads state
   pub places : length state.flights ≡ length state.threads
 

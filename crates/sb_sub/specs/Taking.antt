@@ -1,10 +1,12 @@
 -- A page that is taken from the frame book, filled, mapped in a process and exposed.
 use Rattle.std.specs.Prelude.{ℕ, ◌≡◌, ◌+◌, ◌*◌, ◌<◌, ◌==◌, List, [], ◌∷◌, Some, get_or, if◌then◌else◌}
 use Rattle.std.specs.List.{Contains}
+use Rattle.sb_abi.specs.declared.space.TheConstants.{TOP_WORD}
 use Rattle.sb_memory.specs.Physical.{Physical}
 use Rattle.sb_memory.specs.Changes.{SameOutside}
 use Rattle.sb_memory.specs.Words.{put_word}
 use Rattle.sb_memory.specs.declared.address.Frame.{Frame}
+use Rattle.sb_memory.specs.declared.page.TheConstants.{PAGE_SIZE}
 use Rattle.sb_frames.specs.Book.{Book, with_holder, free_count}
 use Rattle.sb_frames.specs.declared.kind.Kind.TheVariants.{Writable}
 use Rattle.sb_pagewalk.specs.declared.table_set.TableSet.{TableSet}
@@ -16,12 +18,13 @@ use Rattle.sb_root.specs.Tables.{base_frames}
 use Rattle.sb_root.specs.Calls.{IsFree}
 use Rattle.sb_trace.specs.PageWords.{zeros}
 use Rattle.sb_state.specs.declared.page.Mode.TheVariants.{ReadWrite}
+use Rattle.sb_root.specs.declared.entry.TheConstants.{RIGHT_READ_WRITE}
 use Rattle.sb_shows.specs.Placement.{leaf_for}
 use Rattle.sb_shows.specs.Calls.{SetsPage, ExposesFrame}
 
 -- zeros, with a word at the top where it is not 0
 abbrev pub top_bytes : ℕ → List ℕ
-top_bytes top = if top == 0 then zeros else put_word zeros 0xFF8 top
+top_bytes top = if top == 0 then zeros else put_word zeros TOP_WORD top
 
 -- The tables of a process and of the root kernel stand, each in frames that are not free.
 pub record CanTake (set : TableSet) (root : RootKernel) (book : Book) (memory : Physical) : Type 0 where
@@ -42,7 +45,7 @@ pub record TakesPage (set : TableSet) (root : RootKernel) (book book' : Book) (o
   pub fewer : free_count book' + 1 ≡ free_count book
   pub filled : Physical
   pub same : SameOutside (frame.0 ∷ []) old filled
-  pub held : (offset : ℕ) → offset < 4096 → get_or filled.bytes (4096 * frame.0 + offset) 0 ≡ get_or (top_bytes top) offset 0
+  pub held : (offset : ℕ) → offset < PAGE_SIZE → get_or filled.bytes (PAGE_SIZE * frame.0 + offset) 0 ≡ get_or (top_bytes top) offset 0
   pub mapped : Physical
   pub set_page : SetsPage set filled mapped at (leaf_for frame.0 ReadWrite)
-  pub exposed : ExposesFrame root mapped new frame.0 3
+  pub exposed : ExposesFrame root mapped new frame.0 RIGHT_READ_WRITE

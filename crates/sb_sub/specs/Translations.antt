@@ -3,7 +3,7 @@ use Rattle.std.specs.Prelude.{ℕ, ◌≡◌, Some}
 use Rattle.sb_memory.specs.declared.address.Access.{Access}
 use Rattle.sb_memory.specs.declared.address.PhysAddr.{PhysAddr}
 use Rattle.sb_nested.specs.View.{View}
-use Rattle.sb_state.specs.declared.page.Seen.{Seen}
+use Rattle.sb_state.specs.declared.page.SeenPage.{SeenPage}
 use Rattle.sb_trace.specs.State.{State}
 use Rattle.sb_trace.specs.Windows.{page_for}
 use Rattle.sb_shows.specs.Placement.{Placement}
@@ -15,7 +15,7 @@ use Rattle.sb_shows.specs.Shows.{LeadsTo}
 -- what is seen in a view stays seen, in the same mode and in the same frame
 abbrev pub SeenStays : Placement → Placement → ℕ → ℕ → State → State → Type 0
 SeenStays placement placement' thread index state state' =
-    (page : ℕ) (one : Seen) → page_for state thread index page ≡ Some one
+    (page : ℕ) (one : SeenPage) → page_for state thread index page ≡ Some one
     → (page_for state' thread index page ≡ Some one) × (placement'.frame one.name ≡ placement.frame one.name)
 
 -- then each address that leads to a place leads there afterwards

@@ -1,9 +1,11 @@
 //! The pages of a heap, found by the tables of its process.
 
 ghost use Rattle.std.specs.Prelude.{◌≡◌, ◌<◌, ◌≤◌, ◌+◌, ◌*◌, ◌/◌, ◌^◌, ◌++◌, IfOk, IfSome, Option, length, drop, take};
+ghost use Rattle.sb_abi.specs.declared.frames.TheConstants.{KEPT_FRAMES};
 ghost use Rattle.sb_memory.specs.Physical.{frame_count};
 ghost use Rattle.sb_memory.specs.declared.address.Frame.{Frame};
 ghost use Rattle.sb_memory.specs.declared.address.Access.TheVariants.{Read};
+ghost use Rattle.sb_memory.specs.declared.page.TheConstants.{PAGE_SIZE};
 ghost use Rattle.sb_pagewalk.specs.TableSet.{walked_in};
 ghost use Rattle.sb_sub.specs.Heap.{FindsHeap, frame_before, frame_behind, frame_bytes, heap_at, heap_frame, pattern_at, pattern_by};
 
@@ -30,18 +32,18 @@ pub fn heap_frame(memory: &mut Memory, set: &TableSet, page: u32, access: Access
     ensures same { memory.new ≡ memory.old }
     ensures frame { result ≡ heap_frame memory.old set.now page access }
 {
-    let root = 4096 * u64::from(set.root.0);
+    let root = PAGE_SIZE as u64 * u64::from(set.root.0);
     match walk(&mut Direct::new(memory), root, heap_address(page), access) {
-        Ok(at) => Some(Frame((at.0 / 4096) as u32)),
+        Ok(at) => Some(Frame((at.0 / PAGE_SIZE as u64) as u32)),
         Err(_) => None,
     }
 }
 
 /// The bytes of a frame; none of no frame.
 fn frame_bytes(memory: &Memory, frame: Option<Frame>) -> &[u8]
-    requires { IfSome frame (λ frame. 4096 * frame.0 + 4096 ≤ length memory.now.bytes) }
+    requires { IfSome frame (λ frame. PAGE_SIZE * frame.0 + PAGE_SIZE ≤ length memory.now.bytes) }
     ensures bytes { result.now ≡ frame_bytes memory.now frame }
-    ensures size { length result.now ≤ 4096 }
+    ensures size { length result.now ≤ PAGE_SIZE }
     ensures full { IfSome frame (λ _. 2 ≤ length result.now) }
 {
     match frame {
@@ -98,7 +100,7 @@ pub fn page_frame(memory: &mut Memory, set: &TableSet, page: u32, count: u32) ->
     ensures same { memory.new ≡ memory.old }
     ensures frame { heap_frame memory.old set.now page Read ≡ Some result }
     ensures inside { result.0 < frame_count memory.old }
-    ensures above { 512 ≤ result.0 }
+    ensures above { KEPT_FRAMES ≤ result.0 }
 {
     match heap_frame(memory, set, page, Access::Read) {
         Some(frame) => frame,
@@ -128,7 +130,7 @@ fn pattern_among(
     found: Frame,
     behind: Option<Frame>,
 ) -> Option<u64>
-    requires size { length memory.now.bytes ≡ 4096 * frame_count memory.now }
+    requires size { length memory.now.bytes ≡ PAGE_SIZE * frame_count memory.now }
     requires before { IfSome before (λ frame. frame.0 < frame_count memory.now) }
     requires found { found.0 < frame_count memory.now }
     requires behind { IfSome behind (λ frame. frame.0 < frame_count memory.now) }

@@ -3,7 +3,7 @@
 
 mod answer;
 mod heap;
-mod law;
+mod laws;
 mod process;
 mod protect;
 mod register;
@@ -12,6 +12,6 @@ mod sub_kernel;
 mod taking;
 
 pub use answer::Answer;
-pub use law::{pages_are_carried, translations_are_kept, what_is_stood_for_is_shown};
+pub use laws::{pages_are_carried, translations_are_kept, what_is_stood_for_is_shown};
 pub use process::Process;
 pub use sub_kernel::{Seat, SubKernel};

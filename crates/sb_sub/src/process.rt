@@ -19,5 +19,12 @@ impl Model for Process {
 
     ghost Value = { Entry };
 
-    ghost view = { λ process. record { process = record { starts = process.starts.items; heap_pages = process.heap_pages; registration = process.registration }; set = process.set } };
+    ghost view = { λ process. record {
+      process = record {
+        starts = process.starts.items;
+        heap_pages = process.heap_pages;
+        registration = process.registration;
+      };
+      set = process.set;
+    } };
 }

@@ -4,29 +4,22 @@ ghost use Rattle.std.specs.Prelude.{◌≡◌, ◌<◌, ◌==◌, [], ◌∷◌,
 ghost use Rattle.sb_memory.specs.declared.address.Frame.{Frame};
 ghost use Rattle.sb_pagewalk.specs.Standing.{HasTables};
 ghost use Rattle.sb_pagewalk.specs.TableSet.{table_frame};
+ghost use Rattle.sb_calls.specs.declared.refusals.TheConstants.{EXECUTE_MODE};
 ghost use Rattle.sb_root.specs.Standing.{IsApart, Stands};
 ghost use Rattle.sb_shows.specs.Placement.{leaf_for, rights_for};
 ghost use Rattle.sb_sub.specs.Heap.{FindsHeap, SetsMode, heap_mode, pattern_at};
-ghost use Rattle.sb_sub.specs.Refusals.{pattern_refusal, page_refusal};
+ghost use Rattle.sb_sub.specs.Refusals.{pattern_refusal, heap_page_refusal};
 
 use crate::heap::{heap_address, heap_pattern, page_frame};
 use crate::process::Process;
+use crate::taking::DATA;
 use sb_abi::CallRefusal;
 use sb_calls::{EXECUTE_MODE, protect_refusal};
-use sb_memory::{Frame, Memory};
-use sb_root::RootKernel;
+use sb_memory::{Frame, Memory, PAGE_SIZE};
+use sb_root::{RIGHT_EXECUTE, RIGHT_READ_WRITE, RootKernel};
 
 /// Present, user, and not writable: a lowest entry for code.
 const CODE: u64 = 5;
-
-/// Present, writable and user, and no fetch: a lowest entry for data.
-const DATA: u64 = 7 + (1 << 63);
-
-/// Read and write, for the base.
-const READ_WRITE: u8 = 3;
-
-/// Execute alone, for the base.
-const EXECUTE_ALONE: u8 = 4;
 
 /// The first refusal of a change of mode, and a second value with it.
 fn refusal(
@@ -37,7 +30,7 @@ fn refusal(
 ) -> Option<(CallRefusal, u64)>
     requires finds { FindsHeap memory.old process.now.set process.now.process.heap_pages }
     ensures same { memory.new ≡ memory.old }
-    ensures refusal { result ≡ page_refusal process.now.process.heap_pages page mode (pattern_at memory.old process.now.set page process.now.process.heap_pages) }
+    ensures refusal { result ≡ heap_page_refusal memory.old process.now page mode }
     ensures within { IfNone result (page < process.now.process.heap_pages) }
 {
     if let Some(refusal) = protect_refusal(process.heap_pages, page, mode) {
@@ -66,7 +59,7 @@ fn pattern_refusal(process: &Process, memory: &mut Memory, page: u32) -> Option<
 fn heap_entry(frame: Frame, executable: bool) -> u64
     ensures { result ≡ leaf_for frame.0 (heap_mode executable) }
 {
-    let start = 4096 * u64::from(frame.0);
+    let start = PAGE_SIZE * u64::from(frame.0);
     if executable {
         start + CODE
     } else {
@@ -79,9 +72,9 @@ fn heap_rights(executable: bool) -> u8
     ensures { result ≡ rights_for (heap_mode executable) }
 {
     if executable {
-        EXECUTE_ALONE
+        RIGHT_EXECUTE
     } else {
-        READ_WRITE
+        RIGHT_READ_WRITE
     }
 }
 
@@ -121,11 +114,11 @@ pub fn protect(
     requires tables { HasTables process.now.set memory.old }
     requires stands { Stands root.old memory.old }
     requires apart { IsApart root.old (table_frame process.now.set 7 ∷ []) }
-    ensures refusal { result ≡ page_refusal process.now.process.heap_pages page mode (pattern_at memory.old process.now.set page process.now.process.heap_pages) }
+    ensures refusal { result ≡ heap_page_refusal memory.old process.now page mode }
     ensures root { root.new ≡ root.old }
     ensures refused { IfSome result (λ _. memory.new ≡ memory.old) }
     ensures within { IfNone result (page < process.now.process.heap_pages) }
-    ensures sets { IfNone result (SetsMode process.now.set root.old memory.old memory.new page (mode == 1)) }
+    ensures sets { IfNone result (SetsMode process.now.set root.old memory.old memory.new page (mode == EXECUTE_MODE)) }
 {
     let refused = refusal(process, memory, page, mode);
     if refused.is_none() {

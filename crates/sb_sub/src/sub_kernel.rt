@@ -1,6 +1,8 @@
 //! The Subkernel.
 
 ghost use Rattle.std.specs.Prelude.{◌≡◌, ◌≢◌, ◌<◌, IfSome, Some, length, nat_lt, slice_get};
+ghost use Rattle.sb_abi.specs.Numbers.{call_number};
+ghost use Rattle.sb_abi.specs.declared.call.Call.TheVariants.{Register, Bind, Protect};
 ghost use Rattle.sb_trace.specs.State.{State};
 ghost use Rattle.sb_trace.specs.Registers.{rax, rdi};
 ghost use Rattle.sb_trace.specs.Syscall.{syscall_outcome};
@@ -15,7 +17,7 @@ use crate::answer::Answer;
 use crate::process::Process;
 use crate::protect::protect;
 use crate::registers::{entered, go_on};
-use sb_abi::CallRefusal;
+use sb_abi::{Call, CallRefusal};
 use sb_calls::server_fault_regs;
 use sb_frames::FrameBook;
 use sb_insn::Regs;
@@ -57,7 +59,17 @@ impl Model for SubKernel {
     ghost view = { λ kernel. record { processes = kernel.processes.items; seats = kernel.seats.items; keys = kernel.keys } };
 }
 
-/// Call 0: at home the thread ends with a status; in a server's view it is sent home.
+// ---- the numbers of calls
+
+const EXIT: u64 = Call::Exit as u64;
+
+const PRINT: u64 = Call::Print as u64;
+
+const PROTECT: u64 = Call::Protect as u64;
+
+// ---- calls
+
+/// Exit: at home the thread ends with a status; in a server's view it is sent home.
 fn exit(view: u16, regs: &mut Regs) -> Answer
     ensures answer { result ≡ exit_answer view (rdi regs.old) }
     ensures regs { regs.new ≡ exit_regs view regs.old }
@@ -122,7 +134,8 @@ impl SubKernel {
         requires stands { (book : Book) × (state : State) × StandsFor self.now root.old book memory.old state }
         ensures root { root.new ≡ root.old }
         ensures refused { IfSome result (λ _. memory.new ≡ memory.old) }
-        ensures served { (book : Book) (state : State) → StandsFor self.now root.old book memory.old state → ProtectsBy self.now root.old book memory.new state process page mode result }
+        ensures served { (book : Book) (state : State) → StandsFor self.now root.old book memory.old state
+            → ProtectsBy self.now root.old book memory.new state process page mode result }
     {
         if self.has_process(process) {
             protect(self.process(process), memory, root, page, mode)
@@ -144,20 +157,22 @@ impl SubKernel {
     ) -> Answer
         requires stands { (state : State) × StandsFor self.old root.old book.old memory.old state }
         requires thread { thread < length self.old.seats }
-        requires built { (rax regs.old ≢ 2) × (rax regs.old ≢ 3) }
-        ensures served { ServesBy syscall_outcome self.old root.old book.old memory.old self.new root.new book.new memory.new thread view result regs.old regs.new }
-        ensures refused { IsRefused result → (self.new ≡ self.old) × (root.new ≡ root.old) × (book.new ≡ book.old) × (memory.new ≡ memory.old) }
-        ensures tables { rax regs.old ≢ 4 → memory.new ≡ memory.old }
+        requires built { (rax regs.old ≢ call_number Register) × (rax regs.old ≢ call_number Bind) }
+        ensures served { ServesBy syscall_outcome self.old root.old book.old memory.old self.new root.new book.new memory.new
+            thread view result regs.old regs.new }
+        ensures refused { IsRefused result
+            → (self.new ≡ self.old) × (root.new ≡ root.old) × (book.new ≡ book.old) × (memory.new ≡ memory.old) }
+        ensures tables { rax regs.old ≢ call_number Protect → memory.new ≡ memory.old }
     {
         let number = regs.general[RAX];
         match number {
-            0 => exit(view, regs),
-            1 => {
+            EXIT => exit(view, regs),
+            PRINT => {
                 let value = regs.general[RDI];
                 go_on(regs, 0, 0);
                 Answer::Printed(value)
             }
-            4 => {
+            PROTECT => {
                 let process = self.shown(thread, view);
                 let (page, mode) = (regs.general[RDI], regs.general[RSI]);
                 let refusal = self.protect_page(memory, root, process, page, mode);

@@ -1,8 +1,10 @@
 //! Pages that are added: a frame is taken, filled, mapped and exposed.
 
-ghost use Rattle.std.specs.Prelude.{ℕ, ◌≡◌, ◌+◌, ◌*◌, ◌<◌, ◌≤◌, [], ◌∷◌, get_or};
-ghost use Rattle.sb_memory.specs.Physical.{HasSize, frame_count};
+ghost use Rattle.std.specs.Prelude.{◌≡◌, ◌+◌, ◌*◌, ◌<◌, ◌≤◌, [], ◌∷◌};
+ghost use Rattle.sb_abi.specs.declared.space.TheConstants.{WINDOW_PAGES};
+ghost use Rattle.sb_memory.specs.Physical.{HasSize, HoldsBytes, frame_count};
 ghost use Rattle.sb_memory.specs.Changes.{SameOutside};
+ghost use Rattle.sb_memory.specs.declared.page.TheConstants.{PAGE_SIZE};
 ghost use Rattle.sb_frames.specs.Book.{free_count};
 ghost use Rattle.sb_pagewalk.specs.Windows.{IsInWindow};
 ghost use Rattle.sb_state.specs.declared.page.Mode.TheVariants.{ReadWrite};
@@ -10,28 +12,28 @@ ghost use Rattle.sb_shows.specs.Placement.{leaf_for};
 ghost use Rattle.sb_sub.specs.Carries.{TakesStacks, stack_at, stack_top};
 ghost use Rattle.sb_sub.specs.Taking.{CanTake, TakesPage, top_bytes};
 
-use sb_abi::{EXIT_STUB, SERVER_STACKS_ADDRESS, TOP_WORD};
+use sb_abi::{EXIT_STUB, SERVER_STACKS_ADDRESS, STACK_PAGES, TOP_WORD};
 use sb_frames::{FrameBook, Kind};
 use sb_memory::{Frame, Linear, Memory, PAGE_SIZE, PhysAddr};
 use sb_pagewalk::TableSet;
-use sb_root::RootKernel;
+use sb_root::{RIGHT_READ_WRITE, RootKernel};
 
 /// Present, writable and user, and no fetch: a lowest entry for data.
-const DATA: u64 = 7 + (1 << 63);
+pub const DATA: u64 = 7 + (1 << 63);
 
-/// Read and write, for the base.
-const READ_WRITE: u8 = 3;
+/// The pages of a stack.
+const STACK: u32 = STACK_PAGES as u32;
 
 /// Fills a frame with zeros, and puts a word at its top if it is not 0.
 fn fill(memory: &mut Memory, frame: Frame, top: u64)
     requires inside { frame.0 < frame_count memory.old }
     requires size { HasSize memory.old }
     ensures same { SameOutside (frame.0 ∷ []) memory.old memory.new }
-    ensures held { (offset : ℕ) → offset < 4096 → get_or memory.new.bytes (4096 * frame.0 + offset) 0 ≡ get_or (top_bytes top) offset 0 }
+    ensures held { HoldsBytes memory.new frame.0 (top_bytes top) }
 {
     memory.clear_frame(frame);
     if top != 0 {
-        memory.set_word(PhysAddr(4096 * u64::from(frame.0) + TOP_WORD), top);
+        memory.set_word(PhysAddr(PAGE_SIZE * u64::from(frame.0) + TOP_WORD), top);
     }
 }
 
@@ -40,7 +42,7 @@ fn fill(memory: &mut Memory, frame: Frame, top: u64)
 fn data_entry(frame: Frame) -> u64
     ensures { result ≡ leaf_for frame.0 ReadWrite }
 {
-    4096 * u64::from(frame.0) + DATA
+    PAGE_SIZE * u64::from(frame.0) + DATA
 }
 
 /// Adds a writable page of zeros, with a word at its top if that is not 0, to the tables of a process.
@@ -63,7 +65,7 @@ pub fn add_page(
     let frame = book.take_free(Kind::Writable, owner);
     fill(memory, frame, top);
     set.set_page(memory, at, data_entry(frame));
-    root.expose(memory, frame, READ_WRITE);
+    root.expose(memory, frame, RIGHT_READ_WRITE);
 }
 
 /// Adds so many pages of server stacks to a process.
@@ -75,7 +77,7 @@ pub fn add_stacks(
     owner: u32,
     count: u32,
 )
-    requires few { count ≤ 512 }
+    requires few { count ≤ WINDOW_PAGES }
     requires some { count ≤ free_count book.old }
     requires can { CanTake set.now root.old book.old memory.old }
     ensures root { root.new ≡ root.old }
@@ -107,5 +109,9 @@ fn stack_address(page: u32) -> Linear
 fn top_word(page: u32) -> u64
     ensures { result ≡ stack_top page }
 {
-    if page % 4 == 3 { EXIT_STUB } else { 0 }
+    if page % STACK == STACK - 1 {
+        EXIT_STUB
+    } else {
+        0
+    }
 }

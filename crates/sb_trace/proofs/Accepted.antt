@@ -1,7 +1,7 @@
 -- What a system call found that is not refused.
 use Rattle.std.proofs.Common.{◌≡◌, ◌≢◌, ℕ, ◌*◌, ◌<◌, ◌≤◌, Bool, true, false, List, [], ◌∷◌, ◌==◌, ◌&&◌, ◌||◌, length, drop, refl, arith, inl, inr}
 use Rattle.std.specs.Prelude.{Option, Some, None, if◌then◌else◌, not, nat_lt, nat_le, slice_index}
-use Rattle.std.proofs.lemmas.Bool.{cases_lt, and_parts, or_parts}
+use Rattle.std.proofs.lemmas.Bool.{cases_lt, and_parts, or_parts, eqb-false, not-true}
 use Rattle.std.proofs.lemmas.Bool.Decides.{Decides-eqb, Decides-ltb, leb_tells}
 use Rattle.sb_abi.specs.declared.call.CallRefusal.{CallRefusal}
 use Rattle.sb_abi.specs.declared.frames.TheConstants.{BIND_FRAMES}
@@ -26,10 +26,6 @@ not_false : (test : Bool) → not test ≡ false → test ≡ true
 not_false true is = refl
 not_false false is = absurd cc
 
-not_true : (test : Bool) → not test ≡ true → test ≡ false
-not_true true is = absurd cc
-not_true false is = refl
-
 not_less : (first second : ℕ) → nat_lt first second ≡ false → second ≤ first
 not_less first second is = elim (cases_lt first second) [
   | inl less ↦ absurd (clash (nat_lt first second) ((Decides-ltb first second).1 less) is)
@@ -41,9 +37,6 @@ not_most first second is = elim (leb_tells first second) [
   | inl most ↦ absurd (clash (nat_le first second) most.0 is)
   | inr less ↦ less.1
 ]
-
-not_equal : (first second : ℕ) → (first == second) ≡ false → first ≢ second
-not_equal first second is same = clash (first == second) ((Decides-eqb first second).1 same) is
 
 -- where it is no other view, it is the home view
 at_home : (view : ℕ) → not (view == 0) ≡ false → view ≡ 0
@@ -72,7 +65,7 @@ register_accepted view registered start stacks free =
     (λ count. none_if Goal (nat_lt free (STACK_PAGES * stacks)) _ _
     (λ room done.
     let counted = or_parts (stacks == 0) (nat_lt MAX_STACKS stacks) count in
-    let some : stacks ≢ 0 = not_equal stacks 0 counted.0 in
+    let some : stacks ≢ 0 = eqb-false stacks 0 counted.0 in
     record {
       home = at_home view home;
       fresh = fresh;
@@ -160,7 +153,7 @@ binding state thread server =
     let there = has_registration (registration_at state server) parts.1 in
     record {
       home = at_home thread.view home;
-      away = not_equal server thread.home (not_true (server == thread.home) parts.0);
+      away = eqb-false server thread.home (not-true (server == thread.home) parts.0);
       registration = there.0;
       registered = there.1;
       few = not_most MAX_BINDINGS (length thread.bindings) few;

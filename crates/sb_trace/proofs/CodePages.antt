@@ -10,7 +10,7 @@ use Rattle.sb_state.specs.declared.page.PageName.TheVariants.{Text, Area, Heap, 
 use Rattle.sb_state.specs.declared.page.Mode.{Mode}
 use Rattle.sb_state.specs.declared.page.Mode.TheVariants as mode
 use Rattle.sb_state.specs.declared.page.Page.{Page}
-use Rattle.sb_state.specs.declared.page.Seen.{Seen}
+use Rattle.sb_state.specs.declared.page.SeenPage.{SeenPage}
 use Rattle.sb_state.specs.PageName.{same_name, mode_of, permits}
 use Rattle.sb_state.specs.State.{State, find_page, with_page_bytes, bytes_of, contents}
 use Rattle.sb_state.specs.Windows.{page_for, page_by_name, page_and_mode, name_at, process_shown}
@@ -49,23 +49,23 @@ fetch_or_write mode.Fetch is = refl
 fetch_or_write mode.Read is = refl
 fetch_or_write mode.ReadWrite is = absurd cc
 
-seen_there : (name : PageName) (found : Option Page) (one : Seen) → option_map (page_and_mode name) found ≡ Some one
+seen_there : (name : PageName) (found : Option Page) (one : SeenPage) → option_map (page_and_mode name) found ≡ Some one
     → (page : Page) × (found ≡ Some page) × (page_and_mode name page ≡ one)
 seen_there name None one is = absurd cc
 seen_there name (Some page) one is = (page, refl, cc)
 
-seen_named : (pages : List Page) (name : Option PageName) (one : Seen) → option_and_then (page_by_name pages) name ≡ Some one
+seen_named : (pages : List Page) (name : Option PageName) (one : SeenPage) → option_and_then (page_by_name pages) name ≡ Some one
     → (page : Page) × (find_page pages one.name ≡ Some page) × (one.mode ≡ mode_of one.name page.executable)
 seen_named pages None one is = absurd cc
 seen_named pages (Some name) one is =
     let there = seen_there name (find_page pages name) one is in (
       there.0,
-      subst (λ (seen : Seen). find_page pages seen.name ≡ Some there.0) there.2 there.1,
-      subst (λ (seen : Seen). seen.mode ≡ mode_of seen.name there.0.executable) there.2 refl,
+      subst (λ (seen : SeenPage). find_page pages seen.name ≡ Some there.0) there.2 there.1,
+      subst (λ (seen : SeenPage). seen.mode ≡ mode_of seen.name there.0.executable) there.2 refl,
     )
 
 -- a page that is seen is found by its name
-pub seen_found : (state : State) (thread view page : ℕ) (one : Seen) → page_for state thread view page ≡ Some one
+pub seen_found : (state : State) (thread view page : ℕ) (one : SeenPage) → page_for state thread view page ≡ Some one
     → (found : Page) × (find_page state.pages one.name ≡ Some found) × (one.mode ≡ mode_of one.name found.executable)
 unfolding page_for
 seen_found state thread view page one is =

@@ -7,7 +7,7 @@ use Rattle.std.specs.Int.{byte_at, bytes_low_first}
 use Rattle.std.proofs.lemmas.List.Edits.{sets}
 use Rattle.byteorder.specs.Endian.{little_bytes}
 use Rattle.sb_abi.specs.declared.space.TheConstants.{STACK_PAGES, BUFFER_PAGES}
-use Rattle.sb_memory.specs.Words.{put_word, words_put}
+use Rattle.sb_memory.specs.Words.{put_word, put_words}
 use Rattle.sb_tramp.specs.declared.record_words.RecordWords.{RecordWords}
 use Rattle.sb_tramp.specs.Record.{words_of}
 use Rattle.sb_trace.specs.declared.event.Event.{Event}
@@ -32,6 +32,7 @@ use Rattle.sb_state.proofs.Modes.{mode_same, mode_other}
 use Rattle.sb_state.proofs.Start.{record_page, EachPage, found_each, each_both, each_from}
 use Rattle.sb_trace.proofs.Beginning.{found_name, first_pages}
 use Rattle.sb_trace.proofs.CodeSound.{HaveBytes}
+use Rattle.sb_trace.proofs.PoolWords.{bytes_by}
 
 -- ---- lists of bytes
 
@@ -80,7 +81,7 @@ pub put_bytes : (bytes : List ℕ) (place word : ℕ) → AreBytes bytes → Are
 unfolding put_word
 put_bytes bytes place word all = sets_bytes (little_bytes 8 word) bytes place (low_bytes 0 8 word) all
 
-words_bytes : (words bytes : List ℕ) (place : ℕ) → AreBytes bytes → AreBytes (words_put bytes place words)
+words_bytes : (words bytes : List ℕ) (place : ℕ) → AreBytes bytes → AreBytes (put_words bytes place words)
 words_bytes [] bytes place all = all
 words_bytes (word ∷ words) bytes place all =
     words_bytes words (put_word bytes place word) (place + 8) (put_bytes bytes place word all)
@@ -104,10 +105,6 @@ HasBytes page = is_code_name page.name ≡ false → AreBytes page.bytes
 -- the bytes of the page of a name
 abbrev NamedBytes : List Page → PageName → Type 0
 NamedBytes pages name = AreBytes (bytes_of (find_page pages name))
-
-bytes_by : (found : Option Page) → ((page : Page) → found ≡ Some page → AreBytes page.bytes) → AreBytes (bytes_of found)
-bytes_by None all = tt
-bytes_by (Some page) all = all page refl
 
 bytes_at : (pages : List Page) (name : PageName) → is_code_name name ≡ false → HaveBytes pages → NamedBytes pages name
 bytes_at pages name loads all = bytes_by (find_page pages name) (λ page. all name page loads)

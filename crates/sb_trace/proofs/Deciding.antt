@@ -2,6 +2,7 @@
 use Rattle.std.proofs.Common.{◌≡◌, ◌≢◌, ◌∙◌, sym, ap, subst, ℕ, ◌-◌, ◌^◌, Bool, true, false, ◌==◌, refl, arith}
 use Rattle.std.specs.Prelude.{Option, Some, None}
 use Rattle.std.proofs.lemmas.Bool.Decides.{Decides-eqb}
+use Rattle.std.proofs.lemmas.Bool.{eqb-false}
 use Rattle.sb_insn.specs.declared.registers.Regs.{Regs}
 use Rattle.sb_trace.specs.declared.event.Event.{Event}
 use Rattle.sb_trace.specs.declared.event.Event.TheVariants.{WrongKey, PoolEmpty, Entered}
@@ -21,7 +22,7 @@ use Rattle.sb_state.proofs.Cases.{claim_if, clash}
 use Rattle.sb_state.proofs.Threads.{thread_set_there}
 use Rattle.sb_trace.proofs.Threads.{HasThread, bound_there}
 use Rattle.sb_trace.proofs.InFlight.{flight_of, StandsAtCall, IsUndecided}
-use Rattle.sb_trace.proofs.Phases.{other_number, Decides}
+use Rattle.sb_trace.proofs.Phases.{Decides}
 
 -- ---- what is seen
 
@@ -121,7 +122,7 @@ behind_bound state core index binding decision.PoolEmpty runs same sees =
     claim_if (IsBehindCall state core decision.PoolEmpty index) (rsi (thread_at state core).regs == binding.key) _ _
     (λ fits. claim_if (IsBehindCall state core decision.PoolEmpty index) (pool_word state binding.server == 0) _ _
     (λ none. behind_in state core 0 (PoolEmpty binding.index) _ decision.PoolEmpty index runs refl)
-    (λ some. absurd (other_number _ 0 some sees.1)))
+    (λ some. absurd (eqb-false _ 0 some sees.1)))
     (λ wrong. absurd (clash _ sees.0 wrong))
 behind_bound state core index binding decision.Entered runs same sees =
     claim_if (IsBehindCall state core decision.Entered index) (rsi (thread_at state core).regs == binding.key) _ _
@@ -148,7 +149,7 @@ behind_called state core leaf index binding decided runs none away bound sees =
     (λ home. absurd (away ((Decides-eqb index 0).0 home)))
     (λ server. behind_through state core index (binding_with (thread_at state core).bindings index) binding decided runs bound
     (bound_there (thread_at state core).bindings index binding bound).0 sees))
-    (λ bad. absurd (other_number leaf 0 bad none))
+    (λ bad. absurd (eqb-false leaf 0 bad none))
 
 -- the kernel's call of a thread at the VMFUNC, by what it sees
 pub call_behind : (state : State) (core index : ℕ) (stands : StandsAtCall (thread_at state core) index) (decided : Decision)

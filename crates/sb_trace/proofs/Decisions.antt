@@ -2,6 +2,7 @@
 use Rattle.std.proofs.Common.{◌≡◌, ◌≢◌, ◌∙◌, sym, ap, subst, ℕ, ◌==◌, refl}
 use Rattle.std.specs.Prelude.{Option, Some, None}
 use Rattle.std.proofs.lemmas.Bool.Decides.{Decides-eqb}
+use Rattle.std.proofs.lemmas.Bool.{eqb-false}
 use Rattle.sb_trace.specs.declared.event.Event.TheVariants.{WrongKey, PoolEmpty, Entered}
 use Rattle.sb_state.specs.declared.end_kind.EndKind.{EndKind}
 use Rattle.sb_state.specs.declared.end_kind.EndKind.TheVariants.{Running, Ended, Faulted}
@@ -14,14 +15,14 @@ use Rattle.sb_state.specs.State.{State, thread_at, flight_at}
 use Rattle.sb_state.specs.Registers.{eax, ecx, rsi}
 use Rattle.sb_trace.specs.Home.{Outcome}
 use Rattle.sb_trace.specs.KernelCall.{binding_with, pool_word, call_outcome, outcome_by_index, kernel_call, lowest_bit}
-use Rattle.sb_trace.specs.Flight.{flight_binding, is_key, bound_pool, decided_at, phase_outcome, landing_step}
+use Rattle.sb_trace.specs.Flight.{flight_binding, is_key, bound_pool, decision_at_phase, phase_outcome, landing_step}
 use Rattle.sb_trace.specs.Step.{GoesOn, StepsBy}
 use Rattle.sb_trace.specs.Sound.{IsFlightSound}
 use Rattle.sb_trace.specs.Laws.{IsLineOf, IsFlightLine, FlightLines, decision_at}
 use Rattle.sb_state.proofs.Cases.{claim_if, clash, none_some}
 use Rattle.sb_trace.proofs.Threads.{bound_there}
 use Rattle.sb_trace.proofs.InFlight.{flight_of, StandsAtCall, IsDecidedSound, decided_of, flight_away}
-use Rattle.sb_trace.proofs.Phases.{other_number, decides, decides_no_more}
+use Rattle.sb_trace.proofs.Phases.{decides, decides_no_more}
 use Rattle.sb_trace.proofs.Deciding.{Sees, decided_sees}
 use Rattle.sb_trace.proofs.Flights.{mask_after}
 
@@ -41,7 +42,7 @@ bound_line state core index binding decision.PoolEmpty same sees =
     claim_if (HasLine decision.PoolEmpty index) (rsi (thread_at state core).regs == binding.key) _ _
     (λ fits. claim_if (HasLine decision.PoolEmpty index) (pool_word state binding.server == 0) _ _
     (λ none. ap (λ n. PoolEmpty n) same)
-    (λ some. absurd (other_number _ 0 some sees.1)))
+    (λ some. absurd (eqb-false _ 0 some sees.1)))
     (λ wrong. absurd (clash _ sees.0 wrong))
 bound_line state core index binding decision.Entered same sees =
     claim_if (HasLine decision.Entered index) (rsi (thread_at state core).regs == binding.key) _ _
@@ -70,7 +71,7 @@ called_line state core leaf index binding decided none away bound sees =
     (λ switches. claim_if (HasLine decided index) (index == 0) _ _ (λ home. absurd (away ((Decides-eqb index 0).0 home)))
     (λ server. through_line state core index (binding_with (thread_at state core).bindings index) binding decided bound
     (bound_there (thread_at state core).bindings index binding bound).0 sees))
-    (λ bad. absurd (other_number leaf 0 bad none))
+    (λ bad. absurd (eqb-false leaf 0 bad none))
 
 call_line : (state : State) (core index : ℕ) (stands : StandsAtCall (thread_at state core) index) (decided : Decision)
     → Sees decided (rsi (thread_at state core).regs == stands.binding.key) (pool_word state stands.binding.server)
@@ -87,7 +88,7 @@ call_line state core index stands decided sees =
 -- ---- a step in flight
 
 landed_line : (state : State) (core index phase mask pool : ℕ) (before : Option Decision) (decided : Option Decision)
-    → decided_at phase (is_key (binding_with (thread_at state core).bindings index) (rsi (thread_at state core).regs))
+    → decision_at_phase phase (is_key (binding_with (thread_at state core).bindings index) (rsi (thread_at state core).regs))
     (bound_pool state (binding_with (thread_at state core).bindings index)) mask
     ≡ decided
     → IsDecidedSound (thread_at state core) (flight_of index phase mask before) before
@@ -98,7 +99,7 @@ landed_line state core index phase mask pool None (Some decided) is sound =
     call_line state core index sound.stands decided
     (decided_sees state (thread_at state core) index phase mask sound decided (decides phase _ _ mask decided is))
 landed_line state core index phase mask pool (Some one) (Some decided) is sound =
-    absurd (none_some (decided_at phase _ _ mask) decided (decides_no_more one phase _ _ mask mask sound) is)
+    absurd (none_some (decision_at_phase phase _ _ mask) decided (decides_no_more one phase _ _ mask mask sound) is)
 
 flown_line : (state : State) (core : ℕ) (flight : Flight) → flight.index ≢ 0
     → IsFlightSound (thread_at state core) (Some flight)

@@ -3,6 +3,7 @@ use Rattle.std.proofs.Common.{◌≡◌, ◌∙◌, sym, ap, subst, ℕ, ◌+◌
 use Rattle.std.specs.Prelude.{Option, Some, None, if◌then◌else◌, nat_lt, nat_le}
 use Rattle.std.specs.Option.{option_map, option_and_then}
 use Rattle.std.proofs.lemmas.Bool.{ltb-true, leb-true, and_parts}
+use Rattle.sb_abi.specs.declared.trampoline.TheConstants.{VMFUNC_ADDRESS}
 use Rattle.sb_memory.specs.declared.address.Access.TheVariants.{Fetch}
 use Rattle.sb_bus.specs.declared.stop.BusStop.{BusStop}
 use Rattle.sb_bus.specs.declared.stop.FaultKind.TheVariants.{Canon, Memory}
@@ -14,14 +15,14 @@ use Rattle.sb_tramp.proofs.Switches.{home_switches, server_switches}
 use Rattle.sb_state.specs.declared.page.PageName.{PageName}
 use Rattle.sb_state.specs.declared.page.PageName.TheVariants.{Text, Area, Heap, Pool, Save, Stack, Buffer, HomeTrampoline, ServerTrampoline}
 use Rattle.sb_state.specs.declared.page.Page.{Page}
-use Rattle.sb_state.specs.declared.page.Seen.{Seen}
+use Rattle.sb_state.specs.declared.page.SeenPage.{SeenPage}
 use Rattle.sb_state.specs.declared.state.Thread.{Thread}
 use Rattle.sb_state.specs.PageName.{mode_of, permits}
 use Rattle.sb_state.specs.State.{State, find_page, contents, bytes_of}
 use Rattle.sb_state.specs.Windows.{name_if, is_within, is_in_buffers, stack_name, buffer_name, special_name, name_at, process_shown, page_by_name, page_and_mode, page_for}
 use Rattle.sb_state.specs.PlainMemory.{plain, plain_byte, byte_seen, byte_in, is_canonical, fault_at}
 use Rattle.sb_trace.specs.Code.{fetched_byte, code_byte, HasNoCodePattern}
-use Rattle.sb_trace.specs.Sound.{HasPage, ArePagesSound, vmfunc_address}
+use Rattle.sb_trace.specs.Sound.{HasPage, ArePagesSound}
 use Rattle.sb_state.proofs.Cases.{clash, same_found}
 use Rattle.sb_state.proofs.Names.{number}
 
@@ -137,8 +138,8 @@ ok_by true found stop value is = (refl, is)
 ok_by false found stop value is = absurd cc
 
 -- a page that is seen, may be fetched, and has this byte
-record IsFetched (state : State) (found : Option Seen) (offset value : ℕ) : Type 0 where
-  one : Seen
+record IsFetched (state : State) (found : Option SeenPage) (offset value : ℕ) : Type 0 where
+  one : SeenPage
   there : found ≡ Some one
   permitted : permits one.mode Fetch ≡ true
   has : byte_in state one.name offset ≡ value
@@ -146,7 +147,7 @@ record IsFetched (state : State) (found : Option Seen) (offset value : ℕ) : Ty
 same_ok : (one other : ℕ) (first second : Result ℕ BusStop) → first ≡ Ok one → second ≡ Ok other → first ≡ second → one ≡ other
 same_ok one other first second is also same = cc
 
-fetched_seen : (state : State) (found : Option Seen) (address value : ℕ) → byte_seen state found address Fetch ≡ Ok value
+fetched_seen : (state : State) (found : Option SeenPage) (address value : ℕ) → byte_seen state found address Fetch ≡ Ok value
     → IsFetched state found (address % 4096) value
 fetched_seen state None address value is = absurd cc
 fetched_seen state (Some one) address value is =
@@ -170,7 +171,7 @@ fetched_at state thread view address value is =
 -- ---- its page, by name
 
 -- the name at the page number, and the page
-record IsNamed (pages : List Page) (found : Option PageName) (one : Seen) : Type 0 where
+record IsNamed (pages : List Page) (found : Option PageName) (one : SeenPage) : Type 0 where
   name : PageName
   page : Page
   named : found ≡ Some name
@@ -178,7 +179,7 @@ record IsNamed (pages : List Page) (found : Option PageName) (one : Seen) : Type
   called : one.name ≡ name
   mode : one.mode ≡ mode_of name page.executable
 
-named_by : (pages : List Page) (name : PageName) (found : Option Page) (one : Seen) → find_page pages name ≡ found
+named_by : (pages : List Page) (name : PageName) (found : Option Page) (one : SeenPage) → find_page pages name ≡ found
     → option_map (page_and_mode name) found ≡ Some one
     → IsNamed pages (Some name) one
 named_by pages name None one there is = absurd cc
@@ -189,17 +190,17 @@ named_by pages name (Some page) one there is =
       page = page;
       named = refl;
       there = there;
-      called = ap (λ (seen : Seen). seen.name) (sym same);
-      mode = ap (λ (seen : Seen). seen.mode) (sym same);
+      called = ap (λ (seen : SeenPage). seen.name) (sym same);
+      mode = ap (λ (seen : SeenPage). seen.mode) (sym same);
     }
 
-named_seen : (pages : List Page) (name : Option PageName) (one : Seen) → option_and_then (page_by_name pages) name ≡ Some one
+named_seen : (pages : List Page) (name : Option PageName) (one : SeenPage) → option_and_then (page_by_name pages) name ≡ Some one
     → IsNamed pages name one
 named_seen pages None one is = absurd cc
 named_seen pages (Some name) one is = named_by pages name (find_page pages name) one refl is
 
 -- where the view of the thread shows this process
-named_at : (state : State) (thread view page process : ℕ) (one : Seen)
+named_at : (state : State) (thread view page process : ℕ) (one : SeenPage)
     → process_shown state.threads thread view ≡ Some process → page_for state thread view page ≡ Some one
     → IsNamed state.pages (name_at state.threads thread view page process) one
 unfolding page_for
@@ -402,7 +403,7 @@ one_of_code pages process view address sound (inr (inr (inr page))) second third
 -- ---- in a view
 
 -- where a byte may be fetched the view shows a process
-shown_by_found : (state : State) (thread view page : ℕ) (one : Seen) (found : Option ℕ)
+shown_by_found : (state : State) (thread view page : ℕ) (one : SeenPage) (found : Option ℕ)
     → process_shown state.threads thread view ≡ found
     → page_for state thread view page ≡ Some one → (process : ℕ) × (process_shown state.threads thread view ≡ Some process)
 unfolding page_for
@@ -420,7 +421,7 @@ shows state thread view address value is =
 
 pub one_pattern : (state : State) (thread view address : ℕ) → ArePagesSound state.pages
     → Stands (fetch_of (plain thread view) state) address pattern
-    → address % 2 ^ 64 ≡ vmfunc_address
+    → address % 2 ^ 64 ≡ VMFUNC_ADDRESS
 one_pattern state thread view address sound stands =
     let zero_on : bytes_from_fetch address 0 ≡ address % 2 ^ 64 = omega arith in
     let first : plain_byte thread view state (address % 2 ^ 64) Fetch ≡ Ok 0x0F =

@@ -2,8 +2,9 @@
 use Rattle.std.proofs.Common.{◌≡◌, ◌≢◌, ◌∙◌, sym, ap, subst, ℕ, zero, suc, Bool, true, false, List, [], ◌∷◌, ◌==◌, ◌&&◌, ◌^◌, ◌<◌, ◌≤◌, refl, inl, inr, slice_set, arith}
 use Rattle.std.specs.Prelude.{Option, Some, None, if◌then◌else◌, slice_get, unwrap_or, not}
 use Rattle.std.specs.Option.{option_map}
-use Rattle.std.proofs.lemmas.Bool.{cases_eq, and_parts}
+use Rattle.std.proofs.lemmas.Bool.{cases_eq, and_parts, eqb-false, not-true}
 use Rattle.sb_exec.specs.Fetching.{Stands, fetch_of}
+use Rattle.sb_exec.proofs.RowWords.{either_number}
 use Rattle.sb_scan.specs.Pattern.{pattern}
 use Rattle.sb_trace.specs.declared.event.Event.{Event}
 use Rattle.sb_state.specs.declared.end_kind.EndKind.{EndKind}
@@ -18,7 +19,7 @@ use Rattle.sb_state.specs.PlainMemory.{plain}
 use Rattle.sb_state.specs.Registers.{eax, ecx, rsi}
 use Rattle.sb_trace.specs.Home.{Outcome}
 use Rattle.sb_trace.specs.KernelCall.{binding_with, kernel_call}
-use Rattle.sb_trace.specs.Flight.{flight_binding, is_key, bound_pool, decided_at, phase_after, at_phase, next_flight, phase_outcome, landing_step, first_flight, called_binding, vmfunc_outcome_by, vmfunc_outcome}
+use Rattle.sb_trace.specs.Flight.{flight_binding, is_key, bound_pool, decision_at_phase, phase_after, at_phase, next_flight, phase_outcome, landing_step, first_flight, called_binding, vmfunc_outcome_by, vmfunc_outcome}
 use Rattle.sb_trace.specs.Step.{GoesOn, StepsBy, Steps}
 use Rattle.sb_trace.specs.Sound.{ArePagesSound, IsMask, IsThreadOfFlight, IsInFlight, IsFlightSound, IsSound}
 use Rattle.sb_state.proofs.Names.{number}
@@ -28,7 +29,7 @@ use Rattle.sb_trace.proofs.Threads.{running_there, thread_other, flight_other, b
 use Rattle.sb_trace.proofs.Kernel.{Did, did_call}
 use Rattle.sb_trace.proofs.Steps.{instruction_claims, did_next, steps_change}
 use Rattle.sb_trace.proofs.InFlight.{flight_of, StandsAtCall, IsUndecided, follows_of, decided_of, flight_away, listed_early, listed_on, listed_first, deciding_phase}
-use Rattle.sb_trace.proofs.Phases.{other_number, some_if, Saw, saw, Decides, decides, loads_no_more, decides_no_more, stays_undecided}
+use Rattle.sb_trace.proofs.Phases.{some_if, Saw, saw, Decides, decides, loads_no_more, decides_no_more, stays_undecided}
 use Rattle.sb_trace.proofs.Deciding.{IsDecidedView, IsBehindCall, call_behind, decided_sees}
 use Rattle.sb_trace.proofs.PoolWords.{pool_below}
 use Rattle.sb_trace.proofs.Fetchable.{one_pattern}
@@ -67,10 +68,6 @@ record IsCalled (thread : Thread) (binding : Binding) : Type 0 where
   away : ecx thread.regs ≢ 0
   bound : binding_with thread.bindings (ecx thread.regs) ≡ Some binding
 
-not_test : (test : Bool) → not test ≡ true → test ≡ false
-not_test true is = absurd cc
-not_test false is = refl
-
 is_called : (thread : Thread) (binding : Binding) → called_binding thread ≡ Some binding → IsCalled thread binding
 is_called thread binding =
     some_if (IsCalled thread binding) ((eax thread.regs == 0) && not (ecx thread.regs == 0))
@@ -79,7 +76,7 @@ is_called thread binding =
     let parts = and_parts (eax thread.regs == 0) (not (ecx thread.regs == 0)) test in
     record {
       leaf = number (eax thread.regs) 0 parts.0;
-      away = other_number (ecx thread.regs) 0 (not_test (ecx thread.regs == 0) parts.1);
+      away = eqb-false (ecx thread.regs) 0 (not-true (ecx thread.regs == 0) parts.1);
       bound = is;
     })
     (λ test is. absurd cc)
@@ -153,7 +150,7 @@ mask_after phase pool mask = if phase == 2 then pool else mask
 
 loads_by : (test : Bool) (phase pool mask : ℕ) → (phase == 2) ≡ test → phase ≡ 2 → (if test then pool else mask) ≡ pool
 loads_by true phase pool mask is two = refl
-loads_by false phase pool mask is two = absurd (other_number phase 2 is two)
+loads_by false phase pool mask is two = absurd (eqb-false phase 2 is two)
 
 keeps_by : (test : Bool) (phase pool mask : ℕ) → (phase == 2) ≡ test → phase ≢ 2 → (if test then pool else mask) ≡ mask
 keeps_by true phase pool mask is other = absurd (other (number phase 2 is))
@@ -167,7 +164,7 @@ KeyMeans thread index fits = (binding : Binding) → binding_with thread.binding
 -- the phase behind one that did not decide
 undecided_next : (thread : Thread) (index phase pool mask next : ℕ) (fits : Bool)
     → IsUndecided thread (flight_of index phase mask None) → KeyMeans thread index fits
-    → decided_at phase fits pool mask ≡ None → phase_after phase None (mask_after phase pool mask) ≡ Some next
+    → decision_at_phase phase fits pool mask ≡ None → phase_after phase None (mask_after phase pool mask) ≡ Some next
     → IsUndecided thread (flight_of index next (mask_after phase pool mask) None)
 undecided_next thread index phase pool mask next fits undecided means none is =
     let seen = subst (Saw phase fits pool mask) none (saw phase fits pool mask) in
@@ -202,10 +199,6 @@ pub key_means : (thread : Thread) (index : ℕ)
 key_means thread index binding bound fits = fits_by (binding_with thread.bindings index) (rsi thread.regs) binding bound fits
 
 -- ---- the mask
-
-loaded_word : (test : Bool) (pool mask : ℕ) → pool < 2 ^ 64 → mask < 2 ^ 64 → (if test then pool else mask) < 2 ^ 64
-loaded_word true pool mask first second = first
-loaded_word false pool mask first second = second
 
 -- behind the decision the mask is right whatever the phase
 mask_stays : (decided : Decision) (phase next mask : ℕ) → IsMask (Some decided) phase mask → IsMask (Some decided) next mask
@@ -269,7 +262,7 @@ decided_next thread index phase pool mask next decided flies is =
 -- the phase behind one that decides nothing
 next_sound : (thread : Thread) (index phase pool mask : ℕ) (decided : Option Decision) (fits : Bool) (found : Option ℕ)
     → index ≢ 0 → pool < 2 ^ 64 → IsInFlight thread (flight_of index phase mask decided) → KeyMeans thread index fits
-    → decided_at phase fits pool mask ≡ None
+    → decision_at_phase phase fits pool mask ≡ None
     → phase_after phase decided (mask_after phase pool mask) ≡ found
     → IsFlightSound thread (option_map (at_phase (flight_of index phase (mask_after phase pool mask) decided)) found)
 next_sound thread index phase pool mask decided fits None away word flies means none is = tt
@@ -277,7 +270,7 @@ next_sound thread index phase pool mask None fits (Some next) away word flies me
     undecided_flies thread index next (mask_after phase pool mask) flies.running
     (undecided_next thread index phase pool mask next fits (decided_of thread (flight_of index phase mask None) away flies) means
     none is)
-    (loaded_word (phase == 2) pool mask word flies.word)
+    (either_number (phase == 2) pool mask word flies.word)
 next_sound thread index phase pool mask (Some decided) fits (Some next) away word flies means none is =
     decided_next thread index phase pool mask next decided flies is
 
@@ -295,7 +288,7 @@ first_decided state core index phase mask pool next fits decided word flies at b
       binding = flies.binding;
       bound = ap (λ bindings. binding_with bindings index) behind.bindings ∙ flies.bound;
       phase = listed_first decided phase (mask_after phase pool mask) next (decides_at decided phase fits pool mask at) is;
-      word = loaded_word (phase == 2) pool mask word flies.word;
+      word = either_number (phase == 2) pool mask word flies.word;
       mask = mask_first decided phase next pool mask fits at flies.mask;
       stage = view_first decided (thread_at (kernel_call state core).1 core) index next (mask_after phase pool mask)
           flies.binding behind.view;
@@ -322,7 +315,7 @@ abbrev seen_key : State → ℕ → ℕ → Bool
 seen_key state core index = is_key (binding_with (thread_at state core).bindings index) (rsi (thread_at state core).regs)
 
 landed_sound : (state : State) (core index phase mask : ℕ) (decided : Option Decision) (found : Option Decision)
-    → decided_at phase (seen_key state core index) (seen_pool state core index) mask ≡ found
+    → decision_at_phase phase (seen_key state core index) (seen_pool state core index) mask ≡ found
     → flight_at state core ≡ Some (flight_of index phase mask decided) → index ≢ 0 → seen_pool state core index < 2 ^ 64
     → IsInFlight (thread_at state core) (flight_of index phase mask decided)
     → KeepsFlight core
@@ -350,7 +343,7 @@ landed_sound state core index phase mask None (Some found) is at away word flies
     (call_behind state core index undecided.stands found (running_there state core flies.running, flies.running)
     (decided_sees state (thread_at state core) index phase mask undecided found deciding)) refl)
 landed_sound state core index phase mask (Some decided) (Some found) is at away word flies =
-    absurd (none_some (decided_at phase (seen_key state core index) (seen_pool state core index) mask) found
+    absurd (none_some (decision_at_phase phase (seen_key state core index) (seen_pool state core index) mask) found
     (decides_no_more decided phase (seen_key state core index) (seen_pool state core index) mask mask
     (follows_of decided phase mask flies.phase flies.mask)) is)
 

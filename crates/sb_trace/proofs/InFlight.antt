@@ -2,6 +2,7 @@
 use Rattle.std.proofs.Common.{◌≡◌, ◌≢◌, subst, ℕ, zero, suc, ◌%◌, ◌^◌, ◌<◌, ◌≤◌, true, List, [], ◌∷◌, ◌==◌, ◌⊎◌, length, refl, arith, inl, inr}
 use Rattle.std.specs.Prelude.{Option, Some, None, slice_index_or}
 use Rattle.std.specs.List.{AllByRecursion, Contains}
+use Rattle.sb_abi.specs.declared.trampoline.TheConstants.{VMFUNC_ADDRESS}
 use Rattle.sb_state.specs.declared.state.Binding.{Binding}
 use Rattle.sb_state.specs.declared.state.Decision.{Decision}
 use Rattle.sb_state.specs.declared.state.Decision.TheVariants as decision
@@ -11,7 +12,7 @@ use Rattle.sb_state.specs.State.{State, thread_at}
 use Rattle.sb_state.specs.Registers.{eax, ecx, rsi}
 use Rattle.sb_trace.specs.Flight.{phase_after}
 use Rattle.sb_trace.specs.KernelCall.{binding_with}
-use Rattle.sb_trace.specs.Sound.{vmfunc_address, phases_of, IsMask, IsThreadSound, IsInFlight}
+use Rattle.sb_trace.specs.Sound.{phases_of, IsMask, IsThreadSound, IsInFlight}
 use Rattle.sb_state.proofs.Cases.{same_some}
 use Rattle.sb_trace.proofs.ProcessFacts.{all_at}
 use Rattle.sb_trace.proofs.Threads.{running_there, bound_there}
@@ -24,7 +25,7 @@ flight_of index phase mask decided = record { index = index; phase = phase; mask
 
 -- The thread stands at the VMFUNC, with leaf 0 and the index of a binding.
 pub record StandsAtCall (thread : Thread) (index : ℕ) : Type 0 where
-  pub address : thread.regs.rip % 2 ^ 64 ≡ vmfunc_address
+  pub address : thread.regs.rip % 2 ^ 64 ≡ VMFUNC_ADDRESS
   pub leaf : eax thread.regs ≡ 0
   pub names : ecx thread.regs ≡ index
   pub away : index ≢ 0

@@ -1,6 +1,6 @@
 -- A run without its landing lines is a run of the machine that calls in one step.
 use Rattle.std.proofs.Common.{◌≡◌, ◌∙◌, sym, ap, subst, ℕ, zero, suc, ◌+◌, ◌/◌, ◌%◌, ◌^◌, Bool, true, false, List, [], ◌∷◌, ◌==◌, refl, inl, inr, ◌⊎◌, Result, Ok, Err}
-use Rattle.std.specs.Prelude.{Option, Some, None, if◌then◌else◌, map, slice_get, unwrap_or}
+use Rattle.std.specs.Prelude.{Option, Some, None, if◌then◌else◌, map, slice_get}
 use Rattle.std.specs.Option.{option_and_then}
 use Rattle.sb_memory.specs.declared.address.Access.{Access}
 use Rattle.sb_insn.specs.declared.insn.Insn.{Insn}
@@ -27,10 +27,10 @@ use Rattle.sb_state.specs.declared.state.Binding.{Binding}
 use Rattle.sb_state.specs.declared.state.Decision.{Decision}
 use Rattle.sb_state.specs.declared.state.Flight.{Flight}
 use Rattle.sb_state.specs.declared.state.Thread.{Thread}
-use Rattle.sb_state.specs.State.{State, contents, with_contents, thread_at, no_thread, with_regs, with_end, with_view, flight_at, with_flight, process_at, registration_at}
+use Rattle.sb_state.specs.State.{State, contents, with_contents, thread_at, with_regs, with_end, with_view, flight_at, with_flight, process_at, registration_at}
 use Rattle.sb_state.specs.PageWords.{with_word}
 use Rattle.sb_state.specs.Windows.{process_shown, process_of_view, page_for, process_now}
-use Rattle.sb_state.specs.PlainMemory.{Placed, bytes_to_put, placed_at, put_byte, put_all, plain, plain_byte, plain_stored}
+use Rattle.sb_state.specs.PlainMemory.{ByteToPut, bytes_to_put, with_byte_to_put, put_byte, put_all, plain, plain_byte, plain_stored}
 use Rattle.sb_state.specs.Registers.{rax, rsi, rdi, eax, ecx}
 use Rattle.sb_trace.specs.Home.{Outcome, fault_outcome}
 use Rattle.sb_abi.specs.declared.call.CallRefusal.{CallRefusal}
@@ -43,7 +43,7 @@ use Rattle.sb_trace.specs.SyscallBind.{refusal_of_bind, with_binding, bind_outco
 use Rattle.sb_trace.specs.SyscallProtect.{heap_count, with_heap_mode, execute_mode_outcome, protect_outcome_by}
 use Rattle.sb_trace.specs.Syscall.{exit_outcome, outcome_by_number, syscall_outcome}
 use Rattle.sb_trace.specs.KernelCall.{binding_with, pool_word, refusal_outcome, refusal_or_fault, return_outcome, entry_outcome, call_outcome, outcome_by_index, kernel_call}
-use Rattle.sb_trace.specs.Flight.{flight_binding, is_key, bound_pool, decided_at, phase_outcome, landing_step, called_binding, vmfunc_outcome_by, vmfunc_outcome}
+use Rattle.sb_trace.specs.Flight.{flight_binding, is_key, bound_pool, decision_at_phase, phase_outcome, landing_step, called_binding, vmfunc_outcome_by, vmfunc_outcome}
 use Rattle.sb_state.specs.Pattern.{heap_pattern}
 use Rattle.sb_trace.specs.Run.{RunBy}
 use Rattle.sb_trace.specs.Step.{StopsWith, PerformsBy, FollowsFetch, Performs, RunsOn, execution_in_view, GoesOn, StepsBy}
@@ -59,6 +59,7 @@ use Rattle.sb_trace.proofs.Trampoline.{switch_stands}
 use Rattle.sb_trace.proofs.InFlight.{flight_of, StandsAtCall, IsDecidedSound, decided_of, flight_away}
 use Rattle.sb_trace.proofs.Flights.{mask_after}
 use Rattle.sb_trace.proofs.SoundRuns.{steps_keep_sound}
+use Rattle.sb_trace.proofs.Threads.{running_by}
 
 -- ---- the kernel does the same without flights
 
@@ -184,10 +185,11 @@ placed_mapped : (state : State) (thread view address size value : ℕ)
 unfolding bytes_to_put page_for
 placed_mapped state thread view address zero value = refl
 placed_mapped state thread view address (suc count) value =
-    ap (placed_at (page_for state thread view (address / 4096)) address (value % 256))
+    ap (with_byte_to_put (page_for state thread view (address / 4096)) address (value % 256))
     (placed_mapped state thread view ((address + 1) % 2 ^ 64) count (value / 256))
 
-put_mapped : (state : State) (bytes : List Placed) → put_all (without_flights state) bytes ≡ without_flights (put_all state bytes)
+put_mapped : (state : State) (bytes : List ByteToPut)
+    → put_all (without_flights state) bytes ≡ without_flights (put_all state bytes)
 unfolding put_byte with_contents contents
 put_mapped state [] = refl
 put_mapped state (byte ∷ bytes) = put_mapped (put_byte state byte.name byte.offset byte.value) bytes
@@ -346,18 +348,13 @@ out_alike state core outcome running (fetched, fetches, follows) =
 
 -- ---- in flight
 
-there_by : (found : Option Thread) → (unwrap_or found no_thread).state ≡ Running → found ≡ Some (unwrap_or found no_thread)
-unfolding no_thread
-there_by None running = absurd cc
-there_by (Some thread) running = refl
-
 -- a running thread's view shows a process
 view_shown : (state : State) (core : ℕ) → (thread_at state core).state ≡ Running → (view : HasView (thread_at state core))
     → process_shown state.threads core (thread_at state core).view ≡ Some view.0
 unfolding process_shown thread_at
 view_shown state core running view =
     ap (λ found. option_and_then (process_of_view (thread_at state core).view) found)
-    (there_by (slice_get state.threads core) running) ∙ view.1
+    (running_by (slice_get state.threads core) running) ∙ view.1
 
 -- at the VMFUNC the kernel's call is one step
 switch_once : (state : State) (core index : ℕ) → IsSound state → (thread_at state core).state ≡ Running
@@ -396,7 +393,7 @@ decided_alike state core flight running runs =
 landed_alike : (state : State) (core index phase mask pool : ℕ) (decided : Option Decision) (fits : Bool)
     (found : Option Decision)
     → IsSound state
-    → (thread_at state core).state ≡ Running → decided_at phase fits pool mask ≡ found
+    → (thread_at state core).state ≡ Running → decision_at_phase phase fits pool mask ≡ found
     → IsDecidedSound (thread_at state core) (flight_of index phase mask decided) decided → (outcome : Outcome)
     → outcome ≡ phase_outcome state core (flight_of index phase (mask_after phase pool mask) decided) found
     → StepsAlike state core outcome.0 outcome.1
@@ -407,7 +404,8 @@ landed_alike state core index phase mask pool None fits (Some found) sound runni
     subst (λ (one : Outcome). StepsAlike state core one.0 one.1) (sym is)
     (decided_alike state core _ running (switch_once state core index sound running flight.stands))
 landed_alike state core index phase mask pool (Some decided) fits (Some found) sound running at flight outcome is =
-    absurd (none_some (decided_at phase fits pool mask) found (decides_no_more decided phase fits pool mask mask flight) at)
+    absurd
+    (none_some (decision_at_phase phase fits pool mask) found (decides_no_more decided phase fits pool mask mask flight) at)
 
 flown_alike : (state : State) (core : ℕ) (flight : Flight) → IsSound state → (thread_at state core).state ≡ Running
     → IsFlightSound (thread_at state core) (Some flight) → (outcome : Outcome) → outcome ≡ landing_step state core flight

@@ -1,5 +1,5 @@
 -- Lists of pages by the names that stand in them.
-use Rattle.std.proofs.Common.{◌≡◌, ◌∙◌, sym, ap, subst, ℕ, zero, suc, ◌+◌, ◌<◌, Bool, true, false, List, [], ◌∷◌, ◌++◌, ◌==◌, ◌&&◌, ◌||◌, refl, arith}
+use Rattle.std.proofs.Common.{◌≡◌, ◌∙◌, sym, ap, subst, ℕ, zero, suc, ◌+◌, ◌<◌, Bool, true, false, List, [], ◌∷◌, ◌++◌, ◌==◌, ◌||◌, refl, arith}
 use Rattle.std.specs.Prelude.{Option, Some, None, is_some, map, nat_lt, if◌then◌else◌}
 use Rattle.std.specs.List.{AllByRecursion}
 use Rattle.std.proofs.lemmas.Bool.{ne_eqb}
@@ -14,24 +14,7 @@ use Rattle.sb_trace.specs.Changes.{page_name}
 use Rattle.sb_state.proofs.Names.{name_same}
 use Rattle.sb_state.proofs.PageLists.{changed, KeepsNames, either, found_added}
 use Rattle.sb_state.proofs.Start.{EachPage}
-
--- ---- tests
-
-pub or_false : (test : Bool) → (test || false) ≡ test
-or_false true = refl
-or_false false = refl
-
-pub or_self : (test : Bool) → (test || test) ≡ test
-or_self true = refl
-or_self false = refl
-
-pub and_false : (test : Bool) → (test && false) ≡ false
-and_false true = refl
-and_false false = refl
-
-pub and_true : (test : Bool) → (test && true) ≡ test
-and_true true = refl
-and_true false = refl
+use Rattle.sb_state.proofs.Cases.{same_tests}
 
 -- ---- names
 
@@ -266,12 +249,6 @@ before_from first zero place below = refl
 before_from first (suc count) place below =
     let apart : (first == place) ≡ false = ne_eqb first place (λ same. omega (arith, same, below)) in
     rw apart (before_from (first + 1) count place (omega (arith, below)))
-
--- two tests of which each follows from the other are one
-pub same_tests : (test other : Bool) → (test ≡ true → other ≡ true) → (other ≡ true → test ≡ true) → test ≡ other
-same_tests true other there back = sym (there refl)
-same_tests false true there back = back refl
-same_tests false false there back = refl
 
 pub less_same : (first second third fourth : ℕ) → (first < second → third < fourth) → (third < fourth → first < second)
     → nat_lt first second ≡ nat_lt third fourth

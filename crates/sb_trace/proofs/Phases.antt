@@ -1,18 +1,15 @@
 -- The phases of a landing: once the call is decided, no later phase decides it again.
 use Rattle.std.proofs.Common.{◌≡◌, ◌≢◌, sym, subst, ℕ, ◌+◌, ◌≤◌, Bool, true, false, ◌==◌, ◌||◌, refl, arith, inl, inr, ◌⊎◌}
 use Rattle.std.specs.Prelude.{nat_le, Option, Some, None, if◌then◌else◌}
-use Rattle.std.proofs.lemmas.Bool.Decides.{Decides-eqb}
+use Rattle.std.proofs.lemmas.Bool.{eqb-false}
 use Rattle.sb_state.specs.declared.state.Decision.{Decision}
 use Rattle.sb_state.specs.declared.state.Decision.TheVariants as decision
-use Rattle.sb_trace.specs.Flight.{decided_at, is_wrong_key, is_entered, phase_after}
+use Rattle.sb_trace.specs.Flight.{decision_at_phase, is_wrong_key, is_entered, phase_after}
 use Rattle.sb_trace.proofs.InFlight.{FollowsDecision}
 use Rattle.sb_state.proofs.Names.{number}
 use Rattle.sb_state.proofs.Cases.{claim_if, same_some}
 
 -- ---- tests
-
-pub other_number : (first second : ℕ) → (first == second) ≡ false → first ≢ second
-other_number first second is same = let equal = (Decides-eqb first second).1 same in absurd cc
 
 pub some_if : {A : Type 0} (Result : Type 0) (test : Bool) (one other : Option A) (value : A)
     → (test ≡ true → one ≡ Some value → Result) → (test ≡ false → other ≡ Some value → Result)
@@ -56,11 +53,11 @@ next_phase phase decided mask next =
     (λ is to. inr (inr (inr (inl (number phase 18 is, sym (same_some _ _ to))))))
     (λ eighteen to. inr (inr (inr (inr (
       record {
-        one = other_number phase 1 one;
-        four = other_number phase 4 four;
-        nine = other_number phase 9 nine;
-        sixteen = other_number phase 16 (neither _ _ ends).0;
-        eighteen = other_number phase 18 eighteen;
+        one = eqb-false phase 1 one;
+        four = eqb-false phase 4 four;
+        nine = eqb-false phase 9 nine;
+        sixteen = eqb-false phase 16 (neither _ _ ends).0;
+        eighteen = eqb-false phase 18 eighteen;
       },
       sym (same_some _ _ to),
     )))))))))
@@ -78,8 +75,8 @@ abbrev pub Saw : ℕ → Bool → ℕ → ℕ → Option Decision → Type 0
 Saw phase fits pool mask None = (phase ≡ 0 → fits ≡ true) × (phase ≡ 2 → pool ≢ 0)
 Saw phase fits pool mask (Some decided) = Decides phase fits pool mask decided
 
-pub saw : (phase : ℕ) (fits : Bool) (pool mask : ℕ) → Saw phase fits pool mask (decided_at phase fits pool mask)
-unfolding decided_at
+pub saw : (phase : ℕ) (fits : Bool) (pool mask : ℕ) → Saw phase fits pool mask (decision_at_phase phase fits pool mask)
+unfolding decision_at_phase
 saw phase fits pool mask =
     claim_if (Saw phase fits pool mask) (phase == 0) _ _
     (λ at. let zero_phase = number phase 0 at in
@@ -87,14 +84,15 @@ saw phase fits pool mask =
     (λ not_0. claim_if (Saw phase fits pool mask) (phase == 2) _ _
     (λ at. let two_phase = number phase 2 at in
     claim_if (Saw phase fits pool mask) (pool == 0) _ _ (λ is. (two_phase, number pool 0 is))
-    (λ is. ((λ one. absurd (other_number phase 0 not_0 one)), (λ two. other_number pool 0 is))))
+    (λ is. ((λ one. absurd (eqb-false phase 0 not_0 one)), (λ two. eqb-false pool 0 is))))
     (λ not_2. claim_if (Saw phase fits pool mask) (phase == 8) _ _
     (λ at. claim_if (Saw phase fits pool mask) (pool == mask) _ _ (λ is. (number phase 8 at, number pool mask is))
-    (λ is. ((λ one. absurd (other_number phase 0 not_0 one)), (λ two. absurd (other_number phase 2 not_2 two)))))
-    (λ not_8. ((λ one. absurd (other_number phase 0 not_0 one)), (λ two. absurd (other_number phase 2 not_2 two))))))
+    (λ is. ((λ one. absurd (eqb-false phase 0 not_0 one)), (λ two. absurd (eqb-false phase 2 not_2 two)))))
+    (λ not_8. ((λ one. absurd (eqb-false phase 0 not_0 one)), (λ two. absurd (eqb-false phase 2 not_2 two))))))
 
 -- the decision of a phase is one of the three that it decides
-pub decides : (phase : ℕ) (fits : Bool) (pool mask : ℕ) (decided : Decision) → decided_at phase fits pool mask ≡ Some decided
+pub decides : (phase : ℕ) (fits : Bool) (pool mask : ℕ) (decided : Decision)
+    → decision_at_phase phase fits pool mask ≡ Some decided
     → Decides phase fits pool mask decided
 decides phase fits pool mask decided is = subst (Saw phase fits pool mask) is (saw phase fits pool mask)
 
@@ -125,9 +123,9 @@ none_where first phase fits pool mask other (Some second) follows seen =
     absurd (deciding second phase fits pool other seen apart.0 apart.1 apart.2)
 
 pub decides_no_more : (first : Decision) (phase : ℕ) (fits : Bool) (pool mask other : ℕ) → FollowsDecision first phase mask
-    → decided_at phase fits pool other ≡ None
+    → decision_at_phase phase fits pool other ≡ None
 decides_no_more first phase fits pool mask other follows =
-    none_where first phase fits pool mask other (decided_at phase fits pool other) follows (saw phase fits pool other)
+    none_where first phase fits pool mask other (decision_at_phase phase fits pool other) follows (saw phase fits pool other)
 
 -- a phase that follows a decision loads no mask
 pub loads_no_more : (decided : Decision) (phase mask : ℕ) → FollowsDecision decided phase mask → phase ≢ 2

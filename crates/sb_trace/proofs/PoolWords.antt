@@ -16,15 +16,16 @@ byte_below [] place all = omega arith
 byte_below (byte ∷ bytes) zero all = all.0
 byte_below (byte ∷ bytes) (suc place) all = byte_below bytes place all.1
 
-pool_bytes : (found : Option Page) → ((page : Page) → found ≡ Some page → AreBytes page.bytes) → AreBytes (bytes_of found)
-pool_bytes None all = tt
-pool_bytes (Some page) all = all page refl
+-- where each page that is there has bytes, one that may be absent has
+pub bytes_by : (found : Option Page) → ((page : Page) → found ≡ Some page → AreBytes page.bytes) → AreBytes (bytes_of found)
+bytes_by None all = tt
+bytes_by (Some page) all = all page refl
 
 -- the bytes of a pool page are bytes
 pub pool_page_bytes : (state : State) (server : ℕ) → ArePagesSound state.pages → AreBytes (contents state (Pool server))
 unfolding contents is_code_name
 pool_page_bytes state server sound =
-    pool_bytes (find_page state.pages (Pool server)) (λ page. sound.bytes (Pool server) page refl)
+    bytes_by (find_page state.pages (Pool server)) (λ page. sound.bytes (Pool server) page refl)
 
 -- the pool word of a server is below 2^64
 pub pool_below : (state : State) (server : ℕ) → ArePagesSound state.pages → pool_word state server < 2 ^ 64

@@ -26,7 +26,7 @@ use Rattle.sb_trace.specs.SyscallBind.{binding_pages, server_words}
 use Rattle.sb_trace.specs.Table.{is_there, has_view, is_in_table, ArePagesOfTable}
 use Rattle.sb_trace.specs.Sound.{HasPage, HaveRecords, words_of_view, IsThreadSound, IsSound}
 use Rattle.sb_trace.specs.Changes.{OnlyThread, OnlyPages, IsClosed, WritesOpen, AddsView, CallChanges, LineChanges, StepChanges, with_first_word}
-use Rattle.sb_state.proofs.Cases.{clash}
+use Rattle.sb_state.proofs.Cases.{clash, some_there, none_if}
 use Rattle.sb_state.proofs.Modes.{mode_other}
 use Rattle.sb_state.proofs.PageLists.{either, found_added, found_other}
 use Rattle.sb_state.proofs.Start.{EachPage, found_each, each_both, each_from}
@@ -183,14 +183,10 @@ behind_by : (test : Bool) (first : Binding) (found more : Option Binding) → mo
 behind_by true first found more same = refl
 behind_by false first found more same = same
 
-last_away : (test : Bool) (last : Binding) → test ≡ false → (if test then Some last else None) ≡ None
-last_away true last away = absurd cc
-last_away false last away = refl
-
 -- other indices are those of the bindings that they were
 bound_away : (bindings : List Binding) (last : Binding) (index : ℕ) → (last.index == index) ≡ false
     → binding_with (bindings ++ last ∷ []) index ≡ binding_with bindings index
-bound_away [] last index away = last_away (last.index == index) last away
+bound_away [] last index away = none_if (last.index == index) last away
 bound_away (first ∷ bindings) last index away =
     behind_by (first.index == index) first (binding_with bindings index) (binding_with (bindings ++ last ∷ []) index)
     (bound_away bindings last index away)
@@ -373,10 +369,6 @@ pages_first images entries =
     (threads_first entries 0 entries (λ number. let same : 0 + number ≡ number = omega arith in ap (slice_get entries) same))
     (trampoline_first entries))
 
-there_page : (found : Option Page) → is_some found ≡ true → (page : Page) × (found ≡ Some page)
-there_page None is = absurd cc
-there_page (Some page) is = (page, refl)
-
 -- a thread of the start has its home alone
 start_words : (state : State) (number view : ℕ) (found : Option ThreadEntry) (thread : Option Thread)
     → thread ≡ option_map (start_thread (0 + number)) found → is_some found ≡ true
@@ -397,7 +389,7 @@ records_start images entries free keys number view process shown =
     let own : (is_some (slice_get entries number) && (view == 0)) ≡ true =
     sym (view_there entries number view) ∙ ap is_some shown in
     let parts = and_parts (is_some (slice_get entries number)) (view == 0) own in
-    let there = there_page (find_page state.pages (Record number view))
+    let there = some_there (find_page state.pages (Record number view))
     (start_there images entries free keys number view ∙ ap is_some shown) in
     let first =
     found_each (IsFirstPage entries) state.pages (Record number view) there.0 (pages_first images entries) there.1 in (

@@ -1,6 +1,7 @@
 -- What a step does, by its cases.
 use Rattle.std.proofs.Common.{◌≡◌, sym, subst, ℕ, refl, List, inl, inr}
 use Rattle.std.specs.Prelude.{Option, Some, None, Result, Ok, Err, slice_get, unwrap_or}
+use Rattle.sb_abi.specs.declared.trampoline.TheConstants.{VMFUNC_PHASE}
 use Rattle.sb_insn.specs.declared.insn.Insn.{Insn}
 use Rattle.sb_insn.specs.declared.registers.Regs.{Regs}
 use Rattle.sb_bus.specs.declared.stop.BusStop.{BusStop}
@@ -25,7 +26,7 @@ use Rattle.sb_state.specs.State.{State, contents, thread_at, no_thread, with_thr
 use Rattle.sb_state.specs.PlainMemory.{plain}
 use Rattle.sb_trace.specs.Home.{Outcome}
 use Rattle.sb_trace.specs.KernelCall.{kernel_call}
-use Rattle.sb_trace.specs.Flight.{vmfunc_outcome, vmfunc_outcome_by, called_binding, landing_step, phase_outcome, next_flight, first_flight, vmfunc_phase}
+use Rattle.sb_trace.specs.Flight.{vmfunc_outcome, vmfunc_outcome_by, called_binding, landing_step, phase_outcome, next_flight, first_flight}
 use Rattle.sb_trace.specs.Step.{StopsWith, PerformsBy, FollowsFetch, RunsOn, execution_in_view, GoesOn, StepsBy}
 use Rattle.sb_trace.specs.Sound.{HasView}
 use Rattle.sb_trace.specs.Changes.{OnlyPages, CallChanges, LineChanges, StepChanges, WritesOpen}
@@ -251,7 +252,7 @@ Changes old core outcome = StepChanges old core outcome.0 outcome.1
 into_changes : (state : State) (core : ℕ) (found : Option Binding) → HasThread state core
     → Changes state core (vmfunc_outcome_by state core found)
 into_changes state core None there = (did_call state core).changes there
-into_changes state core (Some binding) there = flight_changes state core vmfunc_phase (Some (first_flight binding.index))
+into_changes state core (Some binding) there = flight_changes state core VMFUNC_PHASE (Some (first_flight binding.index))
 
 switch_changes : (state : State) (core : ℕ) → HasThread state core → Changes state core (vmfunc_outcome state core)
 unfolding vmfunc_outcome

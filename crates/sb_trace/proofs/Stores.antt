@@ -15,11 +15,11 @@ use Rattle.sb_exec.specs.Execution.{execution_of}
 use Rattle.sb_exec.proofs.Simulation.{rows_keep}
 use Rattle.sb_state.specs.declared.page.PageName.{PageName}
 use Rattle.sb_state.specs.declared.page.Page.{Page}
-use Rattle.sb_state.specs.declared.page.Seen.{Seen}
+use Rattle.sb_state.specs.declared.page.SeenPage.{SeenPage}
 use Rattle.sb_state.specs.PageName.{same_name, mode_of, permits}
 use Rattle.sb_state.specs.State.{State, find_page, with_page_bytes, contents, with_contents, bytes_of}
 use Rattle.sb_state.specs.Windows.{page_for, page_by_name, page_and_mode, name_at, process_shown}
-use Rattle.sb_state.specs.PlainMemory.{Placed, bytes_to_put, placed_at, put_byte, put_all, plain_stored, plain, plain_byte, byte_seen, is_canonical, fault_at}
+use Rattle.sb_state.specs.PlainMemory.{ByteToPut, bytes_to_put, with_byte_to_put, put_byte, put_all, plain_stored, plain, plain_byte, byte_seen, is_canonical, fault_at}
 use Rattle.sb_trace.specs.Changes.{IsClosed, Shape, shape_of, page_name, AreBytes}
 use Rattle.sb_state.proofs.Names.{name_same, name_other}
 use Rattle.sb_state.proofs.PageLists.{with_bytes, found_other, found_same}
@@ -131,10 +131,10 @@ keeps_both first second third one other = record {
 }
 
 -- the values that are put are bytes
-abbrev PutBytes : List Placed → Type 0
-PutBytes bytes = AllByRecursion (λ (byte : Placed). byte.value < 256) bytes
+abbrev PutBytes : List ByteToPut → Type 0
+PutBytes bytes = AllByRecursion (λ (byte : ByteToPut). byte.value < 256) bytes
 
-all_keep : (state : State) (bytes : List Placed) → PutBytes bytes → KeepsShapes state (put_all state bytes)
+all_keep : (state : State) (bytes : List ByteToPut) → PutBytes bytes → KeepsShapes state (put_all state bytes)
 all_keep state [] small = record {
   shapes = λ name. refl;
   names = refl;
@@ -151,8 +151,8 @@ all_keep state (byte ∷ others) small =
     (put_keeps state byte.name byte.offset byte.value small.0)
     (all_keep (put_byte state byte.name byte.offset byte.value) others small.1)
 
-placed_small : (page : Option Seen) (address value : ℕ) (others : List Placed) → value < 256 → PutBytes others
-    → PutBytes (placed_at page address value others)
+placed_small : (page : Option SeenPage) (address value : ℕ) (others : List ByteToPut) → value < 256 → PutBytes others
+    → PutBytes (with_byte_to_put page address value others)
 placed_small None address value others below small = small
 placed_small (Some page) address value others below small = (below, small)
 
@@ -223,12 +223,12 @@ if_done true byte stop all given = all refl
 if_done false byte stop all given = absurd given
 
 -- a page with another name, or none
-abbrev IsOther : Option Seen → PageName → Type 0
+abbrev IsOther : Option SeenPage → PageName → Type 0
 IsOther None name = Unit {0}
 IsOther (Some page) name = page.name ≢ name
 
-other_seen : (state : State) (name : PageName) (address : ℕ) (page : Option Seen) (canonical : Bool)
-    → ((found : Seen) → page ≡ Some found → permits found.mode Write ≡ true → found.name ≢ name)
+other_seen : (state : State) (name : PageName) (address : ℕ) (page : Option SeenPage) (canonical : Bool)
+    → ((found : SeenPage) → page ≡ Some found → permits found.mode Write ≡ true → found.name ≢ name)
     → IsDone (if canonical then byte_seen state page address Write else Err (fault_at Canon address)) → IsOther page name
 other_seen state name address None canonical closed given = tt
 other_seen state name address (Some found) true closed given = if_done (permits found.mode Write) _ _ (closed found refl) given
@@ -242,13 +242,13 @@ other_at state thread view address name closed given =
     (λ found. closed (address / 4096) found) given
 
 -- bytes that are put into other pages
-abbrev AllOther : List Placed → PageName → Type 0
+abbrev AllOther : List ByteToPut → PageName → Type 0
 AllOther [] name = Unit {0}
 AllOther (byte ∷ bytes) name = (byte.name ≢ name) × AllOther bytes name
 
-other_placed : (page : Option Seen) (address value : ℕ) (others : List Placed) (name : PageName) → IsOther page name
+other_placed : (page : Option SeenPage) (address value : ℕ) (others : List ByteToPut) (name : PageName) → IsOther page name
     → AllOther others name
-    → AllOther (placed_at page address value others) name
+    → AllOther (with_byte_to_put page address value others) name
 other_placed None address value others name one all = all
 other_placed (Some page) address value others name one all = (one, all)
 
@@ -264,7 +264,7 @@ all_other state thread view address (suc count) value name closed given =
     (all_other state thread view ((address + 1) % 2 ^ 64) count (value / 256) name closed
     (done_rest (plain_byte thread view state address Write) _ given))
 
-others_found : (state : State) (bytes : List Placed) (name : PageName) → AllOther bytes name
+others_found : (state : State) (bytes : List ByteToPut) (name : PageName) → AllOther bytes name
     → find_page (put_all state bytes).pages name ≡ find_page state.pages name
 others_found state [] name others = refl
 others_found state (byte ∷ bytes) name others =

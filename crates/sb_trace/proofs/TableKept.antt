@@ -4,6 +4,7 @@ use Rattle.std.specs.Prelude.{Option, Some, None, is_some, map, not, nat_lt, sli
 use Rattle.std.specs.Option.{option_map, option_and_then}
 use Rattle.std.proofs.lemmas.Bool.{cases_eq, and_parts, ne_eqb, eqb-true, eqb-false}
 use Rattle.std.proofs.lemmas.List.{length-set}
+use Rattle.std.proofs.Math.Bool.{or-false, and-false, or_self}
 use Rattle.sb_memory.specs.Words.{put_word}
 use Rattle.sb_tramp.specs.declared.record_words.RecordWords.{RecordWords}
 use Rattle.sb_trace.specs.declared.event.Event.{Event}
@@ -31,7 +32,7 @@ use Rattle.sb_state.proofs.Modes.{mode_changes}
 use Rattle.sb_state.proofs.Start.{EachPage, each_from}
 use Rattle.sb_state.proofs.Threads.{set_other}
 use Rattle.sb_trace.proofs.Threads.{thread_other}
-use Rattle.sb_trace.proofs.NamedPages.{or_false, or_self, and_false, same_there, same_own, changed_names, Hold, hold_as, hold_new, hold_both, hold_one, hold_from, is_below, below_none}
+use Rattle.sb_trace.proofs.NamedPages.{same_there, same_own, changed_names, Hold, hold_as, hold_new, hold_both, hold_one, hold_from, is_below, below_none}
 use Rattle.sb_trace.proofs.NameNumbers.{server_stack_place, server_stacks_numbered, buffer_place, buffers_numbered}
 use Rattle.sb_trace.proofs.TableStart.{within}
 
@@ -97,7 +98,7 @@ pub record Grows (old new : State) (added : PageName → Bool) : Type 0 where
   pub scratches : (thread view : ℕ) → (has_view old thread view || added (Scratch thread view)) ≡ has_view new thread view
 
 not_added : (test added other : Bool) → added ≡ false → test ≡ other → (test || added) ≡ other
-not_added test added other none same = rw none (or_false test ∙ same)
+not_added test added other none same = rw none (or-false test ∙ same)
 
 grown : (images : ℕ → ImagePages) (old new : State) (added : PageName → Bool) (name : PageName) → Grows old new added
     → (is_in_table images old name || added name) ≡ is_in_table images new name
@@ -141,12 +142,12 @@ grows_none old core new only bindings processes =
       heaps = λ process. ap (λ list. heap_count (slice_get list process)) processes;
       others = λ name other. refl;
       stacks = λ images process page.
-          or_false _
+          or-false _
           ∙ ap (λ list. nat_lt page (4 * stacks_in (registration_of (slice_get list process)))) (sym processes);
       buffers = λ images thread view page.
-          or_false _ ∙ ap (λ (there : Bool). not (view == 0) && (there && nat_lt page 4)) (views thread view);
-      records = λ thread view. or_false (has_view old thread view) ∙ views thread view;
-      scratches = λ thread view. or_false (has_view old thread view) ∙ views thread view;
+          or-false _ ∙ ap (λ (there : Bool). not (view == 0) && (there && nat_lt page 4)) (views thread view);
+      records = λ thread view. or-false (has_view old thread view) ∙ views thread view;
+      scratches = λ thread view. or-false (has_view old thread view) ∙ views thread view;
     }
 
 -- a step after which the pages have the names that they had
@@ -159,7 +160,7 @@ same_kept old core new only bindings processes names table = record {
   once = same_own new.pages old.pages names table.once;
   exactly = λ name. same_there new.pages old.pages name names
       ∙ (table.exactly name
-      ∙ (sym (or_false (is_in_table table.images old name))
+      ∙ (sym (or-false (is_in_table table.images old name))
       ∙ grown table.images old new (λ name. false) name (grows_none old core new only bindings processes)));
 }
 
@@ -221,7 +222,7 @@ stacks_by true processes process other page handler stacks found is there none =
     ∙ ap (λ (one : Option Process). nat_lt page (4 * stacks_in (registration_of one)))
     (sym (set_got processes process found (server found handler stacks) there)))
 stacks_by false processes process other page handler stacks found is there none =
-    or_false _
+    or-false _
     ∙ ap (λ (one : Option Process). nat_lt page (4 * stacks_in (registration_of one)))
     (sym (set_other processes process other (server found handler stacks) (λ same. eqb-false process other is (sym same))))
 
@@ -255,9 +256,9 @@ grows_stacks old core process new only adds =
           adds.none
           ∙ ap (λ list. nat_lt page (4 * stacks_in (registration_of (slice_get list other)))) (sym adds.processes);
       buffers = λ images thread view page.
-          or_false _ ∙ ap (λ (there : Bool). not (view == 0) && (there && nat_lt page 4)) (views thread view);
-      records = λ thread view. or_false (has_view old thread view) ∙ views thread view;
-      scratches = λ thread view. or_false (has_view old thread view) ∙ views thread view;
+          or-false _ ∙ ap (λ (there : Bool). not (view == 0) && (there && nat_lt page 4)) (views thread view);
+      records = λ thread view. or-false (has_view old thread view) ∙ views thread view;
+      scratches = λ thread view. or-false (has_view old thread view) ∙ views thread view;
     }
 
 no_stack_before : (images : ℕ → ImagePages) (old : State) (process page : ℕ) (new : State) → AddsStacks old process new
@@ -396,7 +397,7 @@ views_by true old core new thread view is only adds =
     subst (λ n. (has_view old n view || (adds.binding.index == view)) ≡ has_view new n view) (eqb-true core thread is)
     (sym (own_view old core new view only adds))
 views_by false old core new thread view is only adds =
-    or_false (has_view old thread view)
+    or-false (has_view old thread view)
     ∙ sym (other_view old core new thread view only (λ same. eqb-false core thread is (sym same)))
 
 buffer_by : (home before added : Bool) (page : ℕ) → (added ≡ true → home ≡ false)
@@ -406,7 +407,7 @@ buffer_by true before true page away = absurd (let clash : true ≡ false = away
 buffer_by true before false page away = refl
 buffer_by false true true page away = or_self (nat_lt page 4)
 buffer_by false false true page away = refl
-buffer_by false true false page away = or_false (nat_lt page 4)
+buffer_by false true false page away = or-false (nat_lt page 4)
 buffer_by false false false page away = refl
 
 not_home : (same : Bool) (index view : ℕ) → 1 ≤ index → (same && (index == view)) ≡ true → (view == 0) ≡ false
@@ -428,17 +429,17 @@ grows_view old core new only adds =
       heaps = λ process. ap (λ list. heap_count (slice_get list process)) adds.processes;
       others = no_other_view core index;
       stacks = λ images process page.
-          or_false _
+          or-false _
           ∙ ap (λ list. nat_lt page (4 * stacks_in (registration_of (slice_get list process)))) (sym adds.processes);
       buffers = λ images thread view page.
           buffer_by (view == 0) (has_view old thread view) ((core == thread) && (index == view)) page
           (not_home (core == thread) index view adds.index.least)
           ∙ ap (λ (there : Bool). not (view == 0) && (there && nat_lt page 4)) (views thread view);
       records = λ thread view.
-          ap (λ (test : Bool). has_view old thread view || test) (or_false ((core == thread) && (index == view)))
+          ap (λ (test : Bool). has_view old thread view || test) (or-false ((core == thread) && (index == view)))
           ∙ views thread view;
       scratches = λ thread view.
-          ap (λ (test : Bool). has_view old thread view || test) (or_false ((core == thread) && (index == view)))
+          ap (λ (test : Bool). has_view old thread view || test) (or-false ((core == thread) && (index == view)))
           ∙ views thread view;
     }
 
@@ -461,7 +462,7 @@ no_buffer_before : (images : ℕ → ImagePages) (old : State) (core index page 
     → is_in_table images old (Buffer core index page) ≡ false
 unfolding is_in_table
 no_buffer_before images old core index page none =
-    ap (λ (there : Bool). not (index == 0) && (there && nat_lt page 4)) none ∙ and_false (not (index == 0))
+    ap (λ (there : Bool). not (index == 0) && (there && nat_lt page 4)) none ∙ and-false (not (index == 0))
 
 view_fresh : (images : ℕ → ImagePages) (old : State) (core index : ℕ) (words : RecordWords) → has_view old core index ≡ false
     → EachPage (λ page. is_in_table images old page.name ≡ false) (binding_pages core index words)

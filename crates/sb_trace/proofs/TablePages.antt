@@ -1,30 +1,20 @@
 -- Pages of a table by their kind, both ways, and states that have one table.
-use Rattle.std.proofs.Common.{◌≡◌, ◌≢◌, ◌∙◌, sym, ap, subst, ℕ, ◌*◌, ◌<◌, Bool, true, false, List, [], ◌++◌, ◌==◌, ◌&&◌, ◌||◌, length, refl}
-use Rattle.std.specs.Prelude.{Option, Some, None, is_some, map, not, nat_lt, slice_get}
+use Rattle.std.proofs.Common.{◌≡◌, ◌≢◌, ◌∙◌, sym, ap, subst, ℕ, ◌*◌, ◌<◌, Bool, true, false, List, [], ◌++◌, ◌==◌, ◌&&◌, length, refl}
+use Rattle.std.specs.Prelude.{Some, None, is_some, map, not, nat_lt, slice_get}
 use Rattle.std.proofs.lemmas.Bool.Decides.{Decides-ltb}
 use Rattle.std.proofs.lemmas.List.{append-nil}
+use Rattle.std.proofs.Math.Bool.{and-false, or-false}
 use Rattle.sb_state.specs.declared.page.PageName.{PageName}
 use Rattle.sb_state.specs.declared.page.PageName.TheVariants.{Heap, Pool, ServerStack, Buffer, Record, Scratch}
 use Rattle.sb_state.specs.declared.page.Page.{Page}
 use Rattle.sb_state.specs.State.{State, find_page, process_at, registration_of, registration_at}
 use Rattle.sb_state.specs.Windows.{process_shown}
+use Rattle.sb_state.proofs.Cases.{some_there}
 use Rattle.sb_trace.specs.SyscallProtect.{heap_count}
 use Rattle.sb_trace.specs.Table.{ImagePages, IsThere, stacks_in, has_view, is_in_table, ArePagesOfTable}
 use Rattle.sb_trace.specs.Changes.{page_name}
 use Rattle.sb_trace.proofs.NamedPages.{Hold, none_there, below_none}
 use Rattle.sb_trace.proofs.TableKept.{Grows, Grown, grown_held}
-
-some_there : (found : Option Page) → is_some found ≡ true → (page : Page) × (found ≡ Some page)
-some_there None there = absurd cc
-some_there (Some page) there = (page, refl)
-
-and_false : (test : Bool) → (test && false) ≡ false
-and_false true = refl
-and_false false = refl
-
-pub or_false : (test : Bool) → (test || false) ≡ test
-or_false true = refl
-or_false false = refl
 
 -- ---- the pages of one state
 
@@ -81,7 +71,7 @@ module _ (state : State) (table : ArePagesOfTable state) where
     page_absent (Record thread view) (ap is_some none),
     page_absent (Scratch thread view) (ap is_some none),
     λ page. page_absent (Buffer thread view page)
-        (ap (λ found. not (view == 0) && (is_some found && nat_lt page 4)) none ∙ and_false (not (view == 0))),
+        (ap (λ found. not (view == 0) && (is_some found && nat_lt page 4)) none ∙ and-false (not (view == 0))),
   )
 
 -- ---- the pages of two states
@@ -107,11 +97,11 @@ module _ (old new : State) (processes : new.processes ≡ old.processes) (count 
     heaps = λ process. ap (λ list. heap_count (slice_get list process)) processes;
     others = λ name other. refl;
     stacks = λ images process page.
-        or_false _ ∙ ap (λ list. nat_lt page (4 * stacks_in (registration_of (slice_get list process)))) (sym processes);
+        or-false _ ∙ ap (λ list. nat_lt page (4 * stacks_in (registration_of (slice_get list process)))) (sym processes);
     buffers = λ images thread view page.
-        or_false _ ∙ ap (λ (there : Bool). not (view == 0) && (there && nat_lt page 4)) (views_alike thread view);
-    records = λ thread view. or_false (has_view old thread view) ∙ views_alike thread view;
-    scratches = λ thread view. or_false (has_view old thread view) ∙ views_alike thread view;
+        or-false _ ∙ ap (λ (there : Bool). not (view == 0) && (there && nat_lt page 4)) (views_alike thread view);
+    records = λ thread view. or-false (has_view old thread view) ∙ views_alike thread view;
+    scratches = λ thread view. or-false (has_view old thread view) ∙ views_alike thread view;
   }
 
   -- states with the same processes, as many threads, the same views and the same names of pages have one table

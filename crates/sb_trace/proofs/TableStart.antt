@@ -5,6 +5,7 @@ use Rattle.std.specs.Option.{option_map, option_and_then}
 use Rattle.std.specs.List.{AllByRecursion}
 use Rattle.std.proofs.lemmas.Bool.{ne_eqb}
 use Rattle.std.proofs.lemmas.Bool.Decides.{Decides-eqb, Decides-ltb}
+use Rattle.std.proofs.Math.Bool.{or-false, and-false, and-true}
 use Rattle.sb_state.specs.declared.page.PageName.{PageName}
 use Rattle.sb_state.specs.declared.page.PageName.TheVariants.{Text, Area, Data, Heap, Pool, ServerStack, Save, Stack, Buffer, Record, Scratch, HomeTrampoline, ServerTrampoline}
 use Rattle.sb_state.specs.declared.page.Page.{Page}
@@ -19,7 +20,8 @@ use Rattle.sb_trace.specs.Table.{ImagePages, FitWindows, stacks_in, is_in_table,
 use Rattle.sb_trace.specs.SyscallProtect.{heap_count}
 use Rattle.sb_trace.specs.Laws.{IsImageSound}
 use Rattle.sb_state.proofs.Start.{EachPage, each_both, each_from}
-use Rattle.sb_trace.proofs.NamedPages.{or_false, and_false, and_true, Hold, hold_as, hold_both, hold_one, hold_from, is_below, below_none, less_same, same_tests}
+use Rattle.sb_state.proofs.Cases.{same_tests}
+use Rattle.sb_trace.proofs.NamedPages.{Hold, hold_as, hold_both, hold_one, hold_from, is_below, below_none, less_same}
 use Rattle.sb_trace.proofs.NameNumbers.{text_place, area_place, data_place, heap_place, stack_place, texts_numbered, areas_numbered, data_numbered, heaps_numbered, stack_page, stacks_numbered}
 
 -- ---- names of numbered processes and threads
@@ -62,7 +64,7 @@ numbered_at : {A : Type 0} (held : A → PageName → Bool) (list : List A) (fir
 numbered_at held [] first place name is = refl
 numbered_at held (one ∷ list) first zero name is =
     let same : (first == number_of name) ≡ true = (Decides-eqb first (number_of name)).1 (omega (arith, is)) in
-    rw (same, not_before held (first + 1) list name (omega (arith, is))) (or_false (held one name))
+    rw (same, not_before held (first + 1) list name (omega (arith, is))) (or-false (held one name))
 numbered_at held (one ∷ list) first (suc place) name is =
     let apart : (first == number_of name) ≡ false = ne_eqb first (number_of name) (λ same. omega (arith, same, is)) in
     rw apart (numbered_at held list (first + 1) place name (omega (arith, is)))
@@ -73,7 +75,7 @@ none_of : {A : Type 0} (held : A → PageName → Bool) (first : ℕ) (list : Li
     → numbered held first list name ≡ false
 none_of held first [] name none = refl
 none_of held first (one ∷ list) name none =
-    rw (none one, and_false (first == number_of name)) (none_of held (first + 1) list name none)
+    rw (none one, and-false (first == number_of name)) (none_of held (first + 1) list name none)
 
 -- ---- a process
 
@@ -92,7 +94,7 @@ below_if false count page = refl
 
 last_below : (test : Bool) (count page : ℕ)
     → (is_below count (if test then Some page else None) || false) ≡ (test && nat_lt page count)
-last_below test count page = or_false (is_below count (if test then Some page else None)) ∙ below_if test count page
+last_below test count page = or-false (is_below count (if test then Some page else None)) ∙ below_if test count page
 
 abbrev pool_page : ℕ → Page
 pool_page process = page_with (Pool process) zeros
@@ -156,15 +158,15 @@ process_names process image (Text other page) = last_below (process == other) (p
 process_names process image (Area other page) = last_below (process == other) (page_count (length image.area)) page
 process_names process image (Data other page) = last_below (process == other) (page_count (length image.initial)) page
 process_names process image (Heap other page) = last_below (process == other) image.heap_pages page
-process_names process image (Pool other) = sym (and_true (process == other))
-process_names process image (ServerStack other page) = sym (and_false (process == other))
-process_names process image (Save other) = sym (and_false (process == other))
-process_names process image (Stack other page) = sym (and_false (process == other))
-process_names process image (Buffer other view page) = sym (and_false (process == other))
-process_names process image (Record other view) = sym (and_false (process == other))
-process_names process image (Scratch other view) = sym (and_false (process == other))
-process_names process image HomeTrampoline = sym (and_false (process == 0))
-process_names process image ServerTrampoline = sym (and_false (process == 0))
+process_names process image (Pool other) = sym (and-true (process == other))
+process_names process image (ServerStack other page) = sym (and-false (process == other))
+process_names process image (Save other) = sym (and-false (process == other))
+process_names process image (Stack other page) = sym (and-false (process == other))
+process_names process image (Buffer other view page) = sym (and-false (process == other))
+process_names process image (Record other view) = sym (and-false (process == other))
+process_names process image (Scratch other view) = sym (and-false (process == other))
+process_names process image HomeTrampoline = sym (and-false (process == 0))
+process_names process image ServerTrampoline = sym (and-false (process == 0))
 
 process_held : (process : ℕ) (image : ProcessImage)
     → Hold (process_pages process image) (λ name. (process == number_of name) && in_image image name)
@@ -244,19 +246,19 @@ thread_names : (thread : ℕ) (entry : ThreadEntry) (name : PageName)
     (Scratch thread 0) name)))
     ≡ ((thread == number_of name) && in_entry entry name)
 unfolding same_name
-thread_names thread entry (Text other page) = sym (and_false (thread == other))
-thread_names thread entry (Area other page) = sym (and_false (thread == other))
-thread_names thread entry (Data other page) = sym (and_false (thread == other))
-thread_names thread entry (Heap other page) = sym (and_false (thread == other))
-thread_names thread entry (Pool other) = sym (and_false (thread == other))
-thread_names thread entry (ServerStack other page) = sym (and_false (thread == other))
-thread_names thread entry (Save other) = or_false (thread == other) ∙ sym (and_true (thread == other))
+thread_names thread entry (Text other page) = sym (and-false (thread == other))
+thread_names thread entry (Area other page) = sym (and-false (thread == other))
+thread_names thread entry (Data other page) = sym (and-false (thread == other))
+thread_names thread entry (Heap other page) = sym (and-false (thread == other))
+thread_names thread entry (Pool other) = sym (and-false (thread == other))
+thread_names thread entry (ServerStack other page) = sym (and-false (thread == other))
+thread_names thread entry (Save other) = or-false (thread == other) ∙ sym (and-true (thread == other))
 thread_names thread entry (Stack other page) = last_below (thread == other) 4 page
-thread_names thread entry (Buffer other view page) = sym (and_false (thread == other))
-thread_names thread entry (Record other view) = or_false ((thread == other) && (0 == view))
+thread_names thread entry (Buffer other view page) = sym (and-false (thread == other))
+thread_names thread entry (Record other view) = or-false ((thread == other) && (0 == view))
 thread_names thread entry (Scratch other view) = refl
-thread_names thread entry HomeTrampoline = sym (and_false (thread == 0))
-thread_names thread entry ServerTrampoline = sym (and_false (thread == 0))
+thread_names thread entry HomeTrampoline = sym (and-false (thread == 0))
+thread_names thread entry ServerTrampoline = sym (and-false (thread == 0))
 
 abbrev home_record : ℕ → ℕ → Page
 home_record thread home = page_with (Record thread 0) (record_bytes (home_words thread home))
@@ -448,14 +450,14 @@ of_image : (images : List ProcessImage) (entries : List ThreadEntry) (name : Pag
     → in_start images entries name ≡ held_by in_image (slice_get images (number_of name)) name
 of_image images entries name none apart =
     rw (behind_none entries name none apart)
-    (or_false (numbered in_image 0 images name) ∙ numbered_at in_image images 0 (number_of name) name (omega arith))
+    (or-false (numbered in_image 0 images name) ∙ numbered_at in_image images 0 (number_of name) name (omega arith))
 
 of_entry : (images : List ProcessImage) (entries : List ThreadEntry) (name : PageName)
     → ((image : ProcessImage) → in_image image name ≡ false) → is_trampoline name ≡ false
     → in_start images entries name ≡ held_by in_entry (slice_get entries (number_of name)) name
 of_entry images entries name none apart =
     rw (none_of in_image 0 images name none, apart)
-    (or_false (numbered in_entry 0 entries name) ∙ numbered_at in_entry entries 0 (number_of name) name (omega arith))
+    (or-false (numbered in_entry 0 entries name) ∙ numbered_at in_entry entries 0 (number_of name) name (omega arith))
 
 text_by : (found : Option ProcessImage) (process page : ℕ)
     → held_by in_image found (Text process page) ≡ (is_some found && nat_lt page (pages_of found).text)

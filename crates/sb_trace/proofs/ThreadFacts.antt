@@ -13,7 +13,7 @@ use Rattle.sb_state.specs.Bindings.{binding_with}
 use Rattle.sb_state.specs.Start.{ProcessImage, ThreadEntry, start_registers, start_thread, start_threads, start_state}
 use Rattle.sb_state.specs.State.{State, thread_at, no_thread}
 use Rattle.sb_state.proofs.Start.{count_threads}
-use Rattle.sb_state.proofs.Cases.{none_some, same_some, clash}
+use Rattle.sb_state.proofs.Cases.{none_some, same_some, clash, none_if}
 use Rattle.sb_trace.specs.declared.event.Event.{Event}
 use Rattle.sb_trace.specs.Step.{Steps}
 use Rattle.sb_trace.specs.Sound.{HaveOwnIndices, IsBindingSound, IsThreadSound, IsSound}
@@ -60,10 +60,6 @@ not_first : (test : Bool) (first : Binding) (found : Option Binding) → (if tes
 not_first true first found none = absurd cc
 not_first false first found none = (refl, none)
 
-none_by : (test : Bool) (binding : Binding) → test ≡ false → (if test then Some binding else None) ≡ None
-none_by true binding apart = absurd cc
-none_by false binding apart = refl
-
 rest_by : (test : Bool) (first : Binding) (found more : Option Binding) → (found ≡ None → more ≡ None)
     → (if test then Some first else found) ≡ None → (if test then Some first else more) ≡ None
 rest_by true first found more rest none = absurd cc
@@ -72,7 +68,7 @@ rest_by false first found more rest none = rest none
 -- an index that none has, and that the one more does not have, none has
 none_or_last : (bindings : List Binding) (binding : Binding) (index : ℕ) → binding_with bindings index ≡ None
     → (binding.index == index) ≡ false → binding_with (bindings ++ binding ∷ []) index ≡ None
-none_or_last [] binding index none apart = none_by (binding.index == index) binding apart
+none_or_last [] binding index none apart = none_if (binding.index == index) binding apart
 none_or_last (first ∷ bindings) binding index none apart =
     rest_by (first.index == index) first (binding_with bindings index) (binding_with (bindings ++ binding ∷ []) index)
     (λ rest. none_or_last bindings binding index rest apart) none

@@ -33,7 +33,7 @@ use Rattle.sb_state.specs.declared.end_kind.EndKind.TheVariants.{Running, Ended,
 use Rattle.sb_state.specs.declared.page.Page.{Page}
 use Rattle.sb_state.specs.declared.page.PageName.{PageName}
 use Rattle.sb_state.specs.declared.page.PageName.TheVariants.{Text, Area, Data, Heap, Pool, ServerStack, Save, Stack, Buffer, Record, Scratch, HomeTrampoline, ServerTrampoline}
-use Rattle.sb_state.specs.declared.page.Seen.{Seen}
+use Rattle.sb_state.specs.declared.page.SeenPage.{SeenPage}
 use Rattle.sb_state.specs.declared.state.Binding.{Binding}
 use Rattle.sb_state.specs.declared.state.Decision.{Decision}
 use Rattle.sb_state.specs.declared.state.Flight.{Flight}
@@ -49,9 +49,10 @@ use Rattle.sb_state.specs.Windows.{page_for, page_by_name, process_now, name_at,
 use Rattle.sb_state.proofs.Cases.{claim_if}
 use Rattle.sb_state.proofs.Indices.{indices_are_free}
 use Rattle.sb_state.proofs.Threads.{thread_set}
+use Rattle.sb_state.proofs.Places.{below_by}
 use Rattle.sb_trace.specs.declared.event.Event.{Event}
 use Rattle.sb_trace.specs.declared.event.Event.TheVariants as line
-use Rattle.sb_trace.specs.Home.{Outcome, fault_outcome, sent_home, home_address}
+use Rattle.sb_trace.specs.Home.{Outcome, fault_outcome, state_at_home, home_address}
 use Rattle.sb_trace.specs.KernelCall.{binding_with, pool_word, handler_in, refusal_regs, refusal_outcome, refusal_or_fault, return_outcome, lowest_bit, entry_regs, state_at_handler, entry_outcome, call_outcome, outcome_by_index, kernel_call}
 use Rattle.sb_trace.specs.Flight.{vmfunc_outcome, vmfunc_outcome_by, called_binding, landing_step, phase_outcome}
 use Rattle.sb_trace.specs.SyscallAnswer.{syscall_refusal, syscall_acceptance}
@@ -102,31 +103,31 @@ readable HomeTrampoline executable is = absurd cc
 readable ServerTrampoline executable is = absurd cc
 
 -- a page that is seen is there, and is accessed as its name says
-abbrev IsSeen : State → Seen → Type 0
+abbrev IsSeen : State → SeenPage → Type 0
 IsSeen state seen =
     (page : Page) × (find_page state.pages seen.name ≡ Some page) × (seen.mode ≡ mode_of seen.name page.executable)
 
-seen_by : (state : State) (name : PageName) (found : Option Page) (seen : Seen) → find_page state.pages name ≡ found
+seen_by : (state : State) (name : PageName) (found : Option Page) (seen : SeenPage) → find_page state.pages name ≡ found
     → option_map (λ (page : Page). record { name = name; mode = mode_of name page.executable }) found ≡ Some seen
     → IsSeen state seen
 seen_by state name None seen there is = absurd cc
 seen_by state name (Some page) seen there is =
-    let one : Seen = record { name = name; mode = mode_of name page.executable } in
+    let one : SeenPage = record { name = name; mode = mode_of name page.executable } in
     let same : one ≡ seen = cc in
     subst (IsSeen state) same (page, there, refl)
 
-seen_named : (state : State) (name : Option PageName) (seen : Seen)
+seen_named : (state : State) (name : Option PageName) (seen : SeenPage)
     → option_and_then (page_by_name state.pages) name ≡ Some seen → IsSeen state seen
 seen_named state None seen is = absurd cc
 seen_named state (Some name) seen is = seen_by state name (find_page state.pages name) seen refl is
 
-page_seen : (state : State) (thread view page : ℕ) (seen : Seen) → page_for state thread view page ≡ Some seen
+page_seen : (state : State) (thread view page : ℕ) (seen : SeenPage) → page_for state thread view page ≡ Some seen
     → IsSeen state seen
 unfolding page_for
 page_seen state thread view page seen is =
     seen_named state (option_and_then (name_at state.threads thread view page) (process_shown state.threads thread view)) seen is
 
-seen_byte : (state : State) (seen : Seen) (offset : ℕ) → HaveBytes state.pages → IsSeen state seen
+seen_byte : (state : State) (seen : SeenPage) (offset : ℕ) → HaveBytes state.pages → IsSeen state seen
     → permits seen.mode Read ≡ true → byte_in state seen.name offset < 256
 unfolding contents
 seen_byte state seen offset bytes (page, there, mode) may =
@@ -140,8 +141,8 @@ permitted_byte true value byte stop small is =
     let same : value ≡ byte = cc in subst (λ n. n < 256) same (small refl)
 permitted_byte false value byte stop small is = absurd cc
 
-loaded_byte : (state : State) (found : Option Seen) (address byte : ℕ) → HaveBytes state.pages
-    → ((seen : Seen) → found ≡ Some seen → IsSeen state seen) → byte_seen state found address Read ≡ Ok byte → byte < 256
+loaded_byte : (state : State) (found : Option SeenPage) (address byte : ℕ) → HaveBytes state.pages
+    → ((seen : SeenPage) → found ≡ Some seen → IsSeen state seen) → byte_seen state found address Read ≡ Ok byte → byte < 256
 loaded_byte state None address byte bytes all is = absurd cc
 loaded_byte state (Some seen) address byte bytes all is =
     permitted_byte (permits seen.mode Read) (byte_in state seen.name (address % 4096)) byte _
@@ -207,7 +208,7 @@ fault_regs_words = record {
 }
 
 sent_words : (state : State) (core : ℕ) → AreWords (thread_at state core).regs
-    → AreWords (thread_at (sent_home state core) core).regs
+    → AreWords (thread_at (state_at_home state core) core).regs
 sent_words state core old = view_set state core 0 server_fault_regs fault_regs_words old
 
 fault_words : (state : State) (core : ℕ) (kind : FaultKind) (address : ℕ) → AreWords (thread_at state core).regs
@@ -461,17 +462,10 @@ bind_words state core next None is has new =
 
 -- ---- the address of the pattern
 
-place_by : (test : Bool) (rest : Option ℕ) (count place : ℕ) → ((one : ℕ) → rest ≡ Some one → one < count)
-    → (if test then Some 0 else option_map suc rest) ≡ Some place → place < suc count
-place_by true rest count place within is = let same : 0 ≡ place = cc in omega (arith, same)
-place_by false None count place within is = absurd cc
-place_by false (Some one) count place within is =
-    let same : suc one ≡ place = cc in let below = within one refl in omega (arith, same, below)
-
 place_within : (bytes : List ℕ) (place : ℕ) → first_pattern bytes ≡ Some place → place < length bytes
 place_within [] place is = absurd cc
 place_within (byte ∷ bytes) place is =
-    place_by (begins_pattern (byte ∷ bytes)) (first_pattern bytes) (length bytes) place (place_within bytes) is
+    below_by (begins_pattern (byte ∷ bytes)) (first_pattern bytes) (length bytes) place (place_within bytes) is
 
 around_within : (before behind : List ℕ) (found : Option Page) (place : ℕ) → length before ≤ 4096 → length behind ≤ 4096
     → ((page : Page) → found ≡ Some page → length page.bytes ≡ 4096)

@@ -86,7 +86,7 @@ set_found [] index old value default there = absurd cc
 set_found (first ∷ list) zero old value default there = refl
 set_found (first ∷ list) (suc index) old value default there = set_found list index old value default there
 
-running_by : (found : Option Thread) → (unwrap_or found no_thread).state ≡ Running → found ≡ Some (unwrap_or found no_thread)
+pub running_by : (found : Option Thread) → (unwrap_or found no_thread).state ≡ Running → found ≡ Some (unwrap_or found no_thread)
 unfolding no_thread
 running_by None running = absurd cc
 running_by (Some thread) running = refl

@@ -2,6 +2,7 @@
 use Rattle.std.proofs.Common.{◌≡◌, ◌∙◌, sym, ap, subst, ℕ, zero, suc, ◌/◌, ◌%◌, ◌^◌, Bool, true, false, List, ◌==◌, get_or, refl, arith, Ok}
 use Rattle.std.specs.Prelude.{Some, if◌then◌else◌}
 use Rattle.std.specs.Option.{option_map, option_and_then}
+use Rattle.sb_abi.specs.declared.trampoline.TheConstants.{VMFUNC_ADDRESS}
 use Rattle.sb_memory.specs.declared.address.Access.TheVariants.{Fetch}
 use Rattle.sb_exec.specs.Fetching.{bytes_from_fetch, Stands, fetch_of}
 use Rattle.sb_scan.specs.Pattern.{pattern}
@@ -12,12 +13,12 @@ use Rattle.sb_state.specs.declared.page.PageName.{PageName}
 use Rattle.sb_state.specs.declared.page.PageName.TheVariants.{HomeTrampoline, ServerTrampoline}
 use Rattle.sb_state.specs.declared.page.Mode.TheVariants as mode
 use Rattle.sb_state.specs.declared.page.Page.{Page}
-use Rattle.sb_state.specs.declared.page.Seen.{Seen}
+use Rattle.sb_state.specs.declared.page.SeenPage.{SeenPage}
 use Rattle.sb_state.specs.PageName.{mode_of}
 use Rattle.sb_state.specs.State.{State, contents, bytes_of}
 use Rattle.sb_state.specs.Windows.{name_at, process_shown, page_by_name, page_and_mode, page_for}
 use Rattle.sb_state.specs.PlainMemory.{plain, plain_byte, is_canonical}
-use Rattle.sb_trace.specs.Sound.{ArePagesSound, vmfunc_address}
+use Rattle.sb_trace.specs.Sound.{ArePagesSound}
 use Rattle.sb_trace.proofs.Fetchable.{trampoline_name, trampoline_bytes, trampoline_there}
 
 trampoline_mode : (test executable : Bool) → mode_of (if test then HomeTrampoline else ServerTrampoline) executable ≡ mode.Fetch
@@ -25,7 +26,7 @@ unfolding mode_of
 trampoline_mode true executable = refl
 trampoline_mode false executable = refl
 
-abbrev code_seen : PageName → Seen
+abbrev code_seen : PageName → SeenPage
 code_seen name = record { name = name; mode = mode.Fetch }
 
 trampoline_named : (state : State) (thread view process : ℕ)
@@ -74,7 +75,7 @@ switch_bytes false = server_switches.0
 
 pub switch_stands : (state : State) (thread view process address : ℕ) → ArePagesSound state.pages
     → process_shown state.threads thread view ≡ Some process
-    → address % 2 ^ 64 ≡ vmfunc_address → Stands (fetch_of (plain thread view) state) address pattern
+    → address % 2 ^ 64 ≡ VMFUNC_ADDRESS → Stands (fetch_of (plain thread view) state) address pattern
 switch_stands state thread view process address sound shows at zero below =
     let place : bytes_from_fetch address 0 ≡ 0x70000040 = omega arith in
     subst (λ n. plain_byte thread view state n Fetch ≡ Ok 0x0F) (sym place)

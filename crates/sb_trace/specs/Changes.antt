@@ -1,17 +1,38 @@
 -- What a step may change, by its line.
 use Rattle.std.specs.Prelude.{◌≡◌, ◌≢◌, ◌⊎◌, ℕ, ◌-◌, ◌*◌, ◌^◌, ◌<◌, ◌≤◌, Bool, true, List, [], ◌∷◌, ◌++◌, length, map, None, Some, slice_get, slice_set}
 use Rattle.sb_abi.specs.declared.frames.TheConstants.{BIND_FRAMES}
-use Rattle.sb_abi.specs.declared.space.TheConstants.{STACK_PAGES}
+use Rattle.sb_abi.specs.declared.space.TheConstants.{STACK_PAGES, MAX_STACKS}
 use Rattle.std.specs.Option.{option_map}
 use Rattle.std.specs.List.{AllByRecursion}
+use Rattle.sb_abi.specs.Numbers.{call_number}
+use Rattle.sb_abi.specs.declared.call.Call.TheVariants.{Register, Bind, Protect}
 use Rattle.sb_memory.specs.declared.address.Access.TheVariants.{Write}
 use Rattle.sb_memory.specs.Words.{put_word}
 use Rattle.sb_trace.specs.declared.event.Event.{Event}
-use Rattle.sb_trace.specs.declared.event.Event.TheVariants.{Step as StepLine, Extra, Stray, Sys, Entered, Landing, Idle}
+use Rattle.sb_trace.specs.declared.event.Event.TheVariants.{
+  Step as StepLine,
+  Extra,
+  Stray,
+  Printed,
+  Sys,
+  Exit,
+  Fault,
+  ServerFault,
+  ServerExit,
+  Entered,
+  WrongKey,
+  PoolEmpty,
+  Unbound,
+  BadLeaf,
+  Return,
+  Turn,
+  Landing,
+  Idle,
+}
 use Rattle.sb_state.specs.declared.page.PageName.{PageName}
 use Rattle.sb_state.specs.declared.page.PageName.TheVariants.{Heap, Pool}
 use Rattle.sb_state.specs.declared.page.Page.{Page}
-use Rattle.sb_state.specs.declared.page.Seen.{Seen}
+use Rattle.sb_state.specs.declared.page.SeenPage.{SeenPage}
 use Rattle.sb_state.specs.PageName.{permits}
 use Rattle.sb_state.specs.declared.state.Binding.{Binding}
 use Rattle.sb_state.specs.declared.state.Registration.{Registration}
@@ -28,12 +49,12 @@ use Rattle.sb_trace.specs.SyscallProtect.{heap_count}
 -- ---- threads
 
 -- Only this thread's registers, view, bindings, state and flight may change: the other threads stay, and its home stays.
-pub record OnlyThread (old : State) (number : ℕ) (new : State) : Type 0 where
+pub record OnlyThread (old : State) (core : ℕ) (new : State) : Type 0 where
   pub count : length new.threads ≡ length old.threads
   pub places : length new.flights ≡ length old.flights
-  pub threads : (other : ℕ) → other ≢ number → slice_get new.threads other ≡ slice_get old.threads other
-  pub flights : (other : ℕ) → other ≢ number → slice_get new.flights other ≡ slice_get old.flights other
-  pub home : (thread_at new number).home ≡ (thread_at old number).home
+  pub threads : (other : ℕ) → other ≢ core → slice_get new.threads other ≡ slice_get old.threads other
+  pub flights : (other : ℕ) → other ≢ core → slice_get new.flights other ≡ slice_get old.flights other
+  pub home : (thread_at new core).home ≡ (thread_at old core).home
 
 -- ---- all but threads
 
@@ -58,7 +79,7 @@ OnlyThreads old new = OnlyPages old old.pages new
 -- no page that the thread may write in the view has this name
 abbrev pub IsClosed : State → ℕ → ℕ → PageName → Type 0
 IsClosed state thread view name =
-    (page : ℕ) (seen : Seen) → page_for state thread view page ≡ Some seen → permits seen.mode Write ≡ true → seen.name ≢ name
+    (page : ℕ) (seen : SeenPage) → page_for state thread view page ≡ Some seen → permits seen.mode Write ≡ true → seen.name ≢ name
 
 -- a page but for its bytes, of which it says how many
 pub record Shape : Type 0 where
@@ -93,12 +114,12 @@ abbrev pub with_first_word : State → PageName → ℕ → List Page
 with_first_word state name word = with_page_bytes state.pages name (put_word (contents state name) 0 word)
 
 -- The lowest server stack that was free is taken from the pool word, and the thread is in the view of the binding.
-pub record EntersServer (old : State) (number index slot : ℕ) (new : State) : Type 0 where
+pub record EntersServer (old : State) (core index slot : ℕ) (new : State) : Type 0 where
   pub server : ℕ
-  pub bound : server_of (thread_at old number).bindings index ≡ Some server
+  pub bound : server_of (thread_at old core).bindings index ≡ Some server
   pub some : pool_word old server ≢ 0
   pub lowest : slot ≡ lowest_bit (pool_word old server)
-  pub view : (thread_at new number).view ≡ index
+  pub view : (thread_at new core).view ≡ index
   pub only : OnlyPages old (with_first_word old (Pool server) (pool_word old server - 2 ^ slot)) new
 
 -- A process that was no server becomes one: the pages of its stacks are added, and its pool word says that all are free.
@@ -110,7 +131,7 @@ pub record AddsStacks (old : State) (process : ℕ) (new : State) : Type 0 where
   pub listed : is_listed found.starts handler ≡ true
   pub stacks : ℕ
   pub some : 1 ≤ stacks
-  pub few : stacks ≤ 16
+  pub few : stacks ≤ MAX_STACKS
   pub room : STACK_PAGES * stacks ≤ old.free
   pub pages : new.pages
       ≡ with_first_word old (Pool process) (2 ^ stacks - 1) ++ pages_from (server_stack_page process) 0 (STACK_PAGES * stacks)
@@ -122,19 +143,19 @@ pub record AddsStacks (old : State) (process : ℕ) (new : State) : Type 0 where
 
 -- The thread gets a binding of the lowest free index, with the next key word, to a server that is not its home: the six pages of
 -- its view are added, which are its record and scratch page, and four buffer pages.
-pub record AddsView (old : State) (number : ℕ) (new : State) : Type 0 where
-  pub there : slice_get old.threads number ≡ Some (thread_at old number)
+pub record AddsView (old : State) (core : ℕ) (new : State) : Type 0 where
+  pub there : slice_get old.threads core ≡ Some (thread_at old core)
   pub binding : Binding
-  pub index : IsFreeIndex (thread_at old number).bindings binding.index
-  pub away : binding.server ≢ (thread_at old number).home
+  pub index : IsFreeIndex (thread_at old core).bindings binding.index
+  pub away : binding.server ≢ (thread_at old core).home
   pub registration : Registration
   pub registered : registration_at old binding.server ≡ Some registration
   pub key : old.keys ≡ binding.key ∷ new.keys
-  pub bindings : (thread_at new number).bindings ≡ (thread_at old number).bindings ++ binding ∷ []
+  pub bindings : (thread_at new core).bindings ≡ (thread_at old core).bindings ++ binding ∷ []
   pub room : BIND_FRAMES ≤ old.free
   pub pages : new.pages
       ≡ old.pages
-      ++ binding_pages number binding.index (server_words number (thread_at old number) binding registration.handler)
+      ++ binding_pages core binding.index (server_words core (thread_at old core) binding registration.handler)
   pub processes : new.processes ≡ old.processes
   pub free : new.free ≡ old.free - BIND_FRAMES
 
@@ -151,9 +172,10 @@ pub record ChangesMode (old : State) (process : ℕ) (new : State) : Type 0 wher
 abbrev pub CallChanges : State → ℕ → ℕ → ℕ → State → Type 0
 CallChanges old core number answer new =
     ((answer ≢ 0) × OnlyThreads old new)
-    ⊎ ((answer ≡ 0) × (number ≡ 2) × ((thread_at old core).view ≡ 0) × AddsStacks old (thread_at old core).home new)
-    ⊎ ((answer ≡ 0) × (number ≡ 3) × ((thread_at old core).view ≡ 0) × AddsView old core new)
-    ⊎ ((answer ≡ 0) × (number ≡ 4) × ChangesMode old (process_now (thread_at old core)) new)
+    ⊎ ((answer ≡ 0) × (number ≡ call_number Register) × ((thread_at old core).view ≡ 0)
+    × AddsStacks old (thread_at old core).home new)
+    ⊎ ((answer ≡ 0) × (number ≡ call_number Bind) × ((thread_at old core).view ≡ 0) × AddsView old core new)
+    ⊎ ((answer ≡ 0) × (number ≡ call_number Protect) × ChangesMode old (process_now (thread_at old core)) new)
 
 -- ---- a step
 
@@ -167,7 +189,17 @@ LineChanges old core (Entered index slot) new = EntersServer old core index slot
 LineChanges old core (Sys number answer) new = CallChanges old core number answer new
 LineChanges old core (Landing phase) new = OnlyThreads old new × (new.threads ≡ old.threads)
 LineChanges old core Idle new = new ≡ old
-LineChanges old core _ new = OnlyThreads old new
+LineChanges old core (Printed value) new = OnlyThreads old new
+LineChanges old core (Exit status) new = OnlyThreads old new
+LineChanges old core (Fault kind at) new = OnlyThreads old new
+LineChanges old core (ServerFault kind at) new = OnlyThreads old new
+LineChanges old core (ServerExit status) new = OnlyThreads old new
+LineChanges old core (WrongKey index) new = OnlyThreads old new
+LineChanges old core (PoolEmpty index) new = OnlyThreads old new
+LineChanges old core (Unbound index) new = OnlyThreads old new
+LineChanges old core (BadLeaf index) new = OnlyThreads old new
+LineChanges old core Return new = OnlyThreads old new
+LineChanges old core Turn new = OnlyThreads old new
 
 pub record StepChanges (old : State) (core : ℕ) (event : Event) (new : State) : Type 0 where
   pub thread : OnlyThread old core new

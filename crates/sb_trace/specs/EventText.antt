@@ -1,6 +1,7 @@
 -- The text of one line: the core, and what happened there.
 use Rattle.std.specs.Prelude.{ℕ, ◌==◌, if◌then◌else◌, List, ◌++◌, codes}
 use Rattle.std.specs.Fmt.{decimal}
+use Rattle.sb_abi.specs.declared.trampoline.TheConstants.{VMFUNC_PHASE}
 use Rattle.sb_bus.specs.declared.stop.FaultKind.{FaultKind}
 use Rattle.sb_exec.specs.Stop.{fault_kind_text}
 use Rattle.sb_state.specs.EndText.{hex}
@@ -15,8 +16,9 @@ fault_text kind at = codes "fault " ++ (fault_kind_text kind ++ (codes " " ++ he
 abbrev pub call_text : ℕ → List ℕ → List ℕ
 call_text index outcome = codes "call " ++ (decimal index ++ outcome)
 
+-- the VMFUNC into the server has a letter
 abbrev pub phase_text : ℕ → List ℕ
-phase_text phase = if phase == 25 then codes "v" else decimal phase
+phase_text phase = if phase == VMFUNC_PHASE then codes "v" else decimal phase
 
 abbrev pub event_text : Event → List ℕ
 event_text (Step rip) = codes "step " ++ hex rip

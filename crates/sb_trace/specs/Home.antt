@@ -16,12 +16,12 @@ Outcome = Event × State
 abbrev pub home_address : ℕ
 home_address = RETURN_ADDRESS
 
--- the thread of this number is sent home; the stack that it has of a server stays taken
-abbrev pub sent_home : State → ℕ → State
-sent_home state number = with_view state number 0 server_fault_regs
+-- the thread of this core is sent home; the stack that it has of a server stays taken
+abbrev pub state_at_home : State → ℕ → State
+state_at_home state core = with_view state core 0 server_fault_regs
 
 -- A fault at home ends the thread with its registers as before the step; in a server's view it sends the thread home.
 abbrev pub fault_outcome : State → ℕ → FaultKind → ℕ → Outcome
-fault_outcome state number kind address =
-    if (thread_at state number).view == 0 then (Fault kind address, with_end state number (Faulted kind address))
-    else (ServerFault kind address, sent_home state number)
+fault_outcome state core kind address =
+    if (thread_at state core).view == 0 then (Fault kind address, with_end state core (Faulted kind address))
+    else (ServerFault kind address, state_at_home state core)

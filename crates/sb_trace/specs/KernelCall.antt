@@ -40,18 +40,18 @@ refusal_regs regs status = record {
 
 -- a refused call, with its line: the thread is in its home view
 abbrev pub refusal_outcome : State → ℕ → Thread → Event → ℕ → Outcome
-refusal_outcome state number thread line status = (line, with_view state number 0 (refusal_regs thread.regs status))
+refusal_outcome state core thread line status = (line, with_view state core 0 (refusal_regs thread.regs status))
 
 -- no view is switched: in a server's view that is a fault at the VMFUNC
 abbrev pub refusal_or_fault : State → ℕ → Thread → Event → ℕ → Outcome
-refusal_or_fault state number thread line status =
-    if thread.view == 0 then refusal_outcome state number thread line status else fault_outcome state number kind.Switch
+refusal_or_fault state core thread line status =
+    if thread.view == 0 then refusal_outcome state core thread line status else fault_outcome state core kind.Switch
     thread.regs.rip
 
 -- index 0 leads home
 abbrev pub return_outcome : State → ℕ → Thread → Outcome
-return_outcome state number thread =
-    (if thread.view == 0 then Turn else Return, with_view state number 0 (record thread.regs { rip = home_address }))
+return_outcome state core thread =
+    (if thread.view == 0 then Turn else Return, with_view state core 0 (record thread.regs { rip = home_address }))
 
 -- ---- entry
 
@@ -69,33 +69,33 @@ entry_regs regs stack handler = record {
 
 -- the server's lowest free stack is taken, and the thread stands at the handler in the view of the binding
 abbrev pub state_at_handler : State → ℕ → Thread → Binding → ℕ → State
-state_at_handler state number thread binding word =
-    with_view (with_word state (Pool binding.server) 0 (word - 2 ^ lowest_bit word)) number binding.index
+state_at_handler state core thread binding word =
+    with_view (with_word state (Pool binding.server) 0 (word - 2 ^ lowest_bit word)) core binding.index
     (entry_regs thread.regs (lowest_bit word) (handler_in (registration_at state binding.server)))
 
 -- with the pool word of the server
 abbrev pub entry_outcome : State → ℕ → Thread → Binding → ℕ → Outcome
-entry_outcome state number thread binding word =
-    if word == 0 then refusal_outcome state number thread (PoolEmpty binding.index) (status_number status.PoolEmpty)
-    else (Entered binding.index (lowest_bit word), state_at_handler state number thread binding word)
+entry_outcome state core thread binding word =
+    if word == 0 then refusal_outcome state core thread (PoolEmpty binding.index) (status_number status.PoolEmpty)
+    else (Entered binding.index (lowest_bit word), state_at_handler state core thread binding word)
 
 -- ---- the call
 
 -- through the binding of this index, if there is one
 abbrev pub call_outcome : State → ℕ → Thread → ℕ → Option Binding → Outcome
-call_outcome state number thread index None = refusal_or_fault state number thread (Unbound index) (status_number status.Unbound)
-call_outcome state number thread index (Some binding) =
-    if rsi thread.regs == binding.key then entry_outcome state number thread binding (pool_word state binding.server)
-    else refusal_outcome state number thread (WrongKey binding.index) (status_number status.WrongKey)
+call_outcome state core thread index None = refusal_or_fault state core thread (Unbound index) (status_number status.Unbound)
+call_outcome state core thread index (Some binding) =
+    if rsi thread.regs == binding.key then entry_outcome state core thread binding (pool_word state binding.server)
+    else refusal_outcome state core thread (WrongKey binding.index) (status_number status.WrongKey)
 
 abbrev pub outcome_by_index : State → ℕ → Thread → ℕ → ℕ → Outcome
-outcome_by_index state number thread leaf index =
+outcome_by_index state core thread leaf index =
     if leaf == 0
-    then if index == 0 then return_outcome state number thread
-    else call_outcome state number thread index (binding_with thread.bindings index)
-    else refusal_or_fault state number thread (BadLeaf index) (status_number status.BadLeaf)
+    then if index == 0 then return_outcome state core thread
+    else call_outcome state core thread index (binding_with thread.bindings index)
+    else refusal_or_fault state core thread (BadLeaf index) (status_number status.BadLeaf)
 
--- VMFUNC of the thread of this number, with the leaf in EAX, the index in ECX and the key in RSI
+-- VMFUNC of the thread of this core, with the leaf in EAX, the index in ECX and the key in RSI
 unfoldable pub kernel_call : State → ℕ → Outcome
-kernel_call state number =
-    outcome_by_index state number (thread_at state number) (eax (thread_at state number).regs) (ecx (thread_at state number).regs)
+kernel_call state core =
+    outcome_by_index state core (thread_at state core) (eax (thread_at state core).regs) (ecx (thread_at state core).regs)

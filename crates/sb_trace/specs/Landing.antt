@@ -2,7 +2,7 @@
 use Rattle.sb_trace.specs.declared.event.Event.{Event}
 use Rattle.sb_trace.specs.declared.event.Event.TheVariants.{Landing}
 
--- an event of a landing other than its deciding one
+-- An event of a landing other than its deciding one. No sound state gives a phase beyond that of the VMFUNC that begins it.
 abbrev pub IsLanding : Event → Type 0
 IsLanding (Landing phase) = Unit {0}
 IsLanding _ = ⊥

@@ -1,6 +1,9 @@
 -- The laws of runs of the plain machine (docs/LAWS.md).
-use Rattle.std.specs.Prelude.{◌≡◌, ℕ, ◌%◌, ◌^◌, ◌<◌, ◌≤◌, List, length, take, drop, Option, Some, None}
+use Rattle.std.specs.Prelude.{◌≡◌, ℕ, ◌*◌, ◌%◌, ◌^◌, ◌<◌, ◌≤◌, List, length, take, drop, Option, Some, None}
 use Rattle.std.specs.List.{AllByRecursion}
+use Rattle.sb_abi.specs.declared.space.TheConstants.{WINDOW_BYTES, WINDOW_PAGES, WINDOW_THREADS, AREA_PAGES, MAX_PROCESSES}
+use Rattle.sb_abi.specs.declared.trampoline.TheConstants.{VMFUNC_ADDRESS}
+use Rattle.sb_memory.specs.declared.page.TheConstants.{PAGE_SIZE}
 use Rattle.sb_scan.specs.Pattern.{pattern, HasNoPattern}
 use Rattle.sb_exec.specs.Fetching.{Stands, fetch_of}
 use Rattle.sb_trace.specs.declared.event.Event.{Event}
@@ -13,7 +16,7 @@ use Rattle.sb_state.specs.declared.state.Flight.{Flight}
 use Rattle.sb_state.specs.declared.page.Page.{Page}
 use Rattle.sb_state.specs.State.{State, find_page, thread_at, flight_at}
 use Rattle.sb_state.specs.Registers.{rsi}
-use Rattle.sb_trace.specs.Flight.{flight_binding, is_key, bound_pool, decided_at}
+use Rattle.sb_trace.specs.Flight.{flight_binding, is_key, bound_pool, decision_at_phase}
 use Rattle.sb_state.specs.Windows.{process_shown}
 use Rattle.sb_state.specs.PlainMemory.{plain}
 use Rattle.sb_trace.specs.Start.{ProcessImage, ThreadEntry, start_state}
@@ -24,7 +27,7 @@ use Rattle.sb_trace.specs.OneStep.{StepsAlike, without_flights, without_landings
 use Rattle.sb_trace.specs.Runs.{Runs, RunsAtOnce, IsTextOfRun}
 use Rattle.sb_trace.specs.Report.{report_text}
 use Rattle.sb_trace.specs.LandingText.{without_landing_lines}
-use Rattle.sb_trace.specs.Sound.{IsSound, vmfunc_address}
+use Rattle.sb_trace.specs.Sound.{IsSound}
 use Rattle.sb_trace.specs.Changes.{StepChanges}
 
 -- ---- sound states
@@ -35,10 +38,10 @@ pub record IsImageSound (image : ProcessImage) : Type 0 where
   pub area : HasNoPattern image.area
   pub starts : AllByRecursion (λ start. start < 2 ^ 64) image.starts
   pub initial : AllByRecursion (λ byte. byte < 256) image.initial
-  pub text_length : length image.text ≤ 0x200000
-  pub area_length : length image.area ≤ 0x10000
-  pub initial_length : length image.initial ≤ 0x200000
-  pub heap : image.heap_pages ≤ 512
+  pub text_length : length image.text ≤ WINDOW_BYTES
+  pub area_length : length image.area ≤ AREA_PAGES * PAGE_SIZE
+  pub initial_length : length image.initial ≤ WINDOW_BYTES
+  pub heap : image.heap_pages ≤ WINDOW_PAGES
 
 -- the thread's home is one of so many processes, and it starts at an address
 abbrev pub IsEntrySound : ℕ → ThreadEntry → Type 0
@@ -48,9 +51,9 @@ IsEntrySound processes entry = (entry.home < processes) × (entry.address < 2 ^ 
 abbrev pub StartIsSound : Type 0
 StartIsSound =
     (images : List ProcessImage) (entries : List ThreadEntry) (free : ℕ) (keys : List ℕ) → AllByRecursion IsImageSound images
-    → length images ≤ 16
+    → length images ≤ MAX_PROCESSES
     → AllByRecursion (IsEntrySound (length images)) entries
-    → length entries ≤ 32
+    → length entries ≤ WINDOW_THREADS
     → AllByRecursion (λ key. key < 2 ^ 64) keys → IsSound (start_state images entries free keys)
 
 abbrev pub StepsKeepSound : Type 0
@@ -88,9 +91,9 @@ LandingsDrop =
 
 -- the decision of a flight's phase, if it decides
 abbrev pub decision_at : State → ℕ → Flight → Option Decision
-decision_at state number flight =
-    decided_at flight.phase (is_key (flight_binding (thread_at state number) flight) (rsi (thread_at state number).regs))
-    (bound_pool state (flight_binding (thread_at state number) flight)) flight.mask
+decision_at state core flight =
+    decision_at_phase flight.phase (is_key (flight_binding (thread_at state core) flight) (rsi (thread_at state core).regs))
+    (bound_pool state (flight_binding (thread_at state core) flight)) flight.mask
 
 -- the line of a decision
 abbrev pub IsLineOf : Decision → ℕ → Event → Type 0
@@ -117,7 +120,7 @@ StepsChange = (old : State) (core : ℕ) (event : Event) (new : State) → Steps
 -- every thread
 abbrev pub HasOneSwitch : State → Type 0
 HasOneSwitch state =
-    (thread view address : ℕ) → Stands (fetch_of (plain thread view) state) address pattern → address % 2 ^ 64 ≡ vmfunc_address
+    (thread view address : ℕ) → Stands (fetch_of (plain thread view) state) address pattern → address % 2 ^ 64 ≡ VMFUNC_ADDRESS
 
 abbrev pub OnePattern : Type 0
 OnePattern = (state : State) → IsSound state → HasOneSwitch state
@@ -134,7 +137,7 @@ RunsKeepOneSwitch = (first : State) (schedule : List ℕ) (lines : List Line) �
 abbrev pub SwitchStands : Type 0
 SwitchStands =
     (state : State) (thread view process address : ℕ) → IsSound state → process_shown state.threads thread view ≡ Some process
-    → address % 2 ^ 64 ≡ vmfunc_address → Stands (fetch_of (plain thread view) state) address pattern
+    → address % 2 ^ 64 ≡ VMFUNC_ADDRESS → Stands (fetch_of (plain thread view) state) address pattern
 
 -- ---- the text of a run
 

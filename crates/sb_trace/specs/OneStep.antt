@@ -15,9 +15,9 @@ use Rattle.sb_trace.specs.Step.{RunsOn}
 
 -- a running thread executes an instruction, one that has ended is idle
 abbrev pub StepsOnceBy : State → ℕ → Thread → EndKind → Outcome → Type 0
-StepsOnceBy state number thread Running outcome = RunsOn kernel_call state number thread.view thread.regs outcome
-StepsOnceBy state number thread (Ended status) outcome = outcome ≡ (Idle, state)
-StepsOnceBy state number thread (Faulted kind address) outcome = outcome ≡ (Idle, state)
+StepsOnceBy state core thread Running outcome = RunsOn kernel_call state core thread.view thread.regs outcome
+StepsOnceBy state core thread (Ended status) outcome = outcome ≡ (Idle, state)
+StepsOnceBy state core thread (Faulted kind address) outcome = outcome ≡ (Idle, state)
 
 -- a step of a core, which runs the thread of its number
 abbrev pub StepsOnce : State → ℕ → Event → State → Type 0

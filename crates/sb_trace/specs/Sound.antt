@@ -1,13 +1,16 @@
 -- What holds in each state of a run (docs/LAWS.md): it holds at the start, and each step keeps it.
 use Rattle.std.specs.Prelude.{◌≡◌, ◌≢◌, ℕ, ◌%◌, ◌^◌, ◌<◌, ◌≤◌, Bool, true, false, List, [], ◌∷◌, length, Option, Some, None}
 use Rattle.std.specs.List.{AllByRecursion, Contains}
+use Rattle.sb_abi.specs.declared.space.TheConstants.{WINDOW_PAGES, WINDOW_THREADS, MAX_PROCESSES, MAX_BINDINGS, MAX_STACKS}
+use Rattle.sb_abi.specs.declared.trampoline.TheConstants.{VMFUNC_ADDRESS, COMPARE_KEY, BRANCH_ON_KEY, LOAD_POOL, TEST_MASK, BRANCH_ON_POOL, LESS_ONE, DROP_BIT, FIND_STACK, EXCHANGE_POOL, BRANCH_ON_EXCHANGE, STACK_OFFSET, LOAD_BASE, ADD_OFFSET, CLEAR_OFFSET, CLEAR_INDEX, CLEAR_MASK, ENTER, STATUS_WRONG_KEY, SKIP, STATUS_POOL_EMPTY, LEAVE, HOME_INDEX, HOME_LEAF, JUMP_BACK, GO_HOME}
+use Rattle.sb_memory.specs.declared.page.TheConstants.{PAGE_SIZE}
 use Rattle.sb_tramp.specs.declared.record_words.RecordWords.{RecordWords}
 use Rattle.sb_tramp.specs.Home.{home_page}
 use Rattle.sb_tramp.specs.Server.{server_page}
 use Rattle.sb_exec.specs.Words.{AreWords}
 use Rattle.sb_state.specs.declared.end_kind.EndKind.TheVariants.{Running}
 use Rattle.sb_state.specs.declared.page.PageName.{PageName}
-use Rattle.sb_state.specs.declared.page.PageName.TheVariants.{Text, Area, Heap, Record, HomeTrampoline, ServerTrampoline}
+use Rattle.sb_state.specs.declared.page.PageName.TheVariants.{Text, Area, Data, Heap, Pool, ServerStack, Save, Stack, Buffer, Record, Scratch, HomeTrampoline, ServerTrampoline}
 use Rattle.sb_state.specs.declared.page.Page.{Page}
 use Rattle.sb_state.specs.declared.state.Binding.{Binding}
 use Rattle.sb_state.specs.declared.state.Decision.{Decision}
@@ -36,11 +39,19 @@ is_code_name (Text process page) = true
 is_code_name (Area process page) = true
 is_code_name HomeTrampoline = true
 is_code_name ServerTrampoline = true
-is_code_name _ = false
+is_code_name (Data process page) = false
+is_code_name (Heap process page) = false
+is_code_name (Pool process) = false
+is_code_name (ServerStack process page) = false
+is_code_name (Save thread) = false
+is_code_name (Stack thread page) = false
+is_code_name (Buffer thread index page) = false
+is_code_name (Record thread view) = false
+is_code_name (Scratch thread view) = false
 
 -- Each page has 4,096 bytes, the trampoline stands, and VMFUNC's bytes stand in no text, rewrite area or executable heap.
 pub record ArePagesSound (pages : List Page) : Type 0 where
-  pub sizes : (name : PageName) (page : Page) → find_page pages name ≡ Some page → length page.bytes ≡ 4096
+  pub sizes : (name : PageName) (page : Page) → find_page pages name ≡ Some page → length page.bytes ≡ PAGE_SIZE
   -- what can be loaded is a byte
   pub bytes : (name : PageName) (page : Page) → is_code_name name ≡ false → find_page pages name ≡ Some page
       → AllByRecursion (λ byte. byte < 256) page.bytes
@@ -69,12 +80,12 @@ HaveRecords state =
 pub record IsRegistrationSound (process : Process) (registration : Registration) : Type 0 where
   pub listed : is_listed process.starts registration.handler ≡ true
   pub some : 1 ≤ registration.stacks
-  pub few : registration.stacks ≤ 16
+  pub few : registration.stacks ≤ MAX_STACKS
 
 -- the starts of instructions are words, and the heap is within its window
 pub record IsProcessSound (process : Process) : Type 0 where
   pub starts : AllByRecursion (λ start. start < 2 ^ 64) process.starts
-  pub heap : process.heap_pages ≤ 512
+  pub heap : process.heap_pages ≤ WINDOW_PAGES
   pub registration : (registration : Registration) → process.registration ≡ Some registration
       → IsRegistrationSound process registration
 
@@ -87,7 +98,7 @@ HasView thread = (process : ℕ) × (process_of_view thread.view thread ≡ Some
 -- A binding has an index from 1 to 15, and its server is a registered process other than the thread's home.
 pub record IsBindingSound (state : State) (thread : Thread) (binding : Binding) : Type 0 where
   pub least : 1 ≤ binding.index
-  pub most : binding.index ≤ 15
+  pub most : binding.index ≤ MAX_BINDINGS
   pub key : binding.key < 2 ^ 64
   pub away : binding.server ≢ thread.home
   pub registration : Registration
@@ -108,35 +119,38 @@ pub record IsThreadSound (state : State) (thread : Thread) : Type 0 where
 
 -- ---- flights
 
--- the address of the VMFUNC in both pages of the trampoline
-abbrev pub vmfunc_address : ℕ
-vmfunc_address = 0x70000040
-
 -- the thread stands at the VMFUNC, with leaf 0 and this index
 pub record StandsAtSwitch (thread : Thread) (index : ℕ) : Type 0 where
-  pub address : thread.regs.rip % 2 ^ 64 ≡ vmfunc_address
+  pub address : thread.regs.rip % 2 ^ 64 ≡ VMFUNC_ADDRESS
   pub leaf : eax thread.regs ≡ 0
   pub names : ecx thread.regs ≡ index
 
+-- the phases of a refused call on its way home
+abbrev pub phases_home : List ℕ
+phases_home = LEAVE ∷ HOME_INDEX ∷ HOME_LEAF ∷ JUMP_BACK ∷ GO_HOME ∷ []
+
 -- the phases that a flight comes to, in their order, by its decision
 abbrev pub phases_of : Option Decision → List ℕ
-phases_of None = 0 ∷ 1 ∷ 2 ∷ 3 ∷ 4 ∷ 5 ∷ 6 ∷ 7 ∷ 8 ∷ 9 ∷ []
-phases_of (Some decision.WrongKey) = 1 ∷ 17 ∷ 18 ∷ 20 ∷ 21 ∷ 22 ∷ 23 ∷ 24 ∷ []
-phases_of (Some decision.PoolEmpty) = 3 ∷ 4 ∷ 19 ∷ 20 ∷ 21 ∷ 22 ∷ 23 ∷ 24 ∷ []
-phases_of (Some decision.Entered) = 9 ∷ 10 ∷ 11 ∷ 12 ∷ 13 ∷ 14 ∷ 15 ∷ 16 ∷ []
+phases_of None =
+    COMPARE_KEY ∷ BRANCH_ON_KEY ∷ LOAD_POOL ∷ TEST_MASK ∷ BRANCH_ON_POOL ∷ LESS_ONE ∷ DROP_BIT ∷ FIND_STACK ∷ EXCHANGE_POOL
+    ∷ BRANCH_ON_EXCHANGE ∷ []
+phases_of (Some decision.WrongKey) = BRANCH_ON_KEY ∷ STATUS_WRONG_KEY ∷ SKIP ∷ phases_home
+phases_of (Some decision.PoolEmpty) = TEST_MASK ∷ BRANCH_ON_POOL ∷ STATUS_POOL_EMPTY ∷ phases_home
+phases_of (Some decision.Entered) =
+    BRANCH_ON_EXCHANGE ∷ STACK_OFFSET ∷ LOAD_BASE ∷ ADD_OFFSET ∷ CLEAR_OFFSET ∷ CLEAR_INDEX ∷ CLEAR_MASK ∷ ENTER ∷ []
 
 -- the mask is 0 where no stack was free, and else not, once it was loaded
 abbrev pub IsMask : Option Decision → ℕ → ℕ → Type 0
-IsMask None phase mask = 3 ≤ phase → mask ≢ 0
+IsMask None phase mask = TEST_MASK ≤ phase → mask ≢ 0
 IsMask (Some decision.WrongKey) phase mask = Unit {0}
 IsMask (Some decision.PoolEmpty) phase mask = mask ≡ 0
 IsMask (Some decision.Entered) phase mask = mask ≢ 0
 
--- Before the decision the thread stands at the VMFUNC, and phase 0 found the key of the binding. An entry leaves it in the view
--- of the binding, a refusal at home.
+-- Before the decision the thread stands at the VMFUNC, and the comparison found the key of the binding. An entry leaves it in
+-- the view of the binding, a refusal at home.
 abbrev pub IsThreadOfFlight : Option Decision → Thread → Flight → Binding → Type 0
 IsThreadOfFlight None thread flight binding =
-    StandsAtSwitch thread flight.index × (flight.phase ≢ 0 → rsi thread.regs ≡ binding.key)
+    StandsAtSwitch thread flight.index × (flight.phase ≢ COMPARE_KEY → rsi thread.regs ≡ binding.key)
 IsThreadOfFlight (Some decision.Entered) thread flight binding = thread.view ≡ flight.index
 IsThreadOfFlight (Some decision.WrongKey) thread flight binding = thread.view ≡ 0
 IsThreadOfFlight (Some decision.PoolEmpty) thread flight binding = thread.view ≡ 0
@@ -162,9 +176,9 @@ pub record IsSound (state : State) : Type 0 where
   pub pages : ArePagesSound state.pages
   pub table : ArePagesOfTable state
   pub records : HaveRecords state
-  pub process_count : length state.processes ≤ 16
+  pub process_count : length state.processes ≤ MAX_PROCESSES
   pub processes : AllByRecursion IsProcessSound state.processes
-  pub few : length state.threads ≤ 32
+  pub few : length state.threads ≤ WINDOW_THREADS
   pub threads : AllByRecursion (IsThreadSound state) state.threads
   pub views : (number : ℕ) → HasView (thread_at state number)
   -- a flight, or none, for each thread

@@ -28,55 +28,55 @@ use Rattle.sb_trace.specs.Syscall.{syscall_outcome}
 
 -- What stops a step is a fault: this memory never lacks a frame.
 abbrev pub StopsWith : State → ℕ → BusStop → Outcome → Type 0
-StopsWith state number (FaultStop kind address) outcome = outcome ≡ fault_outcome state number kind address.0
-StopsWith state number (Missing frame) outcome = ⊥
+StopsWith state core (FaultStop kind address) outcome = outcome ≡ fault_outcome state core kind address.0
+StopsWith state core (Missing frame) outcome = ⊥
 
 -- by the effect of the instruction, which began with these registers and left others, and another state; `switch` is what
 -- VMFUNC does
 abbrev pub outcome_by_effect : (State → ℕ → Outcome) → State → ℕ → Insn → Regs → Effect → Regs → State → Outcome
-outcome_by_effect switch state number insn regs Next regs' state' = (StepLine regs.rip, with_regs state' number regs')
-outcome_by_effect switch state number insn regs Syscall regs' state' =
-    syscall_outcome state number (after_syscall (next_rip insn regs) regs)
-outcome_by_effect switch state number insn regs Undefined regs' state' = fault_outcome state number kind.Undefined regs.rip
-outcome_by_effect switch state number insn regs Switch regs' state' = switch state number
+outcome_by_effect switch state core insn regs Next regs' state' = (StepLine regs.rip, with_regs state' core regs')
+outcome_by_effect switch state core insn regs Syscall regs' state' =
+    syscall_outcome state core (after_syscall (next_rip insn regs) regs)
+outcome_by_effect switch state core insn regs Undefined regs' state' = fault_outcome state core kind.Undefined regs.rip
+outcome_by_effect switch state core insn regs Switch regs' state' = switch state core
 
 abbrev pub PerformsBy : (State → ℕ → Outcome) → State → ℕ → Insn → Regs → Result Effect BusStop → Regs → State → Outcome → Type 0
-PerformsBy switch state number insn regs (Ok effect) regs' state' outcome =
-    outcome ≡ outcome_by_effect switch state number insn regs effect regs' state'
-PerformsBy switch state number insn regs (Err stop) regs' state' outcome = StopsWith state number stop outcome
+PerformsBy switch state core insn regs (Ok effect) regs' state' outcome =
+    outcome ≡ outcome_by_effect switch state core insn regs effect regs' state'
+PerformsBy switch state core insn regs (Err stop) regs' state' outcome = StopsWith state core stop outcome
 
 -- what the instruction leaves in the memory of a thread's view
 abbrev pub execution_in_view : State → ℕ → ℕ → Insn → Regs → Execution State (Unit {0})
-execution_in_view state number view insn regs = execution_of (plain number view) (row_of insn regs) regs state tt
+execution_in_view state core view insn regs = execution_of (plain core view) (row_of insn regs) regs state tt
 
 abbrev pub Performs : (State → ℕ → Outcome) → State → ℕ → ℕ → Insn → Regs → Outcome → Type 0
-Performs switch state number view insn regs outcome =
-    PerformsBy switch state number insn regs (execution_in_view state number view insn regs).answer
-    (execution_in_view state number view insn regs).registers
-    (execution_in_view state number view insn regs).meaning outcome
+Performs switch state core view insn regs outcome =
+    PerformsBy switch state core insn regs (execution_in_view state core view insn regs).answer
+    (execution_in_view state core view insn regs).registers
+    (execution_in_view state core view insn regs).meaning outcome
 
 abbrev pub FollowsFetch : (State → ℕ → Outcome) → State → ℕ → ℕ → Regs → Result Insn BusStop → Outcome → Type 0
-FollowsFetch switch state number view regs (Ok insn) outcome = Performs switch state number view insn regs outcome
-FollowsFetch switch state number view regs (Err stop) outcome = StopsWith state number stop outcome
+FollowsFetch switch state core view regs (Ok insn) outcome = Performs switch state core view insn regs outcome
+FollowsFetch switch state core view regs (Err stop) outcome = StopsWith state core stop outcome
 
 -- a running thread with these registers in this view
 abbrev pub RunsOn : (State → ℕ → Outcome) → State → ℕ → ℕ → Regs → Outcome → Type 0
-RunsOn switch state number view regs outcome =
-    (fetched : Result Insn BusStop) × FetchesOn (plain number view) state regs.rip tt tt fetched
-    × FollowsFetch switch state number view regs fetched outcome
+RunsOn switch state core view regs outcome =
+    (fetched : Result Insn BusStop) × FetchesOn (plain core view) state regs.rip tt tt fetched
+    × FollowsFetch switch state core view regs fetched outcome
 
 -- ---- the step
 
 -- a running thread: its flight goes on, or it executes an instruction
 abbrev pub GoesOn : State → ℕ → Thread → Option Flight → Outcome → Type 0
-GoesOn state number thread None outcome = RunsOn vmfunc_outcome state number thread.view thread.regs outcome
-GoesOn state number thread (Some flight) outcome = outcome ≡ landing_step state number flight
+GoesOn state core thread None outcome = RunsOn vmfunc_outcome state core thread.view thread.regs outcome
+GoesOn state core thread (Some flight) outcome = outcome ≡ landing_step state core flight
 
 -- a thread that has ended is idle
 abbrev pub StepsBy : State → ℕ → Thread → EndKind → Outcome → Type 0
-StepsBy state number thread Running outcome = GoesOn state number thread (flight_at state number) outcome
-StepsBy state number thread (Ended status) outcome = outcome ≡ (Idle, state)
-StepsBy state number thread (Faulted kind address) outcome = outcome ≡ (Idle, state)
+StepsBy state core thread Running outcome = GoesOn state core thread (flight_at state core) outcome
+StepsBy state core thread (Ended status) outcome = outcome ≡ (Idle, state)
+StepsBy state core thread (Faulted kind address) outcome = outcome ≡ (Idle, state)
 
 -- a step of a core, which runs the thread of its number
 abbrev pub Steps : State → ℕ → Event → State → Type 0

@@ -9,15 +9,15 @@ use Rattle.sb_state.specs.State.{State, with_regs}
 use Rattle.sb_state.specs.Registers.{rax}
 use Rattle.sb_trace.specs.Home.{Outcome}
 
--- the thread of this number goes on with the registers after SYSCALL, an answer and a second value
+-- the thread of this core goes on with the registers after SYSCALL, an answer and a second value
 abbrev pub state_after_call : State → ℕ → Regs → ℕ → ℕ → State
-state_after_call state number next answer second = with_regs state number (regs_with_answer next answer second)
+state_after_call state core next answer second = with_regs state core (regs_with_answer next answer second)
 
 -- a refusal, and a second value with it: the state is as it was but for the registers of the thread
 abbrev pub syscall_refusal : State → ℕ → Regs → CallRefusal → ℕ → Outcome
-syscall_refusal state number next refusal second =
-    (Sys (rax next) (refusal_number refusal), state_after_call state number next (refusal_number refusal) second)
+syscall_refusal state core next refusal second =
+    (Sys (rax next) (refusal_number refusal), state_after_call state core next (refusal_number refusal) second)
 
 -- a call that did what it does, and left this state
 abbrev pub syscall_acceptance : State → ℕ → Regs → Outcome
-syscall_acceptance state number next = (Sys (rax next) 0, state_after_call state number next 0 0)
+syscall_acceptance state core next = (Sys (rax next) 0, state_after_call state core next 0 0)

@@ -57,11 +57,11 @@ binding_pages thread index words =
 
 -- the view is there, its key is drawn, and its frames are taken
 unfoldable pub with_binding : State → ℕ → Thread → Binding → State
-with_binding state number thread binding =
-    record (with_thread state number (record thread { bindings = thread.bindings ++ binding ∷ [] })) {
+with_binding state core thread binding =
+    record (with_thread state core (record thread { bindings = thread.bindings ++ binding ∷ [] })) {
       pages = state.pages
-          ++ binding_pages number binding.index
-          (server_words number thread binding (handler_in (registration_at state binding.server)));
+          ++ binding_pages core binding.index
+          (server_words core thread binding (handler_in (registration_at state binding.server)));
       free = state.free - BIND_FRAMES;
       keys = drop 1 state.keys;
     }
@@ -70,12 +70,16 @@ with_binding state number thread binding =
 
 -- the thread has this binding, and its registers tell it
 abbrev pub binding_outcome : State → ℕ → Thread → Regs → Binding → Outcome
-binding_outcome state number thread next binding = (
+binding_outcome state core thread next binding = (
   Sys (rax next) 0,
-  with_regs (with_binding state number thread binding) number (regs_after_bind next number binding.index binding.key),
+  with_regs (with_binding state core thread binding) core (regs_after_bind next core binding.index binding.key),
 )
 
 -- bind of a thread by its refusal: the server is in RDI
 abbrev pub bind_outcome : State → ℕ → Thread → Regs → Option CallRefusal → Outcome
-bind_outcome state number thread next (Some refusal) = syscall_refusal state number next refusal 0
-bind_outcome state number thread next None = binding_outcome state number thread next (new_binding state thread (rdi next))
+bind_outcome state core thread next (Some refusal) = syscall_refusal state core next refusal 0
+bind_outcome state core thread next None = binding_outcome state core thread next (new_binding state thread (rdi next))
+
+-- bind of a thread: it gets a view of the server, or it is refused
+abbrev pub bind_of_thread : State → ℕ → Thread → Regs → Outcome
+bind_of_thread state core thread next = bind_outcome state core thread next (refusal_of_bind state thread (rdi next))

@@ -9,9 +9,11 @@ use Rattle.sb_memory.specs.Words.{put_word}
 use Rattle.sb_state.specs.declared.page.Page.{Page}
 use Rattle.sb_state.specs.declared.page.PageName.TheVariants.{Pool, ServerStack}
 use Rattle.sb_state.specs.declared.state.Registration.{Registration}
+use Rattle.sb_state.specs.declared.state.Thread.{Thread}
 use Rattle.sb_state.specs.State.{State, Process, is_listed, page_with, process_at, registration_at}
 use Rattle.sb_state.specs.PageWords.{zeros, with_word}
 use Rattle.sb_state.specs.Registers.{rsi, rdi}
+use Rattle.sb_state.specs.Windows.{process_now}
 use Rattle.sb_trace.specs.Home.{Outcome}
 use Rattle.sb_trace.specs.Start.{pages_from}
 use Rattle.sb_trace.specs.SyscallAnswer.{syscall_refusal, syscall_acceptance}
@@ -60,7 +62,13 @@ with_server state process handler stacks = record (with_word state (Pool process
   free = state.free - STACK_PAGES * stacks;
 }
 
--- register of a thread by its refusal: the handler is in RDI, the number of stacks in RSI
+-- register by its refusal: the handler is in RDI, the number of stacks in RSI
 abbrev pub register_outcome : State → ℕ → Regs → ℕ → Option CallRefusal → Outcome
-register_outcome state number next process (Some refusal) = syscall_refusal state number next refusal 0
-register_outcome state number next process None = syscall_acceptance (with_server state process (rdi next) (rsi next)) number next
+register_outcome state core next process (Some refusal) = syscall_refusal state core next refusal 0
+register_outcome state core next process None = syscall_acceptance (with_server state process (rdi next) (rsi next)) core next
+
+-- register of a thread: the process that its view shows becomes a server, or it is refused
+abbrev pub register_of_thread : State → ℕ → Thread → Regs → Outcome
+register_of_thread state core thread next =
+    register_outcome state core next (process_now thread)
+    (refusal_of_register state thread.view (process_now thread) (rdi next) (rsi next))

@@ -1,6 +1,6 @@
 -- Which pages there are: those of the table of plain memory (docs/FORMATS.md, "The memory of a thread").
 use Rattle.std.specs.Prelude.{◌≡◌, ℕ, ◌*◌, ◌≤◌, ◌==◌, ◌&&◌, not, nat_lt, Bool, true, List, [], ◌∷◌, length, Option, Some, None, is_some}
-use Rattle.sb_abi.specs.declared.space.TheConstants.{STACK_PAGES, BUFFER_PAGES}
+use Rattle.sb_abi.specs.declared.space.TheConstants.{STACK_PAGES, BUFFER_PAGES, WINDOW_PAGES, AREA_PAGES}
 use Rattle.sb_state.specs.declared.page.PageName.{PageName}
 use Rattle.sb_state.specs.declared.page.PageName.TheVariants.{Text, Area, Data, Heap, Pool, ServerStack, Save, Stack, Buffer, Record, Scratch, HomeTrampoline, ServerTrampoline}
 use Rattle.sb_state.specs.declared.page.Page.{Page}
@@ -19,9 +19,9 @@ pub record ImagePages : Type 0 where
 
 -- they are within their windows
 pub record FitWindows (image : ImagePages) : Type 0 where
-  pub text : image.text ≤ 512
-  pub area : image.area ≤ 16
-  pub initial : image.initial ≤ 512
+  pub text : image.text ≤ WINDOW_PAGES
+  pub area : image.area ≤ AREA_PAGES
+  pub initial : image.initial ≤ WINDOW_PAGES
 
 -- ---- what owns a page
 
@@ -53,7 +53,7 @@ is_in_table images state (Heap process page) = nat_lt page (heap_count (process_
 is_in_table images state (Pool process) = is_process_number state process
 is_in_table images state (ServerStack process page) = nat_lt page (STACK_PAGES * stacks_in (registration_at state process))
 is_in_table images state (Save thread) = is_thread_number state thread
-is_in_table images state (Stack thread page) = is_thread_number state thread && nat_lt page 4
+is_in_table images state (Stack thread page) = is_thread_number state thread && nat_lt page STACK_PAGES
 is_in_table images state (Buffer thread view page) = not (view == 0) && (has_view state thread view && nat_lt page BUFFER_PAGES)
 is_in_table images state (Record thread view) = has_view state thread view
 is_in_table images state (Scratch thread view) = has_view state thread view

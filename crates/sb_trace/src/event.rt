@@ -3,12 +3,10 @@
 ghost use Rattle.std.specs.Prelude.{◌≡◌, ◌↔◌, IsTrue};
 ghost use Rattle.sb_trace.specs.Landing.{IsLanding};
 
+use sb_abi::VMFUNC_PHASE;
 use sb_exec::FaultKind;
 use sb_list::Listed;
 use std::fmt;
-
-/// The phase of a landing line that stands for the VMFUNC into the server.
-pub const VMFUNC_PHASE: u8 = 25;
 
 /// What one step of a core did.
 #[derive(Clone, Copy, Debug, PartialEq, Eq)]

@@ -19,13 +19,14 @@ mod laws;
 mod report;
 
 pub use end::{EndState, ThreadEnd, ThreadEnds};
-pub use event::{Event, Line, Lines, VMFUNC_PHASE, is_landing};
+pub use event::{Event, Line, Lines, is_landing};
 pub use laws::{
     added_pages_are_new, flights_decide, landings_can_be_dropped, one_pattern, runs_have_one_text,
     start_is_sound, steps_change, steps_keep_sound,
 };
 pub use report::report_text;
+pub use sb_abi::VMFUNC_PHASE;
 pub use sb_state::{
-    Binding, Bindings, Decision, EndKind, Flight, MAX_BINDINGS, Mode, Page, PageBytes, PageName,
-    Registration, Seen, Thread,
+    Binding, Bindings, Decision, EndKind, Flight, Mode, Page, PageBytes, PageName, Registration,
+    SeenPage, Thread,
 };

@@ -1,6 +1,6 @@
 -- The bytes that are laid out of the rows.
 use Rattle.std.proofs.Common.{◌≡◌, ℕ, ◌-◌, true, ◌++◌, refl, sym, ap, ◌∙◌}
-use Rattle.sb_tramp.specs.Page.{page_size, filler, page_of, EachStands, FilledElsewhere, HasPageSize}
+use Rattle.sb_tramp.specs.Page.{page_size, filler, page_of_rows, EachStands, FilledElsewhere, HasPageSize}
 use Rattle.sb_tramp.specs.Home.{home_rows}
 use Rattle.sb_tramp.specs.Server.{server_rows}
 use Rattle.sb_tramp.proofs.Order.{in_order, code_from, code_and_filler, each_stands, page_size_of}
@@ -14,12 +14,12 @@ pub server_in_order : in_order 0 server_rows ≡ true
 server_in_order = refl
 
 -- the code and the filler behind it are the page
-pub home_laid : (size : ℕ) → size ≡ page_size → code_from 0 home_rows ++ filler (size - 0x6A) ≡ page_of home_rows
-unfolding page_of
+pub home_laid : (size : ℕ) → size ≡ page_size → code_from 0 home_rows ++ filler (size - 0x6A) ≡ page_of_rows home_rows
+unfolding page_of_rows
 home_laid size e = ap (λ (n : ℕ). code_from 0 home_rows ++ filler (n - 0x6A)) e ∙ sym (code_and_filler 0 home_rows)
 
-pub server_laid : (size : ℕ) → size ≡ page_size → code_from 0 server_rows ++ filler (size - 0xA5) ≡ page_of server_rows
-unfolding page_of
+pub server_laid : (size : ℕ) → size ≡ page_size → code_from 0 server_rows ++ filler (size - 0xA5) ≡ page_of_rows server_rows
+unfolding page_of_rows
 server_laid size e = ap (λ (n : ℕ). code_from 0 server_rows ++ filler (n - 0xA5)) e ∙ sym (code_and_filler 0 server_rows)
 
 pub home_stands : EachStands home_rows

@@ -5,7 +5,7 @@ use Rattle.std.proofs.Math.ListN.{get_or-append}
 use Rattle.std.proofs.lemmas.List.{get_or-replicate, get_or-append-add}
 use Rattle.std.proofs.lemmas.Bool.Decides.{leb_tells}
 use Rattle.sb_insn.specs.Spelling.{spelling}
-use Rattle.sb_tramp.specs.Page.{Row, end_of, page_size, filler, page_from, page_of, Covers, FilledElsewhere}
+use Rattle.sb_tramp.specs.Page.{PageRow, row_end, page_size, filler, page_from, page_of_rows, Covers, FilledElsewhere}
 use Rattle.sb_tramp.proofs.Order.{in_order, in_order_parts, length_filler}
 
 pub in_filler : (count index : ℕ) → index < count → get_or (filler count) index 0 ≡ 0xCC
@@ -25,35 +25,35 @@ behind_row gap index bytes rest =
     (get_or-append-add (filler gap) (bytes ++ rest) (length bytes + index) 0)
     ∙ get_or-append-add bytes rest index 0
 
-abbrev NoneCovers : List Row → ℕ → Type 0
-NoneCovers rows offset = (row : Row) → Contains rows row → ¬ Covers row offset
+abbrev NoneCovers : List PageRow → ℕ → Type 0
+NoneCovers rows offset = (row : PageRow) → Contains rows row → ¬ Covers row offset
 
-first_of_rows : (row : Row) (rows : List Row) → Contains (row ∷ rows) row
+first_of_rows : (row : PageRow) (rows : List PageRow) → Contains (row ∷ rows) row
 first_of_rows row rows = (0, omega arith, refl)
 
-later_in_rows : (first row : Row) (rows : List Row) → Contains rows row → Contains (first ∷ rows) row
+later_in_rows : (first row : PageRow) (rows : List PageRow) → Contains rows row → Contains (first ∷ rows) row
 later_in_rows first row rows found = (suc found.0, omega (arith, found.1), found.2)
 
-filled_from : (rows : List Row) (from offset : ℕ) → in_order from rows ≡ true → from ≤ offset → offset < page_size
+filled_from : (rows : List PageRow) (from offset : ℕ) → in_order from rows ≡ true → from ≤ offset → offset < page_size
     → NoneCovers rows offset → get_or (page_from from rows) (offset - from) 0 ≡ 0xCC
 filled_from [] from offset e low high none = in_filler (page_size - from) (offset - from) (omega (arith, low, high))
 filled_from (row ∷ rows) from offset e low high none =
     let parts = in_order_parts from row rows e in
     elim (leb_tells row.offset offset) [
       | inl at ↦
-          let behind : end_of row ≤ offset =
-          omega (arith, at.1, λ (within : offset < end_of row). none row (first_of_rows row rows) (at.1, within)) in
-          let far : offset - from ≡ (row.offset - from) + (length (spelling row.insn) + (offset - end_of row)) =
+          let behind : row_end row ≤ offset =
+          omega (arith, at.1, λ (within : offset < row_end row). none row (first_of_rows row rows) (at.1, within)) in
+          let far : offset - from ≡ (row.offset - from) + (length (spelling row.insn) + (offset - row_end row)) =
           omega (arith, parts.0, behind) in
-          ap (λ (n : ℕ). get_or (filler (row.offset - from) ++ (spelling row.insn ++ page_from (end_of row) rows)) n 0) far
-          ∙ (behind_row (row.offset - from) (offset - end_of row) (spelling row.insn) (page_from (end_of row) rows)
-          ∙ filled_from rows (end_of row) offset parts.1 behind high
+          ap (λ (n : ℕ). get_or (filler (row.offset - from) ++ (spelling row.insn ++ page_from (row_end row) rows)) n 0) far
+          ∙ (behind_row (row.offset - from) (offset - row_end row) (spelling row.insn) (page_from (row_end row) rows)
+          ∙ filled_from rows (row_end row) offset parts.1 behind high
           (λ other found. none other (later_in_rows row other rows found)))
-      | inr before ↦ before_row (row.offset - from) (offset - from) (spelling row.insn ++ page_from (end_of row) rows)
+      | inr before ↦ before_row (row.offset - from) (offset - from) (spelling row.insn ++ page_from (row_end row) rows)
           (omega (arith, before.1, low))
     ]
 
-pub filled_elsewhere : (rows : List Row) → in_order 0 rows ≡ true → FilledElsewhere rows
-unfolding page_of
+pub filled_elsewhere : (rows : List PageRow) → in_order 0 rows ≡ true → FilledElsewhere rows
+unfolding page_of_rows
 filled_elsewhere rows e offset high none =
     subst (λ (n : ℕ). get_or (page_from 0 rows) n 0 ≡ 0xCC) (omega arith) (filled_from rows 0 offset e (omega arith) high none)

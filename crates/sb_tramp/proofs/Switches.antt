@@ -4,7 +4,7 @@ use Rattle.std.specs.Prelude.{not, ◌==◌}
 use Rattle.std.proofs.Math.ListN.{get_or-eq_default}
 use Rattle.std.proofs.lemmas.Bool.Decides.{leb_tells}
 use Rattle.sb_scan.specs.Pattern.{HasPatternAt}
-use Rattle.sb_tramp.specs.Page.{page_size, filler, page_of, SwitchesAlone}
+use Rattle.sb_tramp.specs.Page.{page_size, filler, page_of_rows, SwitchesAlone}
 use Rattle.sb_tramp.specs.Home.{home_rows}
 use Rattle.sb_tramp.specs.Server.{server_rows}
 use Rattle.sb_tramp.proofs.Order.{code_from, length_filler, and_parts}
@@ -70,12 +70,12 @@ server_here : (count : ℕ) → HasPatternAt (code_from 0 server_rows ++ filler 
 unfolding filler
 server_here count = (refl, refl, refl)
 
-pub home_switches : SwitchesAlone (page_of home_rows)
+pub home_switches : SwitchesAlone (page_of_rows home_rows)
 home_switches =
     subst SwitchesAlone (home_laid page_size refl)
     (switches (code_from 0 home_rows) (page_size - 0x6A) home_lone (home_here (page_size - 0x6A)))
 
-pub server_switches : SwitchesAlone (page_of server_rows)
+pub server_switches : SwitchesAlone (page_of_rows server_rows)
 server_switches =
     subst SwitchesAlone (server_laid page_size refl)
     (switches (code_from 0 server_rows) (page_size - 0xA5) server_lone (server_here (page_size - 0xA5)))

@@ -1,12 +1,13 @@
 -- The home page: it saves the registers that a callee must keep, switches at offset 40, and loads them again.
-use Rattle.std.specs.Prelude.{ℕ, List, [], ◌∷◌, Some, None, pos}
+use Rattle.std.specs.Prelude.{ℕ, ◌+◌, List, [], ◌∷◌, Some, None, pos}
+use Rattle.sb_abi.specs.declared.trampoline.TheConstants.{RECORD_ADDRESS}
 use Rattle.sb_insn.specs.declared.insn.Op.TheVariants.{One, Vmfunc}
-use Rattle.sb_tramp.specs.Page.{Row, row, page_of}
+use Rattle.sb_tramp.specs.Page.{PageRow, row, page_of_rows}
 use Rattle.sb_tramp.specs.Forms.{opcode_alone, jump, with_modrm, with_disp, at_address}
 
-abbrev pub home_rows : List Row
+abbrev pub home_rows : List PageRow
 home_rows =
-    row 0x00 (at_address (Some 0x48) (One 0x8B) 0x04 0x70002020)  -- mov rax, [70002020]
+    row 0x00 (at_address (Some 0x48) (One 0x8B) 0x04 (RECORD_ADDRESS + 0x20))  -- mov rax, [70002020]
     ∷ row 0x08 (with_modrm (Some 0x48) (One 0x89) 0x18)  -- mov [rax], rbx
     ∷ row 0x0B (with_disp (Some 0x48) (One 0x89) 0x68 (pos 0x08))  -- mov [rax+8], rbp
     ∷ row 0x0F (with_disp (Some 0x4C) (One 0x89) 0x60 (pos 0x10))  -- mov [rax+10], r12
@@ -18,7 +19,7 @@ home_rows =
     ∷ row 0x25 (with_modrm None (One 0x31) 0xC0)  -- xor eax, eax
     ∷ row 0x27 (jump 0xEB (pos 0x17))  -- jmp 40
     ∷ row 0x40 (opcode_alone Vmfunc)  -- vmfunc
-    ∷ row 0x43 (at_address (Some 0x48) (One 0x8B) 0x04 0x70002020)  -- mov rax, [70002020]
+    ∷ row 0x43 (at_address (Some 0x48) (One 0x8B) 0x04 (RECORD_ADDRESS + 0x20))  -- mov rax, [70002020]
     ∷ row 0x4B (with_modrm (Some 0x48) (One 0x8B) 0x18)  -- mov rbx, [rax]
     ∷ row 0x4E (with_disp (Some 0x48) (One 0x8B) 0x68 (pos 0x08))  -- mov rbp, [rax+8]
     ∷ row 0x52 (with_disp (Some 0x4C) (One 0x8B) 0x60 (pos 0x10))  -- mov r12, [rax+10]
@@ -31,4 +32,4 @@ home_rows =
     ∷ []
 
 abbrev pub home_page : List ℕ
-home_page = page_of home_rows
+home_page = page_of_rows home_rows

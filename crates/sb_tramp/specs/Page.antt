@@ -12,16 +12,16 @@ abbrev pub page_size : ℕ
 page_size = PAGE_SIZE
 
 -- an instruction at an offset of the page
-pub record Row : Type 0 where
+pub record PageRow : Type 0 where
   pub offset : ℕ
   pub insn : Insn
 
-abbrev pub row : ℕ → Insn → Row
+abbrev pub row : ℕ → Insn → PageRow
 row offset insn = record { offset = offset; insn = insn }
 
 -- the offset behind a row
-abbrev pub end_of : Row → ℕ
-end_of row = row.offset + length (spelling row.insn)
+abbrev pub row_end : PageRow → ℕ
+row_end row = row.offset + length (spelling row.insn)
 
 -- so many bytes CC
 unfoldable pub filler : ℕ → List ℕ
@@ -29,38 +29,38 @@ filler count = replicate count 0xCC
 
 -- a page from an offset on, in which rows follow: each is spelled at its own offset, and before, between and behind
 -- them stands CC
-abbrev pub page_from : ℕ → List Row → List ℕ
+abbrev pub page_from : ℕ → List PageRow → List ℕ
 page_from offset [] = filler (page_size - offset)
-page_from offset (row ∷ rows) = filler (row.offset - offset) ++ (spelling row.insn ++ page_from (end_of row) rows)
+page_from offset (row ∷ rows) = filler (row.offset - offset) ++ (spelling row.insn ++ page_from (row_end row) rows)
 
 -- the page of rows that stand in the order of their offsets
-unfoldable pub page_of : List Row → List ℕ
-page_of rows = page_from 0 rows
+unfoldable pub page_of_rows : List PageRow → List ℕ
+page_of_rows rows = page_from 0 rows
 
 -- ---- what is said of the two pages
 
 -- the bytes of the page from the row's offset on begin with the row's instruction, which ends inside the page
-pub record StandsIn (page : List ℕ) (row : Row) : Type 0 where
+pub record StandsIn (page : List ℕ) (row : PageRow) : Type 0 where
   pub begins : BeginsWith (drop row.offset page) row.insn
-  pub inside : end_of row ≤ page_size
+  pub inside : row_end row ≤ page_size
 
 -- each row stands in the page
-abbrev pub EachStands : List Row → Type 0
-EachStands rows = (row : Row) → Contains rows row → StandsIn (page_of rows) row
+abbrev pub EachStands : List PageRow → Type 0
+EachStands rows = (row : PageRow) → Contains rows row → StandsIn (page_of_rows rows) row
 
 -- the offset is one of the row's bytes
-abbrev pub Covers : Row → ℕ → Type 0
-Covers row offset = (row.offset ≤ offset) × (offset < end_of row)
+abbrev pub Covers : PageRow → ℕ → Type 0
+Covers row offset = (row.offset ≤ offset) × (offset < row_end row)
 
 -- each byte that belongs to no row is CC
-abbrev pub FilledElsewhere : List Row → Type 0
+abbrev pub FilledElsewhere : List PageRow → Type 0
 FilledElsewhere rows =
-    (offset : ℕ) → offset < page_size → ((row : Row) → Contains rows row → ¬ Covers row offset)
-    → get_or (page_of rows) offset 0 ≡ 0xCC
+    (offset : ℕ) → offset < page_size → ((row : PageRow) → Contains rows row → ¬ Covers row offset)
+    → get_or (page_of_rows rows) offset 0 ≡ 0xCC
 
 -- the page has the size of a page
-abbrev pub HasPageSize : List Row → Type 0
-HasPageSize rows = length (page_of rows) ≡ page_size
+abbrev pub HasPageSize : List PageRow → Type 0
+HasPageSize rows = length (page_of_rows rows) ≡ page_size
 
 -- the bytes of VMFUNC stand in the page at offset 40, and nowhere else
 abbrev pub SwitchesAlone : List ℕ → Type 0

@@ -1,7 +1,15 @@
 //! The phases of a landing.
 
 ghost use Rattle.std.specs.Prelude.{◌≡◌, ◌<◌, ◌↔◌, None};
+ghost use Rattle.sb_abi.specs.declared.trampoline.TheConstants.{GO_HOME};
 ghost use Rattle.sb_tramp.specs.Landing.{landing_at};
+
+use sb_abi::{
+    ADD_OFFSET, BRANCH_ON_EXCHANGE, BRANCH_ON_KEY, BRANCH_ON_POOL, CLEAR_INDEX, CLEAR_MASK,
+    CLEAR_OFFSET, COMPARE_KEY, DROP_BIT, ENTER, EXCHANGE_POOL, FIND_STACK, GO_HOME, HOME_INDEX,
+    HOME_LEAF, JUMP_BACK, LEAVE, LESS_ONE, LOAD_BASE, LOAD_POOL, SKIP, STACK_OFFSET,
+    STATUS_POOL_EMPTY, STATUS_WRONG_KEY, TEST_MASK,
+};
 
 /// Where the instruction of a phase stands in the server page.
 #[derive(Clone, Copy, Debug, PartialEq, Eq)]
@@ -12,41 +20,41 @@ pub struct LandingRow {
     pub length: u8,
 }
 
-/// The instruction of a phase of the landing; `None` exactly for a phase above 24.
+/// The instruction of a phase of the landing; `None` exactly for a phase above `GO_HOME`.
 ///
-/// Phases 0 to 23 are the instructions behind VMFUNC in the order of the page; 24 is the VMFUNC by which a refused call
-/// goes home.
+/// The phases below are the instructions behind VMFUNC in the order of the page; `GO_HOME` is the VMFUNC by which a refused
+/// call goes home.
 #[tactic(auto, unfolding(crate::specs::Landing::landing_at))]
 pub fn landing_row(phase: u8) -> Option<LandingRow>
     ensures row { result ≡ landing_at phase }
-    ensures none { (result ≡ None) ↔ (24 < phase) }
+    ensures none { (result ≡ None) ↔ (GO_HOME < phase) }
 {
     let (offset, length) = match phase {
-        0 => (0x43, 8),
-        1 => (0x4B, 2),
-        2 => (0x4D, 8),
-        3 => (0x55, 3),
-        4 => (0x58, 2),
-        5 => (0x5A, 4),
-        6 => (0x5E, 3),
-        7 => (0x61, 4),
-        8 => (0x65, 10),
-        9 => (0x6F, 2),
-        10 => (0x71, 4),
-        11 => (0x75, 8),
-        12 => (0x7D, 3),
-        13 => (0x80, 3),
-        14 => (0x83, 2),
-        15 => (0x85, 2),
-        16 => (0x87, 7),
-        17 => (0x8E, 6),
-        18 => (0x94, 2),
-        19 => (0x96, 6),
-        20 => (0x9C, 3),
-        21 => (0x9F, 2),
-        22 => (0xA1, 2),
-        23 => (0xA3, 2),
-        24 => (0x40, 3),
+        COMPARE_KEY => (0x43, 8),
+        BRANCH_ON_KEY => (0x4B, 2),
+        LOAD_POOL => (0x4D, 8),
+        TEST_MASK => (0x55, 3),
+        BRANCH_ON_POOL => (0x58, 2),
+        LESS_ONE => (0x5A, 4),
+        DROP_BIT => (0x5E, 3),
+        FIND_STACK => (0x61, 4),
+        EXCHANGE_POOL => (0x65, 10),
+        BRANCH_ON_EXCHANGE => (0x6F, 2),
+        STACK_OFFSET => (0x71, 4),
+        LOAD_BASE => (0x75, 8),
+        ADD_OFFSET => (0x7D, 3),
+        CLEAR_OFFSET => (0x80, 3),
+        CLEAR_INDEX => (0x83, 2),
+        CLEAR_MASK => (0x85, 2),
+        ENTER => (0x87, 7),
+        STATUS_WRONG_KEY => (0x8E, 6),
+        SKIP => (0x94, 2),
+        STATUS_POOL_EMPTY => (0x96, 6),
+        LEAVE => (0x9C, 3),
+        HOME_INDEX => (0x9F, 2),
+        HOME_LEAF => (0xA1, 2),
+        JUMP_BACK => (0xA3, 2),
+        GO_HOME => (0x40, 3),
         _ => return None,
     };
     Some(LandingRow { offset, length })

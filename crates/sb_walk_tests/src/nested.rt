@@ -172,7 +172,7 @@ fn make_call<B: Bus>(bus: &mut B, at: u64, call: Call) -> Option<Result<u64, Bus
             Ok(()) => Ok(0),
             Err(stop) => Err(stop),
         }),
-        _ => None,
+        Call::Load(_) | Call::LoadForWrite(_) | Call::Store(_, _) => None,
     }
 }
 

@@ -20,7 +20,7 @@ use Rattle.sb_walks.specs.Gaps.{NoGap, ept_gap, table_gap, walk_gap, nested_gap}
 use Rattle.sb_walks.specs.Reads.{where_ok}
 use Rattle.sb_walks.specs.Ept.{ept_entry, ept_step, ept_levels, ept_reads, ept_walk, ept_walk_reads, phys_in}
 use Rattle.sb_walks.specs.Guest.{is_canonical, guest_read_answer, walk_step, walk_levels, level_reads, guest_walk, walk_reads, address_in}
-use Rattle.sb_walks.specs.Nested.{mapped_answer, entry_answer, entry_behind, guest_entry, guest_entry_reads, page_behind, page_answer, translation, entries_reads, translation_reads}
+use Rattle.sb_walks.specs.Nested.{memory_behind, entry_answer, entry_behind, guest_entry, guest_entry_reads, page_behind, page_answer, translation, entries_reads, translation_reads}
 use Rattle.sb_walks.proofs.Page.{ept_offset}
 
 -- ---- stops that are missing frames
@@ -170,10 +170,10 @@ module _ (memory changed : Physical) (frames : frame_count changed ≡ frame_cou
   behind_no_gap (Ok place) g = tt
   behind_no_gap (Err e) g = g
 
-  pub entry_same : (eptp at : ℕ) → at % 8 ≡ 0 → Each Holds (guest_entry_reads (mapped_answer memory eptp) at)
-      → NoGap table_gap (guest_entry (mapped_answer memory eptp) at)
-      → Same There (guest_entry (mapped_answer memory eptp) at) (guest_entry (mapped_answer changed eptp) at)
-      (guest_entry_reads (mapped_answer memory eptp) at) (guest_entry_reads (mapped_answer changed eptp) at)
+  pub entry_same : (eptp at : ℕ) → at % 8 ≡ 0 → Each Holds (guest_entry_reads (memory_behind memory eptp) at)
+      → NoGap table_gap (guest_entry (memory_behind memory eptp) at)
+      → Same There (guest_entry (memory_behind memory eptp) at) (guest_entry (memory_behind changed eptp) at)
+      (guest_entry_reads (memory_behind memory eptp) at) (guest_entry_reads (memory_behind changed eptp) at)
   unfolding guest_entry guest_entry_reads
   entry_same eptp at even h g =
       let first = ept_same eptp at Read (each_left Holds (ept_walk_reads memory eptp at Read) _ h)
@@ -191,10 +191,10 @@ module _ (memory changed : Physical) (frames : frame_count changed ≡ frame_cou
 
 module _ (memory changed : Physical) (frames : frame_count changed ≡ frame_count memory) (eptp : ℕ) where
   abbrev old : ℕ → Result ℕ TableStop
-  old = guest_entry (mapped_answer memory eptp)
+  old = guest_entry (memory_behind memory eptp)
 
   abbrev new : ℕ → Result ℕ TableStop
-  new = guest_entry (mapped_answer changed eptp)
+  new = guest_entry (memory_behind changed eptp)
 
   abbrev HeldWord : ℕ → Type 0
   HeldWord = Holds memory changed frames
@@ -204,11 +204,11 @@ module _ (memory changed : Physical) (frames : frame_count changed ≡ frame_cou
 
   -- an entry that is read is the same
   abbrev HeldEntry : ℕ → Type 0
-  HeldEntry place = Each HeldWord (guest_entry_reads (mapped_answer memory eptp) place)
+  HeldEntry place = Each HeldWord (guest_entry_reads (memory_behind memory eptp) place)
 
   abbrev ThereEntry : ℕ → Type 0
-  ThereEntry place = (guest_entry_reads (mapped_answer changed eptp) place ≡ guest_entry_reads (mapped_answer memory eptp) place)
-      × Each ThereWord (guest_entry_reads (mapped_answer memory eptp) place)
+  ThereEntry place = (guest_entry_reads (memory_behind changed eptp) place ≡ guest_entry_reads (memory_behind memory eptp) place)
+      × Each ThereWord (guest_entry_reads (memory_behind memory eptp) place)
 
   judged_gap : (access : Access) (level : ℕ) (answer : Result ℕ TableStop)
       → NoGap walk_gap (guest_read_answer access level answer)
@@ -279,24 +279,24 @@ module _ (memory changed : Physical) (frames : frame_count changed ≡ frame_cou
 
   -- ---- both
 
-  entries_held : (places : List ℕ) → Each HeldWord (entries_reads (mapped_answer memory eptp) places) → Each HeldEntry places
+  entries_held : (places : List ℕ) → Each HeldWord (entries_reads (memory_behind memory eptp) places) → Each HeldEntry places
   entries_held [] h = tt
   entries_held (place ∷ places) h = (
-    each_left HeldWord (guest_entry_reads (mapped_answer memory eptp) place) _ h,
+    each_left HeldWord (guest_entry_reads (memory_behind memory eptp) place) _ h,
     entries_held places
-        (each_right HeldWord (guest_entry_reads (mapped_answer memory eptp) place) _ h),
+        (each_right HeldWord (guest_entry_reads (memory_behind memory eptp) place) _ h),
   )
 
   entries_there : (places : List ℕ) → Each ThereEntry places
-      → (entries_reads (mapped_answer changed eptp) places ≡ entries_reads (mapped_answer memory eptp) places)
-      × Each ThereWord (entries_reads (mapped_answer memory eptp) places)
+      → (entries_reads (memory_behind changed eptp) places ≡ entries_reads (memory_behind memory eptp) places)
+      × Each ThereWord (entries_reads (memory_behind memory eptp) places)
   entries_there [] h = (refl, tt)
   entries_there (place ∷ places) h =
       let rest = entries_there places h.1 in
       (rw (h.0.0, rest.0) refl, each_joined ThereWord _ _ h.0.1 rest.1)
 
   page_no_gap : (access : Access) (answer : Result GuestPhys WalkStop)
-      → NoGap nested_gap (page_behind (mapped_answer memory eptp) access answer) → NoGap walk_gap answer
+      → NoGap nested_gap (page_behind (memory_behind memory eptp) access answer) → NoGap walk_gap answer
   page_no_gap access (Ok at) g = tt
   page_no_gap access (Err e) g = g
 
@@ -306,9 +306,9 @@ module _ (memory changed : Physical) (frames : frame_count changed ≡ frame_cou
 
   page_same : (access : Access) (answer : Result GuestPhys WalkStop)
       → Each HeldWord (where_ok answer (λ at. ept_walk_reads memory eptp at.0 access))
-      → NoGap nested_gap (page_behind (mapped_answer memory eptp) access answer)
-      → Same ThereWord (page_behind (mapped_answer memory eptp) access answer)
-      (page_behind (mapped_answer changed eptp) access answer)
+      → NoGap nested_gap (page_behind (memory_behind memory eptp) access answer)
+      → Same ThereWord (page_behind (memory_behind memory eptp) access answer)
+      (page_behind (memory_behind changed eptp) access answer)
       (where_ok answer (λ at. ept_walk_reads memory eptp at.0 access))
       (where_ok answer (λ at. ept_walk_reads changed eptp at.0 access))
   page_same access (Ok at) h g =
@@ -318,20 +318,20 @@ module _ (memory changed : Physical) (frames : frame_count changed ≡ frame_cou
 
   -- the nested walk depends on the words that it reads alone
   pub walk_same : (cr3 linear : ℕ) (access : Access)
-      → Each HeldWord (translation_reads (mapped_answer memory eptp) cr3 linear access)
-      → NoGap nested_gap (translation (mapped_answer memory eptp) cr3 linear access)
-      → Same ThereWord (translation (mapped_answer memory eptp) cr3 linear access)
-      (translation (mapped_answer changed eptp) cr3 linear access)
-      (translation_reads (mapped_answer memory eptp) cr3 linear access)
-      (translation_reads (mapped_answer changed eptp) cr3 linear access)
+      → Each HeldWord (translation_reads (memory_behind memory eptp) cr3 linear access)
+      → NoGap nested_gap (translation (memory_behind memory eptp) cr3 linear access)
+      → Same ThereWord (translation (memory_behind memory eptp) cr3 linear access)
+      (translation (memory_behind changed eptp) cr3 linear access)
+      (translation_reads (memory_behind memory eptp) cr3 linear access)
+      (translation_reads (memory_behind changed eptp) cr3 linear access)
   unfolding translation translation_reads
   walk_same cr3 linear access h g =
       let held = entries_held (walk_reads old cr3 linear access)
-      (each_left HeldWord (entries_reads (mapped_answer memory eptp) (walk_reads old cr3 linear access)) _ h) in
+      (each_left HeldWord (entries_reads (memory_behind memory eptp) (walk_reads old cr3 linear access)) _ h) in
       let first = guest_same cr3 linear access held (page_no_gap access (guest_walk old cr3 linear access) g) in
       let entries = entries_there (walk_reads old cr3 linear access) first.there in
       let last = page_same access (guest_walk old cr3 linear access)
-      (each_right HeldWord (entries_reads (mapped_answer memory eptp) (walk_reads old cr3 linear access)) _ h) g in
+      (each_right HeldWord (entries_reads (memory_behind memory eptp) (walk_reads old cr3 linear access)) _ h) g in
       record {
         answer = rw first.answer last.answer;
         reads = rw (first.answer, first.reads, entries.0, last.reads) refl;

@@ -12,7 +12,7 @@ use Rattle.sb_walks.specs.declared.stop.WalkStop.{WalkStop}
 use Rattle.sb_walks.specs.Entry.{frame_in, four_levels}
 use Rattle.sb_walks.specs.Ept.{ept_levels, ept_walk}
 use Rattle.sb_walks.specs.Guest.{is_canonical, walk_levels, guest_walk}
-use Rattle.sb_walks.specs.Nested.{Mapped, guest_entry, page_answer, page_behind, translation}
+use Rattle.sb_walks.specs.Nested.{MemoryBehindEpt, guest_entry, page_answer, page_behind, translation}
 use Rattle.sb_walks.proofs.SamePage.{address, guest_address, unwrapped, ept_walked-page, walked-page}
 
 -- a walk that leads somewhere passed its first test
@@ -69,7 +69,7 @@ narrow_on at k h e =
     let below : at < 2 ^ 48 = leb-false (2 ^ 48) at e in
     lt-leb (2 ^ 48) (at + k) (omega (arith, below, h))
 
-page_on : (memory : Mapped) (access : Access) (at k : ℕ) (place : PhysAddr) → at % 4096 + k < 4096
+page_on : (memory : MemoryBehindEpt) (access : Access) (at k : ℕ) (place : PhysAddr) → at % 4096 + k < 4096
     → page_answer (ept_walk memory.physical memory.eptp at access) ≡ Ok place
     → page_answer (ept_walk memory.physical memory.eptp (at + k) access) ≡ Ok (address (place.0 + k))
 page_on memory access at k place h e =
@@ -77,7 +77,7 @@ page_on memory access at k place h e =
     let narrow = (ept_offset memory.physical memory.eptp at access place led).0 in
     rw (ept_walked-page memory.physical memory.eptp at k access place h narrow (narrow_on at k h narrow) led) refl
 
-behind_on : (memory : Mapped) (access : Access) (at k : ℕ) (place : PhysAddr) (r s : Result GuestPhys WalkStop)
+behind_on : (memory : MemoryBehindEpt) (access : Access) (at k : ℕ) (place : PhysAddr) (r s : Result GuestPhys WalkStop)
     → ((page : GuestPhys) → r ≡ Ok page → (page.0 % 4096 + k < 4096) × (s ≡ Ok (guest_address (page.0 + k))))
     → page_behind memory access r ≡ Ok place → page_behind memory access s ≡ Ok (address (place.0 + k))
 behind_on memory access at k place (Ok page) s h e = rw ((h page refl).1) (page_on memory access page.0 k place (h page refl).0 e)
@@ -92,13 +92,13 @@ guest_on entries cr3 at k access page h e =
     (omega (arith, offset, h), walked-page entries cr3 at k access page h both.0 (canonical_on at k h both.0) e)
 
 -- an address in the page of another one leads as far from where the other leads
-pub translated-page : (memory : Mapped) (cr3 at k : ℕ) (access : Access) (place : PhysAddr) → at % 4096 + k < 4096
+pub translated-page : (memory : MemoryBehindEpt) (cr3 at k : ℕ) (access : Access) (place : PhysAddr) → at % 4096 + k < 4096
     → translation memory cr3 at access ≡ Ok place → translation memory cr3 (at + k) access ≡ Ok (address (place.0 + k))
 unfolding translation
 translated-page memory cr3 at k access place h e =
     behind_on memory access at k place _ _ (λ page led. guest_on (guest_entry memory) cr3 at k access page h led) e
 
-behind_offset : (memory : Mapped) (access : Access) (at : ℕ) (place : PhysAddr) (r : Result GuestPhys WalkStop)
+behind_offset : (memory : MemoryBehindEpt) (access : Access) (at : ℕ) (place : PhysAddr) (r : Result GuestPhys WalkStop)
     → ((page : GuestPhys) → r ≡ Ok page → page.0 % 4096 ≡ at % 4096)
     → page_behind memory access r ≡ Ok place → place.0 % 4096 ≡ at % 4096
 behind_offset memory access at place (Ok page) h e =
@@ -106,7 +106,7 @@ behind_offset memory access at place (Ok page) h e =
 behind_offset memory access at place (Err stop) h e = cc
 
 -- an address leads to a place that stands where it stands in its page
-pub place_offset : (memory : Mapped) (cr3 at : ℕ) (access : Access) (place : PhysAddr)
+pub place_offset : (memory : MemoryBehindEpt) (cr3 at : ℕ) (access : Access) (place : PhysAddr)
     → translation memory cr3 at access ≡ Ok place → place.0 % 4096 ≡ at % 4096
 unfolding translation
 place_offset memory cr3 at access place e =

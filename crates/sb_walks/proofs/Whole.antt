@@ -18,8 +18,8 @@ use Rattle.sb_walks.specs.declared.stop.WalkStop.TheVariants as walk
 use Rattle.sb_walks.specs.Entry.{entry_place, frame_in, four_levels, is_present, maps_large_page}
 use Rattle.sb_walks.specs.Ept.{ept_entry_answer, ept_levels, ept_permits, ept_step, ept_walk, is_large, is_misconfigured, phys_in}
 use Rattle.sb_walks.specs.Gaps.{NoGap, ept_gap, table_gap, walk_gap, nested_gap}
-use Rattle.sb_walks.specs.Guest.{address_in, guest_entry_answer, guest_read_answer, guest_walk, is_canonical, permits, walk_levels, walk_step}
-use Rattle.sb_walks.specs.Nested.{entry_answer, entry_behind, guest_entry, mapped_answer, page_answer, page_behind, translation}
+use Rattle.sb_walks.specs.Guest.{address_in, guest_entry_answer, guest_read_answer, guest_walk, is_canonical, guest_permits, walk_levels, walk_step}
+use Rattle.sb_walks.specs.Nested.{entry_answer, entry_behind, guest_entry, memory_behind, page_answer, page_behind, translation}
 use Rattle.sb_walks.proofs.SamePage.{unwrapped}
 use Rattle.sb_walks.proofs.Page.{passed_not}
 
@@ -152,7 +152,7 @@ module _ (memory : Physical) (all : HasAllFrames memory) where
 
     -- ---- the nested walk
 
-    entry_no_gap : (at : ℕ) → NoGap table_gap (guest_entry (mapped_answer memory eptp) at)
+    entry_no_gap : (at : ℕ) → NoGap table_gap (guest_entry (memory_behind memory eptp) at)
     unfolding guest_entry
     entry_no_gap at = behind_no_gap (ept_walk memory eptp at Read) (ept_whole at Read) (ept_inside at Read)
 
@@ -161,7 +161,7 @@ module _ (memory : Physical) (all : HasAllFrames memory) where
     guest_judged access level entry =
         stop_or walk_gap (not (is_present entry)) (walk.NotPresent level) _ refl
         (stop_or walk_gap (((level == 3) || (level == 2)) && maps_large_page entry) (walk.Large level) _ refl
-        (stop_or walk_gap (not (permits access entry)) (walk.Denied level) (Ok (frame_in entry)) refl tt))
+        (stop_or walk_gap (not (guest_permits access entry)) (walk.Denied level) (Ok (frame_in entry)) refl tt))
 
     read_judged : (access : Access) (level : ℕ) (answer : Result ℕ TableStop) → NoGap table_gap answer
         → NoGap walk_gap (guest_read_answer access level answer)
@@ -169,7 +169,7 @@ module _ (memory : Physical) (all : HasAllFrames memory) where
     read_judged access level (Err unread) none = none
 
     abbrev entries : ℕ → Result ℕ TableStop
-    entries = guest_entry (mapped_answer memory eptp)
+    entries = guest_entry (memory_behind memory eptp)
 
     guest_step : (linear : ℕ) (access : Access) (level frame : ℕ) → NoGap walk_gap (walk_step entries linear access level frame)
     unfolding walk_step
@@ -195,13 +195,13 @@ module _ (memory : Physical) (all : HasAllFrames memory) where
     answer_no_gap (Err stop) none = none
 
     page_no_gap : (access : Access) (answer : Result GuestPhys WalkStop) → NoGap walk_gap answer
-        → NoGap nested_gap (page_behind (mapped_answer memory eptp) access answer)
+        → NoGap nested_gap (page_behind (memory_behind memory eptp) access answer)
     page_no_gap access (Ok at) none = answer_no_gap (ept_walk memory eptp at.0 access) (ept_whole at.0 access)
     page_no_gap access (Err stop) none = none
 
     -- no missing frame
     pub nested_whole : (cr3 linear : ℕ) (access : Access)
-        → NoGap nested_gap (translation (mapped_answer memory eptp) cr3 linear access)
+        → NoGap nested_gap (translation (memory_behind memory eptp) cr3 linear access)
     unfolding translation
     nested_whole cr3 linear access =
         page_no_gap access (guest_walk entries cr3 linear access) (guest_whole cr3 linear access)
@@ -211,13 +211,13 @@ module _ (memory : Physical) (all : HasAllFrames memory) where
     answer_inside (Err stop) place e = cc
 
     page_inside : (access : Access) (answer : Result GuestPhys WalkStop) (place : PhysAddr)
-        → page_behind (mapped_answer memory eptp) access answer ≡ Ok place → frame_of place.0 < frame_count memory
+        → page_behind (memory_behind memory eptp) access answer ≡ Ok place → frame_of place.0 < frame_count memory
     page_inside access (Ok at) place e =
         ept_inside at.0 access place (answer_inside (ept_walk memory eptp at.0 access) place e)
     page_inside access (Err stop) place e = cc
 
     -- where it leads, the memory has a frame
     pub nested_inside : (cr3 linear : ℕ) (access : Access) (place : PhysAddr)
-        → translation (mapped_answer memory eptp) cr3 linear access ≡ Ok place → frame_of place.0 < frame_count memory
+        → translation (memory_behind memory eptp) cr3 linear access ≡ Ok place → frame_of place.0 < frame_count memory
     unfolding translation
     nested_inside cr3 linear access place e = page_inside access (guest_walk entries cr3 linear access) place e

@@ -14,7 +14,7 @@ use Rattle.sb_walks.specs.Entry.{entry_place, frame_in, four_levels}
 use Rattle.sb_memory.specs.Outcome.{and_then}
 use Rattle.sb_walks.specs.Ept.{ept_entry_answer, ept_entry, ept_step, ept_levels, ept_walk}
 use Rattle.sb_walks.specs.Guest.{is_canonical, guest_entry_answer, guest_read_answer, walk_step, walk_levels, guest_walk}
-use Rattle.sb_walks.specs.Nested.{Mapped, guest_entry, page_answer, page_behind, translation}
+use Rattle.sb_walks.specs.Nested.{MemoryBehindEpt, guest_entry, page_answer, page_behind, translation}
 
 pub ept_judged-read : (frames level entry next : ℕ) → ept_entry_answer frames Write level entry ≡ Ok next
     → ept_entry_answer frames Read level entry ≡ Ok next
@@ -91,17 +91,17 @@ answered : (r s : Result PhysAddr EptStop) (place : PhysAddr) → ((p : PhysAddr
 answered (Ok p) s place h e = rw (h p refl) e
 answered (Err stop) s place h e = cc
 
-page_behind-read : (memory : Mapped) (place : PhysAddr) (page : GuestPhys)
+page_behind-read : (memory : MemoryBehindEpt) (place : PhysAddr) (page : GuestPhys)
     → page_answer (ept_walk memory.physical memory.eptp page.0 Write) ≡ Ok place
     → page_answer (ept_walk memory.physical memory.eptp page.0 Read) ≡ Ok place
 page_behind-read memory place page e = answered _ _ place (ept_walked-read memory.physical memory.eptp page.0) e
 
-led : (memory : Mapped) (place : PhysAddr) (r s : Result GuestPhys WalkStop) → ((p : GuestPhys) → r ≡ Ok p → s ≡ Ok p)
+led : (memory : MemoryBehindEpt) (place : PhysAddr) (r s : Result GuestPhys WalkStop) → ((p : GuestPhys) → r ≡ Ok p → s ≡ Ok p)
     → page_behind memory Write r ≡ Ok place → page_behind memory Read s ≡ Ok place
 led memory place (Ok page) s h e = rw (h page refl) (page_behind-read memory place page e)
 led memory place (Err stop) s h e = cc
 
-pub translated-read : (memory : Mapped) (cr3 at : ℕ) (place : PhysAddr) → translation memory cr3 at Write ≡ Ok place
+pub translated-read : (memory : MemoryBehindEpt) (cr3 at : ℕ) (place : PhysAddr) → translation memory cr3 at Write ≡ Ok place
     → translation memory cr3 at Read ≡ Ok place
 unfolding translation
 translated-read memory cr3 at place e = led memory place _ _ (walked-read (guest_entry memory) cr3 at) e

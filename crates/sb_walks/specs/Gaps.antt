@@ -12,7 +12,12 @@ use Rattle.sb_walks.specs.declared.stop.NestedStop.TheVariants as nested
 -- a table of the EPT stands in a missing frame
 abbrev pub ept_gap : EptStop → Bool
 ept_gap (stop.Missing frame) = true
-ept_gap _ = false
+ept_gap stop.TooWide = false
+ept_gap (stop.NotPresent level) = false
+ept_gap (stop.Misconfigured level) = false
+ept_gap (stop.Large level) = false
+ept_gap (stop.Outside level) = false
+ept_gap (stop.Denied level) = false
 
 -- the entry of a table of the guest, or a table of the EPT on the way to it, stands in a missing frame
 abbrev pub table_gap : TableStop → Bool
@@ -22,7 +27,10 @@ table_gap (table.Ept e) = ept_gap e
 -- the guest's walk stops so
 abbrev pub walk_gap : WalkStop → Bool
 walk_gap (walk.Table unread) = table_gap unread
-walk_gap _ = false
+walk_gap walk.NonCanonical = false
+walk_gap (walk.NotPresent level) = false
+walk_gap (walk.Large level) = false
+walk_gap (walk.Denied level) = false
 
 -- the nested walk stops so
 abbrev pub nested_gap : NestedStop → Bool

@@ -13,17 +13,17 @@ use Rattle.sb_walks.specs.Entry.{is_present, is_writable, is_user, maps_large_pa
 use Rattle.sb_walks.specs.Reads.{where_ok}
 
 -- whether an entry permits an access in user mode
-abbrev pub permits : Access → ℕ → Bool
-permits Read entry = is_user entry
-permits Write entry = is_user entry && is_writable entry
-permits Fetch entry = is_user entry && not (is_execute_disabled entry)
+abbrev pub guest_permits : Access → ℕ → Bool
+guest_permits Read entry = is_user entry
+guest_permits Write entry = is_user entry && is_writable entry
+guest_permits Fetch entry = is_user entry && not (is_execute_disabled entry)
 
 -- what an entry leads to: the next frame, or the first refusal that applies
 unfoldable pub guest_entry_answer : Access → ℕ → ℕ → Result ℕ WalkStop
 guest_entry_answer access level entry =
     if not (is_present entry) then Err (stop.NotPresent level)
     else if ((level == 3) || (level == 2)) && maps_large_page entry then Err (stop.Large level)
-    else if not (permits access entry) then Err (stop.Denied level)
+    else if not (guest_permits access entry) then Err (stop.Denied level)
     else Ok (frame_in entry)
 
 -- the same of what was read at the entry's place

@@ -19,12 +19,12 @@ use Rattle.sb_walks.specs.Guest.{guest_walk, walk_reads}
 use Rattle.sb_walks.specs.Reads.{where_ok}
 
 -- physical memory behind an EPT pointer
-pub record Mapped : Type 0 where
+pub record MemoryBehindEpt : Type 0 where
   pub physical : Physical
   pub eptp : ℕ
 
-abbrev pub mapped_answer : Physical → ℕ → Mapped
-mapped_answer memory eptp = record { physical = memory; eptp = eptp }
+abbrev pub memory_behind : Physical → ℕ → MemoryBehindEpt
+memory_behind memory eptp = record { physical = memory; eptp = eptp }
 
 -- the answer of a read of an entry
 abbrev pub entry_answer : Result ℕ Missing → Result ℕ TableStop
@@ -37,17 +37,18 @@ entry_behind memory (Ok place) = entry_answer (word_read memory place.0)
 entry_behind memory (Err stop) = Err (table.Ept stop)
 
 -- the entry at a guest-physical place
-unfoldable pub guest_entry : Mapped → ℕ → Result ℕ TableStop
+unfoldable pub guest_entry : MemoryBehindEpt → ℕ → Result ℕ TableStop
 guest_entry memory at = entry_behind memory.physical (ept_walk memory.physical memory.eptp at Read)
 
 -- the words that are read for it
-unfoldable pub guest_entry_reads : Mapped → ℕ → List ℕ
+unfoldable pub guest_entry_reads : MemoryBehindEpt → ℕ → List ℕ
 guest_entry_reads memory at =
     ept_walk_reads memory.physical memory.eptp at Read
     ++ where_ok (ept_walk memory.physical memory.eptp at Read) (λ place. place.0 ∷ [])
 
 -- the account after the entry at a guest-physical place is read
-unfoldable pub entry_rule : {Account : Type 0} → (PhysCall → Physical → Account → Account) → Mapped → ℕ → Account → Account
+unfoldable pub entry_rule : {Account : Type 0} → (PhysCall → Physical → Account → Account) → MemoryBehindEpt → ℕ → Account
+    → Account
 entry_rule rule memory at account = account_after_words rule memory.physical (guest_entry_reads memory at) account
 
 -- the last address goes through for the access
@@ -55,21 +56,21 @@ abbrev pub page_answer : Result PhysAddr EptStop → Result PhysAddr NestedStop
 page_answer (Ok place) = Ok place
 page_answer (Err stop) = Err (nested.Page stop)
 
-abbrev pub page_behind : Mapped → Access → Result GuestPhys WalkStop → Result PhysAddr NestedStop
+abbrev pub page_behind : MemoryBehindEpt → Access → Result GuestPhys WalkStop → Result PhysAddr NestedStop
 page_behind memory access (Ok at) = page_answer (ept_walk memory.physical memory.eptp at.0 access)
 page_behind memory access (Err stop) = Err (nested.Walk stop)
 
 -- the nested walk
-unfoldable pub translation : Mapped → ℕ → ℕ → Access → Result PhysAddr NestedStop
+unfoldable pub translation : MemoryBehindEpt → ℕ → ℕ → Access → Result PhysAddr NestedStop
 translation memory cr3 linear access = page_behind memory access (guest_walk (guest_entry memory) cr3 linear access)
 
 -- the words that are read for the entries at these places
-abbrev pub entries_reads : Mapped → List ℕ → List ℕ
+abbrev pub entries_reads : MemoryBehindEpt → List ℕ → List ℕ
 entries_reads memory [] = []
 entries_reads memory (place ∷ places) = guest_entry_reads memory place ++ entries_reads memory places
 
 -- the words that the nested walk reads
-unfoldable pub translation_reads : Mapped → ℕ → ℕ → Access → List ℕ
+unfoldable pub translation_reads : MemoryBehindEpt → ℕ → ℕ → Access → List ℕ
 translation_reads memory cr3 linear access =
     entries_reads memory (walk_reads (guest_entry memory) cr3 linear access)
     ++ where_ok (guest_walk (guest_entry memory) cr3 linear access) (λ at. ept_walk_reads memory.physical memory.eptp at.0 access)

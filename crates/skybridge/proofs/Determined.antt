@@ -7,21 +7,21 @@ use Rattle.sb_load.proofs.OneAnswer.{same_load}
 use Rattle.sb_trace.specs.declared.end.EndState.{EndState}
 use Rattle.sb_trace.specs.declared.event.Line.{Line}
 use Rattle.sb_trace.specs.Report.{report_text}
-use Rattle.sb_trace.specs.Runs.{IsTextOfRun as RunText}
+use Rattle.sb_trace.specs.Runs.{IsTextOfRun}
 use Rattle.sb_trace.proofs.Texts.{one_text}
 use Rattle.skybridge.specs.declared.words.BundleCommand.{BundleCommand}
 use Rattle.skybridge.specs.declared.words.BundleCommand.TheVariants.{Replay, Plain, Check, Rewrite}
 use Rattle.skybridge.specs.CommandText.{check_text, rewrite_text, IsCommandText}
-use Rattle.skybridge.specs.Runs.{IsTextOfRun}
+use Rattle.skybridge.specs.Runs.{IsTextOfBundleRun}
 use Rattle.skybridge.specs.Generator.{generated}
 use Rattle.skybridge.specs.Summary.{summary_text, IsSummary}
 use Rattle.skybridge.specs.Output.{IsOutput}
 
 one_run_text : (text_of : List Line → EndState → List ℕ) (bundle : Bundle) (text other : List ℕ)
-    → IsTextOfRun text_of bundle text → IsTextOfRun text_of bundle other → text ≡ other
+    → IsTextOfBundleRun text_of bundle text → IsTextOfBundleRun text_of bundle other → text ≡ other
 one_run_text text_of bundle text other (load, loads, is) (load', loads', is') =
     one_text text_of (first_state load') load'.bundle.schedule text other
-    (subst (λ (one : Load). RunText text_of (first_state one) one.bundle.schedule text)
+    (subst (λ (one : Load). IsTextOfRun text_of (first_state one) one.bundle.schedule text)
     (same_load bundle load load' loads loads') is) is'
 
 one_listing : (list : Load → List ℕ) (bundle : Bundle) (text other : List ℕ) → IsCommandText list bundle text

@@ -11,7 +11,7 @@ use Rattle.sb_forms.specs.Table.{is_vmfunc, is_add_esp_edx, replacement, form_of
 use Rattle.sb_forms.proofs.Quiet.{IsQuiet, AreQuiet, in_place_clean}
 use Rattle.sb_rewrite.specs.Listing.{text_address, spelled_bytes, AllValid}
 use Rattle.sb_rewrite.specs.Placing.{Placement, places_from, area_address, is_after_0f}
-use Rattle.sb_rewrite.specs.Output.{output, text_bytes, area_bytes}
+use Rattle.sb_rewrite.specs.RewrittenText.{rewritten_text, text_bytes, area_bytes}
 use Rattle.sb_rewrite.specs.Rewriting.{NoneOf, IsUnmovable, EndsBehindArea, LeadsWell, Rewrites}
 
 -- The instruction is neither VMFUNC nor the end of its bytes, and they cannot begin before it and end in it.
@@ -86,7 +86,7 @@ none_in insns plain = subst HasNoPattern (append-nil (spelled_bytes insns)) (in_
 -- plain instructions whose jumps lead well are rewritten to themselves
 pub rewrites_kept : (text : List ℕ) (insns : List Insn) → text ≡ spelled_bytes insns → AllValid insns → AllPlain insns
     → LeadsWell (kept insns)
-    → Rewrites text (Ok (output (kept insns)))
+    → Rewrites text (Ok (rewritten_text (kept insns)))
 rewrites_kept text insns whole valid plain leads = (
   kept insns,
   record { insns = insns; valid = valid; whole = whole; places_are = sym (all_stay text text_address insns plain) },

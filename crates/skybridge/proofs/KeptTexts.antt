@@ -7,7 +7,7 @@ use Rattle.sb_insn.specs.Lookup.{instruction_of}
 use Rattle.sb_forms.specs.Holding.{holds_pattern}
 use Rattle.sb_forms.proofs.QuietPieces.{small_holds}
 use Rattle.sb_rewrite.specs.Target.{direct_target}
-use Rattle.sb_rewrite.specs.Output.{Output, output, starts_of}
+use Rattle.sb_rewrite.specs.RewrittenText.{RewrittenText, rewritten_text, starts_of}
 use Rattle.sb_rewrite.specs.Rewriting.{LeadsWell, Rewrites}
 use Rattle.skybridge.specs.Generator.{server_text, client_text}
 use Rattle.skybridge.proofs.TextInsns.{server_insns, client_insns, server_spelled, client_spelled, server_valid, client_valid}
@@ -39,11 +39,11 @@ client_leads server calls = none_bad (starts_of (kept (client_insns server calls
 
 -- ---- what the texts become
 
-abbrev pub server_made : Output
-server_made = output (kept server_insns)
+abbrev pub server_made : RewrittenText
+server_made = rewritten_text (kept server_insns)
 
-abbrev pub client_made : ℕ → ℕ → Output
-client_made server calls = output (kept (client_insns server calls))
+abbrev pub client_made : ℕ → ℕ → RewrittenText
+client_made server calls = rewritten_text (kept (client_insns server calls))
 
 pub server_rewrites : Rewrites server_text (Ok server_made)
 server_rewrites = rewrites_kept server_text server_insns server_spelled server_valid server_plain server_leads

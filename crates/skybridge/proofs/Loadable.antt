@@ -6,7 +6,7 @@ use Rattle.sb_bundle.specs.declared.bundle.Image.{Image}
 use Rattle.sb_bundle.specs.Spelling.{number_bytes}
 use Rattle.sb_bundle.specs.Limits.{IsBundle}
 use Rattle.sb_rewrite.specs.Listing.{text_address}
-use Rattle.sb_rewrite.specs.Output.{Output}
+use Rattle.sb_rewrite.specs.RewrittenText.{RewrittenText}
 use Rattle.sb_load.specs.Loading.{AreRewritten, HasEntry, Load, Loads}
 use Rattle.sb_load.specs.Need.{process_need, area_need}
 use Rattle.sb_load.specs.declared.refusal.LoadRefusal.{LoadRefusal}
@@ -17,16 +17,16 @@ use Rattle.skybridge.proofs.Apart.{Answer, not_loaded}
 use Rattle.skybridge.proofs.KeptTexts.{server_made, client_made, server_rewrites, client_rewrites}
 
 -- what the texts of clients become, and of all processes
-abbrev pub client_of : ℕ → ℕ → Output
+abbrev pub client_of : ℕ → ℕ → RewrittenText
 client_of state client = client_made (server_of state client) (calls_of state client)
 
-abbrev pub made_from : ℕ → List Output
+abbrev pub made_from : ℕ → List RewrittenText
 made_from state = replicate 3 server_made ++ map (client_of state) (range_with_len 0 5)
 
 -- ---- texts
 
 -- servers, and others behind them
-servers_rewritten : (count : ℕ) (images : List Image) (made : List Output) → AreRewritten images made
+servers_rewritten : (count : ℕ) (images : List Image) (made : List RewrittenText) → AreRewritten images made
     → AreRewritten (replicate count server_image ++ images) (replicate count server_made ++ made)
 servers_rewritten zero images made others = others
 servers_rewritten (suc count) images made others = (server_rewrites, servers_rewritten count images made others)

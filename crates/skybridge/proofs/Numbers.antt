@@ -1,31 +1,28 @@
 -- A number of a command is written in decimal digits, without sign or leading zero.
-use Rattle.std.proofs.Common.{◌≡◌, ℕ, zero, suc, ◌<◌, ◌^◌, Bool, true, false, not, ◌==◌, List, [], ◌∷◌, length, drop, cond, get_or, Err, rules, refl, ap, sym, ◌∙◌, subst, arith}
+use Rattle.std.proofs.Common.{◌≡◌, ℕ, zero, suc, ◌<◌, ◌^◌, Bool, true, not, ◌==◌, List, [], ◌∷◌, length, drop, cond, get_or, Err, rules, refl, ap, sym, ◌∙◌, subst, arith}
 use Rattle.std.specs.Fmt.{decimal}
 use Rattle.std.specs.Str.Parse.{AllDigits, IsNumeral, digits_value, without_leading_plus, ParsesUnsigned}
 use Rattle.std.proofs.lemmas.Str.Parse.{IsNumeralModel}
-use Rattle.std.proofs.lemmas.Bool.{and_parts}
+use Rattle.std.proofs.lemmas.Bool.{and_parts, not-true}
 use Rattle.std.proofs.lemmas.Fmt.{parse-decimal, decimal_digit, first_decimal, digits_decimal, decimal-digits_value}
 use Rattle.skybridge.specs.Words.{is_plain}
 
 own : IsNumeralModel (AllDigits 10) (digits_value 10)
 own = record { to = λ ds all. all; from = λ ds all. all; same = λ ds all. refl }
 
-not_true : (b : Bool) → not b ≡ true → b ≡ false
-not_true b false_is = search (rules, false_is)
-
 -- ---- what is plain is read as it stands
 
 no_plus : (bs : List ℕ) → is_plain bs ≡ true → without_leading_plus bs ≡ bs
 no_plus [] plain = refl
-no_plus (digit ∷ []) plain = ap (λ (plus : Bool). drop (cond plus 1 0) (digit ∷ [])) (not_true (digit == 43) plain)
+no_plus (digit ∷ []) plain = ap (λ (plus : Bool). drop (cond plus 1 0) (digit ∷ [])) (not-true (digit == 43) plain)
 no_plus (digit ∷ next ∷ digits) plain =
-    ap (λ (plus : Bool). drop (cond plus 1 0) (digit ∷ next ∷ digits)) (not_true (digit == 43) (and_parts _ _ plain).0)
+    ap (λ (plus : Bool). drop (cond plus 1 0) (digit ∷ next ∷ digits)) (not-true (digit == 43) (and_parts _ _ plain).0)
 
 no_zero : (bs : List ℕ) → is_plain bs ≡ true → 0 < length bs → get_or bs 0 0 ≡ 48 → length bs ≡ 1
 no_zero [] plain some leading = absurd (omega arith)
 no_zero (digit ∷ []) plain some leading = refl
 no_zero (digit ∷ next ∷ digits) plain some leading =
-    absurd (search (rules, not_true (digit == 48) (and_parts (not (digit == 43)) (not (digit == 48)) plain).1, leading))
+    absurd (search (rules, not-true (digit == 48) (and_parts (not (digit == 43)) (not (digit == 48)) plain).1, leading))
 
 -- a plain text that is a number is what the number's digits are
 pub plain_number : (bs : List ℕ) (number : ℕ)

@@ -4,8 +4,8 @@ use Rattle.std.specs.Prelude.{OnOk, OnErr, IfOk, IfErr, MatchResult, string_byte
 use Rattle.std.proofs.Math.Seq.{take-length}
 use Rattle.sb_port.specs.Port.{Rose, Appended}
 use Rattle.sb_port.specs.declared.transfer.WriteFault.{WriteFault}
-use Rattle.skybridge.specs.declared.top.Status.{Status}
-use Rattle.skybridge.specs.declared.top.Status.TheVariants.{LoadRefused, NoMemory}
+use Rattle.skybridge.specs.declared.bridge.Status.{Status}
+use Rattle.skybridge.specs.declared.bridge.Status.TheVariants.{LoadRefused, NoMemory}
 use Rattle.skybridge.specs.Output.{PartlyAppended, WritesLine}
 
 prefix_appended : (held held' : Option (List ℕ)) (text : List ℕ) (count : ℕ) → Appended held held' (take count text)

@@ -6,10 +6,10 @@ use Rattle.sb_bundle.specs.declared.bundle.Image.{Image}
 use Rattle.sb_rewrite.specs.declared.edit.Edit.{Edit}
 use Rattle.sb_rewrite.specs.Listing.{text_address}
 use Rattle.sb_rewrite.specs.Placing.{area_address}
-use Rattle.sb_rewrite.specs.Output.{Output}
+use Rattle.sb_rewrite.specs.RewrittenText.{RewrittenText}
 use Rattle.sb_load.specs.Loading.{Load, Loads, rewritten_of}
 use Rattle.sb_load.specs.Need.{need_of, have_of}
-use Rattle.sb_load.specs.RefusalText.{hex}
+use Rattle.sb_state.specs.EndText.{hex}
 
 -- ---- check: the frames that the bundle takes, and those that it has
 
@@ -37,7 +37,7 @@ slot_text area (Some slot) =
     codes "slot " ++ (hex slot.0 ++ (codes " " ++ (bytes_text (bytes_at area area_address slot.0 slot.1) ++ codes "\n")))
 
 -- the old and the new bytes of an instruction, and its slot where it was moved
-unfoldable pub edit_text : List ℕ → Output → Edit → List ℕ
+unfoldable pub edit_text : List ℕ → RewrittenText → Edit → List ℕ
 edit_text text made edit =
     (codes "edit " ++ (hex edit.at ++ (codes " " ++ (bytes_text (bytes_at text text_address edit.at edit.old_len)
     ++ (codes " " ++ (bytes_text (bytes_at made.text text_address edit.at edit.old_len) ++ codes "\n"))))))
@@ -46,11 +46,11 @@ edit_text text made edit =
 abbrev pub process_line : ℕ → List ℕ
 process_line number = codes "process " ++ (decimal number ++ codes "\n")
 
-unfoldable pub process_text : ℕ → Image → Output → List ℕ
+unfoldable pub process_text : ℕ → Image → RewrittenText → List ℕ
 process_text number image made = process_line number ++ flat_map (edit_text image.text made) made.edits
 
 -- processes in order, of which the first has this number
-abbrev pub processes_text : List Output → ℕ → List Image → List ℕ
+abbrev pub processes_text : List RewrittenText → ℕ → List Image → List ℕ
 processes_text rewritten number [] = []
 processes_text rewritten number (image ∷ images) =
     process_text number image (rewritten_of rewritten number) ++ processes_text rewritten (number + 1) images

@@ -6,9 +6,9 @@ use Rattle.sb_load.specs.FirstState.{first_state}
 use Rattle.sb_port.specs.Port.{Appended}
 use Rattle.sb_trace.specs.Laws.{IsTextOfLawfulRun, IsReportOfLawfulRun}
 use Rattle.skybridge.specs.declared.words.Command.{Command}
-use Rattle.skybridge.specs.declared.words.Command.TheVariants.{OfBundle, Generate}
+use Rattle.skybridge.specs.declared.words.Command.TheVariants.{OfBundle, Generate, GenerateBundle, Help}
 use Rattle.skybridge.specs.declared.words.BundleCommand.{BundleCommand}
-use Rattle.skybridge.specs.declared.words.BundleCommand.TheVariants.{Replay, Plain}
+use Rattle.skybridge.specs.declared.words.BundleCommand.TheVariants.{Replay, Plain, Check, Rewrite}
 use Rattle.skybridge.specs.Words.{AreWordsOf}
 use Rattle.skybridge.specs.Generator.{generated}
 use Rattle.skybridge.specs.Summary.{summary_text}
@@ -26,7 +26,8 @@ IsLawfulReport bundle text =
 unfoldable pub IsLawfulOutput : BundleCommand → Bundle → List ℕ → Type 0
 IsLawfulOutput Replay bundle text = IsLawfulReport bundle text
 IsLawfulOutput Plain bundle text = IsLawfulReport bundle text
-IsLawfulOutput command bundle text = IsOutput command bundle text
+IsLawfulOutput Check bundle text = IsOutput Check bundle text
+IsLawfulOutput Rewrite bundle text = IsOutput Rewrite bundle text
 
 -- the summary of a run of the generated bundle of which the laws hold
 abbrev pub IsLawfulSummary : ℕ → List ℕ → Type 0
@@ -37,7 +38,9 @@ IsLawfulSummary number text =
 -- what the other commands write, where the laws hold of the run that a summary is of
 abbrev pub IsLawfullyMade : Command → List ℕ → Type 0
 IsLawfullyMade (Generate number) text = IsLawfulSummary number text
-IsLawfullyMade command text = IsMade command text
+IsLawfullyMade (GenerateBundle number) text = IsMade (GenerateBundle number) text
+IsLawfullyMade (OfBundle command) text = IsMade (OfBundle command) text
+IsLawfullyMade Help text = IsMade Help text
 
 -- an accepted bundle was read, if the command reads one, and the command's text was appended
 abbrev pub WroteLawfullyOf : Command → Option (List ℕ) → Option (List ℕ) → Option (List ℕ) → Option (List ℕ) → Type 0

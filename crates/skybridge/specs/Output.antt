@@ -11,7 +11,7 @@ use Rattle.skybridge.specs.declared.words.Command.TheVariants.{OfBundle, Generat
 use Rattle.skybridge.specs.declared.words.BundleCommand.{BundleCommand}
 use Rattle.skybridge.specs.declared.words.BundleCommand.TheVariants.{Replay, Plain, Check, Rewrite}
 use Rattle.skybridge.specs.Words.{AreWordsOf}
-use Rattle.skybridge.specs.Runs.{IsTextOfRun}
+use Rattle.skybridge.specs.Runs.{IsTextOfBundleRun}
 use Rattle.skybridge.specs.Generator.{generated}
 use Rattle.skybridge.specs.Summary.{IsSummary}
 use Rattle.skybridge.specs.CommandText.{check_text, rewrite_text, IsCommandText}
@@ -20,7 +20,7 @@ use Rattle.skybridge.specs.Input.{IsAccepted, IsNoBundle, IsNotLoadable}
 
 -- The text is the report of the plain machine's run on the bundle's schedule.
 abbrev pub IsReport : Bundle → List ℕ → Type 0
-IsReport bundle text = IsTextOfRun report_text bundle text
+IsReport bundle text = IsTextOfBundleRun report_text bundle text
 
 -- ---- bytes that may be told
 

@@ -9,7 +9,7 @@ use Rattle.sb_trace.specs.declared.event.Line.{Line}
 use Rattle.skybridge.specs.declared.summary.LineKind.{LineKind}
 use Rattle.skybridge.specs.declared.summary.LineKind.TheVariants as kind
 use Rattle.skybridge.specs.Generator.{generated}
-use Rattle.skybridge.specs.Runs.{IsTextOfRun}
+use Rattle.skybridge.specs.Runs.{IsTextOfBundleRun}
 
 -- What a line counts as. Instructions that the rewriter added, and those that strayed, count as steps.
 abbrev pub counts_as : LineKind → Event → Bool
@@ -77,4 +77,4 @@ summary_text number lines end =
 
 -- The text is the summary of the plain machine's run of the generated bundle.
 abbrev pub IsSummary : ℕ → List ℕ → Type 0
-IsSummary number text = IsTextOfRun (summary_text number) (generated number) text
+IsSummary number text = IsTextOfBundleRun (summary_text number) (generated number) text

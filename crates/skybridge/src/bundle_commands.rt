@@ -4,7 +4,7 @@ ghost use Rattle.std.specs.Prelude.{IfOk, string_bytes};
 ghost use Rattle.sb_trace.specs.Run.{RunBy};
 ghost use Rattle.sb_trace.specs.Step.{Steps};
 ghost use Rattle.sb_load.specs.Loading.{IsLoadable};
-ghost use Rattle.skybridge.specs.Runs.{RunsTo};
+ghost use Rattle.skybridge.specs.Runs.{LoadRunsTo};
 ghost use Rattle.skybridge.specs.Output.{IsReport, IsOutput};
 ghost use Rattle.skybridge.specs.Answer.{Reports, ReportsBundle};
 ghost use Rattle.sb_bundle.specs.Limits.{IsBundle};
@@ -32,7 +32,7 @@ pub enum Refusal {
     Memory,
 }
 
-// A step for each entry of the schedule.
+/// A step for each entry of the schedule.
 fn run(alloc: Global, plain: &mut Plain, schedule: &[u8]) -> Result<Lines, AllocError>
     ensures { IfOk result (λ lines. RunBy Steps plain.old schedule.now lines plain.new) }
 {
@@ -46,7 +46,7 @@ fn run(alloc: Global, plain: &mut Plain, schedule: &[u8]) -> Result<Lines, Alloc
 /// The lines of the plain machine's run on the bundle's schedule, and its last state.
 pub fn whole_run(alloc: Global, loaded: &Loaded) -> Result<(Lines, EndState), AllocError>
     requires { IsLoadable loaded.now }
-    ensures { IfOk result (λ run. RunsTo loaded.now run.0 run.1) }
+    ensures { IfOk result (λ run. LoadRunsTo loaded.now run.0 run.1) }
 {
     let mut plain = Plain::new(alloc, loaded)?;
     let lines = run(alloc, &mut plain, loaded.bundle().schedule.items())?;
@@ -54,7 +54,7 @@ pub fn whole_run(alloc: Global, loaded: &Loaded) -> Result<(Lines, EndState), Al
     Ok((lines, end))
 }
 
-// The report of the plain machine's run on the bundle's schedule.
+/// The report of the plain machine's run on the bundle's schedule.
 fn report(alloc: Global, loaded: &Loaded) -> Result<String, AllocError>
     requires { IsLoadable loaded.now }
     ensures { IfOk result (λ text. IsReport loaded.now.bundle (string_bytes text)) }
@@ -63,7 +63,7 @@ fn report(alloc: Global, loaded: &Loaded) -> Result<String, AllocError>
     report_text(alloc, &lines, &end)
 }
 
-// What the command writes of the loaded bundle.
+/// What the command writes of the loaded bundle.
 fn output(alloc: Global, command: BundleCommand, loaded: &Loaded) -> Result<String, AllocError>
     requires { IsLoadable loaded.now }
     ensures { IfOk result (λ text. IsOutput command loaded.now.bundle (string_bytes text)) }

@@ -19,7 +19,7 @@ pub fn check_text(alloc: Global, loaded: &Loaded) -> Result<String, AllocError>
     format!(in alloc; "ok {need} {have}\n")
 }
 
-// So many bytes from an address on, as far as they go.
+/// So many bytes from an address on, as far as they go.
 fn bytes_at(bytes: &[u8], first: u64, at: u64, count: u8) -> &[u8]
     ensures { result.now ≡ bytes_at bytes.now first at count }
 {
@@ -38,7 +38,7 @@ fn prefix(bytes: &[u8], count: usize) -> &[u8]
     &bytes[..count.min(bytes.len())]
 }
 
-// Each byte as two hexadecimal digits.
+/// Each byte as two hexadecimal digits.
 fn push_bytes(out: &mut String, bytes: &[u8]) -> Result<(), AllocError>
     ensures { OnOk result (string_bytes out.new ≡ string_bytes out.old ++ bytes_text bytes.now) }
 {
@@ -101,7 +101,8 @@ fn push_process(
 }
 
 fn push_processes(out: &mut String, loaded: &Loaded) -> Result<(), AllocError>
-    ensures { OnOk result (string_bytes out.new ≡ string_bytes out.old ++ processes_text loaded.now.rewritten 0 loaded.now.bundle.images) }
+    ensures { OnOk result (string_bytes out.new
+        ≡ string_bytes out.old ++ processes_text loaded.now.rewritten 0 loaded.now.bundle.images) }
 {
     for (number, image) in loaded.bundle().images.items().iter().enumerate() {
         push_process(out, number, image, loaded.rewritten(number as u32))?;

@@ -3,7 +3,7 @@
 //! `bridge` is the top call: it takes the words of the command line, a source and a sink, and its contract says what is
 //! written and when each status comes. `main` hands it the standard streams.
 //!
-//! The way through: `words` (which command), `top` (reading, writing and statuses), `bundle_commands` (from the bytes of an
+//! The way through: `words` (which command), `bridge` (reading, writing and statuses), `bundle_commands` (from the bytes of an
 //! input to what the command writes), `command_text` (the text of `check` and `rewrite`), `refusal_lines` (the lines of the
 //! refusals). For commands that read nothing: `generator` (the generated bundle), `generated` (what is written of it),
 //! `summary` (the text of `gen`), `help` (that of `--help`). What they call: `sb_bundle` reads and writes bundles, `sb_load`
@@ -15,6 +15,7 @@
 //! ```
 #![tactic(auto)]
 
+mod bridge;
 mod bundle_commands;
 mod command_text;
 mod generated;
@@ -24,9 +25,9 @@ mod refusal_lines;
 mod summary;
 #[cfg(test)]
 mod tests;
-mod top;
 mod words;
 
+pub use bridge::{Status, bridge, one_output};
 pub use bundle_commands::{Refusal, output_of};
 pub use generator::{gen_bundle, generated_is_loadable};
 use sb_port::{ReadSource, WriteSink};
@@ -35,7 +36,6 @@ use std::io::ErrorKind;
 use std::process::ExitCode;
 use std::rt::Env;
 use std::{env, io};
-pub use top::{Status, bridge, one_output};
 
 /// The words of the command line, without the program's name.
 fn command_words(alloc: Global, rt: &(impl Env + AllocGlobal)) -> io::Result<Vec<String>> {

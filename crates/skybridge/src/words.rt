@@ -37,7 +37,7 @@ fn is_text(word: &String, text: &str) -> bool
     word.as_str() == text
 }
 
-// The command on a bundle that the word is, if it is one.
+/// The command on a bundle that the word is, if it is one.
 fn bundle_command(word: &String) -> Option<BundleCommand>
     ensures some { IfSome result (λ command. string_bytes word.now ≡ word_of command) }
     ensures none { IfNone result ((command : BundleCommand) → ¬ (string_bytes word.now ≡ word_of command)) }
@@ -57,7 +57,7 @@ fn bundle_command(word: &String) -> Option<BundleCommand>
     None
 }
 
-// Whether neither a plus sign nor a leading zero stands in front.
+/// Whether neither a plus sign nor a leading zero stands in front.
 fn is_plain(digits: &[u8]) -> bool
     ensures { result ≡ is_plain digits.now }
 {
@@ -67,7 +67,7 @@ fn is_plain(digits: &[u8]) -> bool
     }
 }
 
-// The number that the word is in decimal digits, without sign or leading zero.
+/// The number that the word is in decimal digits, without sign or leading zero.
 fn number_of(word: &String) -> Option<u64>
     ensures some { IfSome result (λ number. string_bytes word.now ≡ decimal number) }
     ensures none { IfNone result ((number : ℕ) → number < 2 ^ 64 → ¬ (string_bytes word.now ≡ decimal number)) }
@@ -78,7 +78,7 @@ fn number_of(word: &String) -> Option<u64>
     }
 }
 
-// The command of one word.
+/// The command of one word.
 fn by_one(word: &String) -> Option<Command>
     ensures some { IfSome result (λ command. AreWordsOf command (string_bytes word.now ∷ [])) }
     ensures none { IfNone result (¬ IsCommand (string_bytes word.now ∷ [])) }

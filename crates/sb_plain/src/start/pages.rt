@@ -1,6 +1,7 @@
 //! The pages at the start.
 
 ghost use Rattle.std.specs.Prelude.{◌≡◌, ◌^◌, ◌<◌, ◌++◌, ◌∷◌, [], IfOk, OnOk, length, map};
+ghost use Rattle.sb_memory.specs.declared.page.TheConstants.{PAGE_SIZE};
 ghost use Rattle.sb_state.specs.State.{page_with};
 ghost use Rattle.sb_state.specs.PageWords.{zeros};
 ghost use Rattle.sb_state.specs.Start.{padded_pages, heap_pages, process_pages, thread_pages, trampoline_pages, images_pages, threads_pages};
@@ -11,28 +12,28 @@ use sb_load::Loaded;
 use sb_memory::page_count;
 use sb_rewrite::Rewritten;
 use sb_state::{
-    Page, PageBytes, PageName, Pages, home_record, home_trampoline, page_bytes, server_trampoline,
+    Page, PageBytes, PageName, Pages, home_record, home_trampoline, page_of, server_trampoline,
     zero_bytes,
 };
 use std::alloc::{AllocError, Global};
 
 /// A part of a process that has bytes at the start.
 #[derive(Clone, Copy)]
-enum Part {
+enum ImagePart {
     Text,
     Area,
     Data,
 }
 
-impl Part {
+impl ImagePart {
     /// The name of one of its pages.
     fn page(self, process: u32, page: u32) -> PageName
         ensures { result ≡ part_name self process page }
     {
         match self {
-            Part::Text => PageName::Text(process, page),
-            Part::Area => PageName::Area(process, page),
-            Part::Data => PageName::Data(process, page),
+            ImagePart::Text => PageName::Text(process, page),
+            ImagePart::Area => PageName::Area(process, page),
+            ImagePart::Data => PageName::Data(process, page),
         }
     }
 
@@ -41,14 +42,14 @@ impl Part {
         ensures { result ≡ part_filler self }
     {
         match self {
-            Part::Text | Part::Area => 0xCC,
-            Part::Data => 0,
+            ImagePart::Text | ImagePart::Area => 0xCC,
+            ImagePart::Data => 0,
         }
     }
 }
 
 fn push_named(pages: &mut Pages, name: PageName, bytes: PageBytes) -> Result<(), AllocError>
-    requires { length bytes ≡ 4096 }
+    requires { length bytes ≡ PAGE_SIZE }
     ensures { OnOk result (pages.new.pages ≡ pages.old.pages ++ page_with name bytes ∷ []) }
 {
     pages.push(Page {
@@ -68,15 +69,16 @@ fn push_zeros(alloc: Global, pages: &mut Pages, name: PageName) -> Result<(), Al
 fn push_part(
     alloc: Global,
     pages: &mut Pages,
-    part: Part,
+    part: ImagePart,
     process: u32,
     contents: &[u8],
 ) -> Result<(), AllocError>
     requires { length contents.now < 2 ^ 32 }
-    ensures { OnOk result (pages.new.pages ≡ pages.old.pages ++ padded_pages (part_name part process) (part_filler part) contents.now) }
+    ensures { OnOk result (pages.new.pages
+        ≡ pages.old.pages ++ padded_pages (part_name part process) (part_filler part) contents.now) }
 {
     for page in 0..page_count(contents.len()) {
-        let bytes = page_bytes(alloc, part.filler(), contents, page)?;
+        let bytes = page_of(alloc, part.filler(), contents, page)?;
         push_named(pages, part.page(process, page as u32), bytes)?;
     }
     Ok(())
@@ -105,9 +107,15 @@ fn push_process(
     requires initial { length image.now.initial < 2 ^ 32 }
     ensures { OnOk result (pages.new.pages ≡ pages.old.pages ++ process_pages process (image_of image.now made.now)) }
 {
-    push_part(alloc, pages, Part::Text, process, made.text())?;
-    push_part(alloc, pages, Part::Area, process, made.area())?;
-    push_part(alloc, pages, Part::Data, process, image.initial.items())?;
+    push_part(alloc, pages, ImagePart::Text, process, made.text())?;
+    push_part(alloc, pages, ImagePart::Area, process, made.area())?;
+    push_part(
+        alloc,
+        pages,
+        ImagePart::Data,
+        process,
+        image.initial.items(),
+    )?;
     push_heap(alloc, pages, process, image.heap_pages)?;
     push_zeros(alloc, pages, PageName::Pool(process))
 }
@@ -161,7 +169,9 @@ fn push_threads(alloc: Global, pages: &mut Pages, cores: &[CoreStart]) -> Result
 
 /// The pages at the start: those of each process, those of each thread, and the trampoline.
 pub fn start_pages(alloc: Global, loaded: &Loaded) -> Result<Pages, AllocError>
-    ensures { IfOk result (λ pages. pages.pages ≡ images_pages 0 (images_loaded loaded.now) ++ (threads_pages 0 (map entry_of loaded.now.bundle.cores) ++ trampoline_pages)) }
+    ensures { IfOk result (λ pages. pages.pages
+        ≡ images_pages 0 (images_loaded loaded.now)
+        ++ (threads_pages 0 (map entry_of loaded.now.bundle.cores) ++ trampoline_pages)) }
 {
     let mut pages = Pages::new(alloc);
     pages.know_names()?;

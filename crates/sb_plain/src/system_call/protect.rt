@@ -2,12 +2,10 @@
 
 ghost use Rattle.std.specs.Prelude.{◌≡◌, ◌<◌, ◌+◌, ◌^◌};
 ghost use Rattle.sb_state.specs.State.{thread_at, process_at};
-ghost use Rattle.sb_state.specs.Registers.{rdi, rsi};
-ghost use Rattle.sb_state.specs.Windows.{process_now};
 ghost use Rattle.sb_state.specs.Pattern.{heap_pattern};
-ghost use Rattle.sb_trace.specs.SyscallProtect.{heap_count, with_heap_mode, execute_mode_outcome, protect_outcome};
+ghost use Rattle.sb_trace.specs.SyscallProtect.{heap_count, with_heap_mode, execute_mode_outcome, protect_of_thread};
 
-use super::{accept, decline};
+use super::{accept, refuse};
 use sb_abi::CallRefusal;
 use sb_calls::{EXECUTE_MODE, protect_refusal};
 use sb_insn::Regs;
@@ -33,13 +31,14 @@ fn set_executable(state: &mut PlainState, process: u32, page: u32, executable: b
     state.pages.set_executable(name, executable);
 }
 
-// Executable only where the bytes of VMFUNC stand neither in the page nor across its borders with executable ones.
+/// Executable only where the bytes of VMFUNC stand neither in the page nor across its borders with executable ones.
 fn make_executable(state: &mut PlainState, core: u8, next: &Regs, process: u32, page: u32) -> Event
     requires { page + 1 < 2 ^ 32 }
-    ensures { (result, state.new) ≡ execute_mode_outcome state.old core next.now process page (heap_pattern state.old process page) }
+    ensures { (result, state.new)
+        ≡ execute_mode_outcome state.old core next.now process page (heap_pattern state.old process page) }
 {
     if let Some(address) = state.heap_pattern(process, page) {
-        return decline(state, core, next, CallRefusal::Pattern, address);
+        return refuse(state, core, next, CallRefusal::Pattern, address);
     }
     set_executable(state, process, page, true);
     accept(state, core, next)
@@ -49,12 +48,12 @@ fn make_executable(state: &mut PlainState, core: u8, next: &Regs, process: u32, 
 ///
 /// Where the bytes of VMFUNC refuse it, RDX has the lowest address at which they stand.
 pub fn protect(state: &mut PlainState, core: u8, next: &Regs) -> Event
-    ensures { (result, state.new) ≡ protect_outcome state.old core next.now (process_now (thread_at state.old core)) (rdi next.now) (rsi next.now) }
+    ensures { (result, state.new) ≡ protect_of_thread state.old core (thread_at state.old core) next.now }
 {
     let process = process_now(state.thread(core));
     let (page, mode) = (next.general[RDI], next.general[RSI]);
     if let Some(refusal) = protect_refusal(heap_count(state, process), page, mode) {
-        return decline(state, core, next, refusal, 0);
+        return refuse(state, core, next, refusal, 0);
     }
     let page = page as u32;
     if mode == EXECUTE_MODE {

@@ -1,15 +1,14 @@
 //! System call 2: the process becomes a server.
 
 ghost use Rattle.std.specs.Prelude.{◌≡◌, ◌<◌, ◌≤◌, ◌-◌, ◌*◌, ◌++◌, None, slice_get};
+ghost use Rattle.sb_abi.specs.declared.space.TheConstants.{MAX_STACKS};
 ghost use Rattle.sb_state.specs.State.{thread_at, process_at};
-ghost use Rattle.sb_state.specs.Registers.{rdi, rsi};
-ghost use Rattle.sb_state.specs.Windows.{process_now};
 ghost use Rattle.sb_state.specs.Start.{pages_from};
-ghost use Rattle.sb_trace.specs.SyscallRegister.{is_start, refusal_of_register, server_stack_page, with_registration, with_server, register_outcome};
-ghost use Rattle.sb_state.specs.Store.{added};
+ghost use Rattle.sb_trace.specs.SyscallRegister.{is_start, refusal_of_register, server_stack_page, with_registration, with_server, register_of_thread};
+ghost use Rattle.sb_state.specs.Store.{with_added_page};
 
-use super::{accept, decline};
-use crate::pool::{registration_of, set_pool_word};
+use super::{accept, refuse};
+use crate::server::{registration_at, set_pool_word};
 use sb_abi::{CallRefusal, EXIT_STUB, STACK_PAGES, TOP_WORD};
 use sb_calls::register_refusal;
 use sb_insn::Regs;
@@ -32,8 +31,8 @@ fn is_start(state: &PlainState, process: u32, address: u64) -> bool
     }
 }
 
-// Why the process that a view shows does not become a server.
-fn refusal_of(
+/// Why the process that a view shows does not become a server.
+fn refusal_of_register(
     state: &PlainState,
     view: u16,
     process: u32,
@@ -41,21 +40,21 @@ fn refusal_of(
     stacks: u64,
 ) -> Option<CallRefusal>
     ensures refusal { result ≡ refusal_of_register state.now view process handler stacks }
-    ensures stacks { result ≡ None → stacks ≤ 16 }
+    ensures stacks { result ≡ None → stacks ≤ MAX_STACKS }
     ensures frames { result ≡ None → 4 * stacks ≤ state.now.free }
 {
-    let registered = registration_of(state, process as usize).is_some();
+    let registered = registration_at(state, process as usize).is_some();
     let start = is_start(state, process, handler);
     register_refusal(view, registered, start, stacks, state.free)
 }
 
 // ---- the server
 
-// A page of a server stack. The last page of a stack has the address of the exit stub in its top word.
+/// A page of a server stack. The last page of a stack has the address of the exit stub in its top word.
 #[tactic(auto, unfolding(sb_trace::specs::SyscallRegister::stack_bytes))]
 fn add_stack_page(pages: &mut Pages, process: u32, page: u32)
     requires { 0 < pages.old.room }
-    ensures { pages.new ≡ added pages.old (server_stack_page process page) }
+    ensures { pages.new ≡ with_added_page pages.old (server_stack_page process page) }
 {
     let name = PageName::ServerStack(process, page);
     if page % PAGES == PAGES - 1 {
@@ -67,17 +66,23 @@ fn add_stack_page(pages: &mut Pages, process: u32, page: u32)
 
 fn add_stacks(pages: &mut Pages, process: u32, count: u32)
     requires { count ≤ pages.old.room }
-    ensures { pages.new ≡ record { pages = pages.old.pages ++ pages_from (server_stack_page process) 0 count; room = pages.old.room - count } }
+    ensures { pages.new ≡ record {
+      pages = pages.old.pages ++ pages_from (server_stack_page process) 0 count;
+      room = pages.old.room - count;
+    } }
 {
     for page in 0..count {
         add_stack_page(pages, process, page);
     }
 }
 
-// The stacks are there, and their frames are taken.
+/// The stacks are there, and their frames are taken.
 fn take_stacks(state: &mut PlainState, process: u32, pages: u32)
     requires { pages ≤ state.old.free }
-    ensures { state.new ≡ record state.old { pages = state.old.pages ++ pages_from (server_stack_page process) 0 pages; free = state.old.free - pages } }
+    ensures { state.new ≡ record state.old {
+      pages = state.old.pages ++ pages_from (server_stack_page process) 0 pages;
+      free = state.old.free - pages;
+    } }
 {
     state.free -= pages;
     add_stacks(&mut state.pages, process, pages);
@@ -95,15 +100,17 @@ fn note_registration(processes: &mut [Process], process: u32, registration: Regi
 
 #[tactic(auto, unfolding(sb_state::specs::State::process_at))]
 fn set_registration(state: &mut PlainState, process: u32, registration: Registration)
-    ensures { state.new ≡ record state.old { processes = with_registration (process_at state.old process) state.old.processes process registration } }
+    ensures { state.new ≡ record state.old {
+      processes = with_registration (process_at state.old process) state.old.processes process registration;
+    } }
 {
     note_registration(&mut state.processes, process, registration);
 }
 
-// The process has so many stacks, all of them free.
+/// The process has so many stacks, all of them free.
 #[tactic(auto, unfolding(sb_trace::specs::SyscallRegister::with_server, sb_state::specs::State::process_at, sb_state::specs::PageWords::with_word, sb_state::specs::State::with_contents))]
 fn make_server(state: &mut PlainState, process: u32, handler: u64, stacks: u32)
-    requires count { stacks ≤ 16 }
+    requires count { stacks ≤ MAX_STACKS }
     requires frames { 4 * stacks ≤ state.old.free }
     ensures { state.new ≡ with_server state.old process handler stacks }
 {
@@ -114,13 +121,13 @@ fn make_server(state: &mut PlainState, process: u32, handler: u64, stacks: u32)
 
 /// Makes the process that the view shows a server: its handler is in RDI, its number of stacks in RSI.
 pub fn register(state: &mut PlainState, core: u8, next: &Regs) -> Event
-    ensures { (result, state.new) ≡ register_outcome state.old core next.now (process_now (thread_at state.old core)) (refusal_of_register state.old (thread_at state.old core).view (process_now (thread_at state.old core)) (rdi next.now) (rsi next.now)) }
+    ensures { (result, state.new) ≡ register_of_thread state.old core (thread_at state.old core) next.now }
 {
     let thread = state.thread(core);
     let (view, process) = (thread.view, process_now(thread));
     let (handler, stacks) = (next.general[RDI], next.general[RSI]);
-    if let Some(refusal) = refusal_of(state, view, process, handler, stacks) {
-        return decline(state, core, next, refusal, 0);
+    if let Some(refusal) = refusal_of_register(state, view, process, handler, stacks) {
+        return refuse(state, core, next, refusal, 0);
     }
     make_server(state, process, handler, stacks as u32);
     accept(state, core, next)

@@ -9,6 +9,6 @@ loop-process-preserved c =
 
 pub returns-in-Err : goal.returns-in-Err
 returns-in-Err c =
-    rw c.refused.ensures
+    rw c.refusal_of.ensures
     (refused_text _ _ _ _ _ _ c.loop-process-test.true c.index-images-process.is c.items.ensures c.loop-process.invariant
     c.in-Err.ensures.answer)

@@ -1,7 +1,7 @@
 use Rattle.std.proofs.Common.{◌≡◌, ◌∙◌, ap, rules}
 use Rattle.sb_bundle.specs.declared.bundle.Bundle.{Bundle}
 use Rattle.sb_bundle.specs.declared.bundle.Image.{Image}
-use Rattle.sb_rewrite.specs.Output.{Output}
+use Rattle.sb_rewrite.specs.RewrittenText.{RewrittenText}
 use Rattle.sb_load.specs.Loading.{Load}
 use Rattle.sb_plain.proofs.Starting.{IsReadAt, process_pushed}
 use Rattle.sb_plain.proofs.start.start_processes.Goals as goal
@@ -10,7 +10,7 @@ pub loop-number-preserved : goal.loop-number-preserved
 loop-number-preserved c =
     let load : Load = c.args.loaded.now in
     let image : Image = c.image-item.result in
-    let becomes : Output = c.rewritten-made.result.now in
+    let becomes : RewrittenText = c.rewritten-made.result.now in
     let images : c.items-image-items.result.now ≡ load.bundle.images =
     c.items-image-items.ensures ∙ ap (λ (bundle : Bundle). bundle.images) c.bundle.ensures.same in
     let read : IsReadAt load c.loop-number.number image becomes =

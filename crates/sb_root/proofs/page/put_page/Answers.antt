@@ -2,7 +2,7 @@ use Rattle.std.proofs.Common.{◌<◌, subst, arith}
 use Rattle.std.specs.Prelude.{List, ℕ}
 use Rattle.std.proofs.lemmas.List.{take_all}
 use Rattle.sb_memory.specs.Physical.{HoldsBytes, frame_count}
-use Rattle.sb_memory.specs.Words.{words_put, zeros}
+use Rattle.sb_memory.specs.Words.{put_words, zeros}
 use Rattle.sb_root.proofs.Filling.{put_first, put_next, bytes_first, bytes_next}
 use Rattle.sb_root.proofs.page.put_page.Goals as goal
 
@@ -29,5 +29,5 @@ loop-index-preserved c =
 
 pub returns-clause-bytes : goal.returns-clause-bytes
 returns-clause-bytes c =
-    subst (λ (list : List ℕ). HoldsBytes c.loop-index.memory c.args.frame.0 (words_put (zeros 4096) 0 list))
+    subst (λ (list : List ℕ). HoldsBytes c.loop-index.memory c.args.frame.0 (put_words (zeros 4096) 0 list))
     (take_all c.loop-index.index c.args.words.now c.loop-index-test.false) c.loop-index.invariant.3

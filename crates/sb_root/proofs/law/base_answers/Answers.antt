@@ -1,5 +1,0 @@
-use Rattle.sb_root.proofs.BaseAnswers.{base_answers}
-use Rattle.sb_root.proofs.law.base_answers.Goals as goal
-
-pub returns : goal.returns
-returns c = base_answers

@@ -1,5 +1,0 @@
-use Rattle.sb_root.proofs.Between.{view_between}
-use Rattle.sb_root.proofs.law.views_answer.Goals as goal
-
-pub returns : goal.returns
-returns c = view_between

@@ -1,5 +1,0 @@
-use Rattle.std.proofs.Common.{◌≡◌, ◌++◌, ◌-◌, length, replicate}
-use Rattle.sb_state.proofs.start_bytes.filled_up.Given as goal
-
-abbrev pub invariant-loop : goal.invariant-loop
-invariant-loop l = l.bytes.items ≡ l.fn.chunk ++ replicate (l.counter - length l.fn.chunk) l.filler

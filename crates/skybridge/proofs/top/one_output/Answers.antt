@@ -1,8 +1,0 @@
-use Rattle.skybridge.proofs.Determined.{one_output, one_summary}
-use Rattle.skybridge.proofs.top.one_output.Goals as goal
-
-pub returns-clause-of_bundle : goal.returns-clause-of_bundle
-returns-clause-of_bundle c = λ command bundle text other first second. one_output command bundle text other first second
-
-pub returns-clause-made : goal.returns-clause-made
-returns-clause-made c = λ number text other first second. one_summary number text other first second
