@@ -1,11 +1,11 @@
 -- The bits of addresses, and which addresses they list.
-use Rattle.std.proofs.Common.{◌≡◌, ◌↔◌, IsTrue, ℕ, ◌-◌, ◌*◌, ◌%◌, ◌^◌, ◌<◌, ◌≤◌, Bool, true, false, ◌&&◌, ◌||◌, List, [], ◌∷◌, ◌++◌, length, get_or, set, replicate, refl, ap, sym, subst, ◌∙◌, arith, ⊎_elim, length-replicate}
-use Rattle.std.specs.Prelude.{◌==◌, nat_le}
+use Rattle.std.proofs.Common.{◌≡◌, ◌↔◌, IsTrue, ℕ, ◌-◌, ◌*◌, ◌%◌, ◌^◌, ◌<◌, ◌≤◌, Bool, true, false, ◌&&◌, ◌||◌, List, [], ◌∷◌, ◌++◌, length, get_or, set, take, replicate, refl, ap, sym, subst, ◌∙◌, arith, ⊎_elim, length-replicate}
+use Rattle.std.specs.Prelude.{◌==◌, nat_le, if◌then◌else◌}
 use Rattle.std.specs.List.{Contains}
 use Rattle.std.specs.Int.{bit_at, w64}
 use Rattle.std.specs.Int.RustNames.{bit_or}
 use Rattle.std.proofs.lemmas.Bool.{eqb-true, eq-eqb, ne_eqb, le-leb, lt-leb, and_from, and_left, and_right, or_left, cases_eq, cases_lt}
-use Rattle.std.proofs.lemmas.List.{get_or-set_same, get_or-set_other, get_or_append_left, get_or-append_right, get_or-replicate, get_or_past, get_or_default}
+use Rattle.std.proofs.lemmas.List.{get_or-set_same, get_or-set_other, get_or_append_left, get_or-append_right, get_or-replicate, get_or_past, get_or_default, take_all}
 use Rattle.std.proofs.lemmas.List.Folds.{list_any-append, Any-from_list_any, list_any_at}
 use Rattle.std.proofs.lemmas.Nat.Bits.{bit_at-zero, bit_at_set_same, bit_at_set_other}
 use Rattle.sb_rewrite.specs.StartBits.{word_index, bit_index, has_bit, is_listed, AreBitsOf, KeepsBits, SetsBit}
@@ -50,6 +50,14 @@ zeros_behind words count at =
     ∙ zero_at count (word_index at - length words)
     ∙ sym (get_or_past words (word_index at) 0 behind))
     (cases_lt (word_index at) (length words)))
+
+-- words that are as many, or more with zeros behind them, have the same bits
+pub bits_of_more : (old new : List ℕ) (count more : ℕ) (done : Bool) → length old ≤ count
+    → new ≡ (if done then take count old ++ replicate more 0 else old) → KeepsBits old new
+bits_of_more old new count more true less is =
+    subst (λ (words : List ℕ). KeepsBits old words)
+    (sym (is ∙ ap (λ (front : List ℕ). front ++ replicate more 0) (take_all count old less))) (zeros_behind old more)
+bits_of_more old new count more false less is = subst (λ (words : List ℕ). KeepsBits old words) (sym is) (λ at. refl)
 
 -- ---- one more bit
 

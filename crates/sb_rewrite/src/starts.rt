@@ -51,10 +51,10 @@ fn make_room(words: &mut Vec<u64>, at: u64) -> Result<(), AllocError>
     ensures room { IfOk result (λ done. word_index at < length words.new.items) }
 {
     let count = ((at - TEXT_ADDRESS) / 64) as usize + 1;
-    if words.len() < count {
-        words.resize(count, 0)?;
+    if count <= words.len() {
+        return Ok(());
     }
-    Ok(())
+    words.resize(count, 0)
 }
 
 /// Sets the bit of the address.
