@@ -104,6 +104,7 @@ fn phase_outcome(
             phase: flight.phase,
         };
     }
+    // The call decides again, from the state of this moment. That it decides alike is a law (`flights_decide` of sb_trace).
     let line = kernel_call(state, core);
     state.set_flight(core, next_flight(Flight { decided, ..flight }));
     line
