@@ -4,6 +4,7 @@ use Rattle.std.proofs.Math.Nat.{pow-le-pow_right, pow-suc}
 use Rattle.sb_memory.specs.Outcome.{and_then, done}
 use Rattle.sb_bus.specs.declared.stop.BusStop.{BusStop}
 use Rattle.sb_bus.specs.Access.{bytes_from, loaded_from, store_answer, number_of}
+use Rattle.sb_bus.specs.Bytes.{account_after_bytes}
 
 pub loaded_none : (byte : ℕ → Result ℕ BusStop) (address size : ℕ) → size ≡ 0 → loaded_from byte address size ≡ Ok 0
 unfolding loaded_from bytes_from
@@ -46,6 +47,30 @@ loaded_more byte address zero count lowest others next first later = absurd (ome
 loaded_more byte address (suc other) count lowest others next first later =
     let same : other ≡ count = omega arith in
     rw (first, same) (number_more lowest others (bytes_from byte ((address + 1) % 2 ^ 64) count) later)
+
+-- the account of no byte
+pub account_none : {A Account : Type 0} (byte : ℕ → Result A BusStop) (rule : ℕ → Account → Account) (address size : ℕ)
+    (account : Account) → size ≡ 0 → account_after_bytes byte rule address size account ≡ account
+unfolding account_after_bytes
+account_none byte rule address size account none = rw none refl
+
+-- the account where the lowest byte stops
+pub account_stop : {A Account : Type 0} (byte : ℕ → Result A BusStop) (rule : ℕ → Account → Account) (address size : ℕ)
+    (stop : BusStop) (account : Account) → 0 < size → byte address ≡ Err stop
+    → account_after_bytes byte rule address size account ≡ rule address account
+unfolding account_after_bytes
+account_stop byte rule address zero stop account some stops = absurd (omega arith)
+account_stop byte rule address (suc count) stop account some stops = rw stops refl
+
+-- the account where it is there, and others are asked for
+pub account_more : {A Account : Type 0} (byte : ℕ → Result A BusStop) (rule : ℕ → Account → Account)
+    (address size count : ℕ) (lowest : A) (account : Account) → size ≡ count + 1 → byte address ≡ Ok lowest
+    → account_after_bytes byte rule address size account
+    ≡ account_after_bytes byte rule ((address + 1) % 2 ^ 64) count (rule address account)
+unfolding account_after_bytes
+account_more byte rule address zero count lowest account next first = absurd (omega arith)
+account_more byte rule address (suc other) count lowest account next first =
+    let same : other ≡ count = omega arith in rw (first, same) refl
 
 -- a byte and a number below a power
 pub number_fits : (lowest others size count : ℕ) → size ≡ count + 1 → lowest < 256 → others < 256 ^ count

@@ -1,3 +1,4 @@
 pub mod Stop
 pub mod Interface
 pub mod Access
+pub mod Bytes

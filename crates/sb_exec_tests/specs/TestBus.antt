@@ -40,5 +40,8 @@ test_stored memory address size value = record memory { noted = Some (address, s
 abbrev pub test_rule : BusCall → TestMemory → Unit {0} → Unit {0}
 test_rule call memory account = account
 
+abbrev pub test_byte_rule : TestMemory → Access → ℕ → Unit {0} → Unit {0}
+test_byte_rule memory access address account = account
+
 abbrev pub test_interface : Interface TestMemory (Unit {0})
 test_interface = record { byte = test_byte; stored = test_stored; rule = test_rule }

@@ -4,11 +4,10 @@
 //! No instruction loads after it has stored, so none can tell. What a store leaves is the law of the memories that keep it
 //! (`sb_state`, `sb_nested`: `stores_change_what_they_reach`).
 
-ghost use Rattle.std.specs.Prelude.{◌≡◌, ◌≤◌, ◌<◌, ◌^◌, IfOk};
-ghost use Rattle.sb_bus.specs.Access.{byte_for, loaded_from};
+ghost use Rattle.std.specs.Prelude.{◌≡◌};
 ghost use Rattle.sb_exec_tests.specs.TestBus.{test_memory, test_byte};
 
-use sb_bus::{Bus, BusStop, FaultKind};
+use sb_bus::{Bus, BusStop, ByteSource, FaultKind, load_bytes};
 use sb_memory::{Access, Linear};
 
 /// Where the data begins.
@@ -33,7 +32,7 @@ fn byte(board: &Board<'_>, at: Linear, access: Access) -> Result<u8, BusStop>
     let found = match access {
         Access::Fetch => board.text.get(at.0 as usize),
         Access::Write if !board.writable => None,
-        _ => match at.0.checked_sub(DATA) {
+        Access::Read | Access::Write => match at.0.checked_sub(DATA) {
             Some(offset) => board.bytes.get(offset as usize),
             None => None,
         },
@@ -44,22 +43,29 @@ fn byte(board: &Board<'_>, at: Linear, access: Access) -> Result<u8, BusStop>
     }
 }
 
-/// The number of some bytes from an address upwards, its lowest byte first.
-#[tactic(auto, using(sb_bus::proofs::Loads::loaded_none, sb_bus::proofs::Loads::loaded_stop, sb_bus::proofs::Loads::loaded_stop_later, sb_bus::proofs::Loads::loaded_more, sb_bus::proofs::Loads::number_fits, sb_bus::proofs::Loads::number_below))]
-fn number(board: &Board<'_>, at: Linear, size: u8, access: Access) -> Result<u64, BusStop>
-    requires { size ≤ 8 }
-    ensures answer { result
-        ≡ loaded_from (byte_for
-        (test_byte (test_memory board.now.text.now board.now.bytes.now board.now.writable board.now.noted)) access)
-        at.0 size }
-    ensures range { IfOk result (λ number. number < 256 ^ size) }
-{
-    if size == 0 {
-        return Ok(0);
+impl ByteSource for Board<'_> {
+    ghost use Rattle.std.specs.Prelude.{ℕ};
+    ghost use Rattle.sb_exec_tests.specs.TestBus.{TestMemory, test_memory, test_byte, test_byte_rule};
+
+    ghost Meaning = { TestMemory };
+
+    ghost Account = { Unit {0} };
+
+    ghost Kept = { Unit {0} };
+
+    ghost gives = { test_byte };
+
+    ghost rule = { test_byte_rule };
+
+    ghost meaning = { λ board. test_memory board.text.now board.bytes.now board.writable board.noted };
+
+    ghost account = { λ board. tt };
+
+    ghost kept = { λ board. tt };
+
+    fn byte(&mut self, at: Linear, access: Access) -> Result<u8, BusStop> {
+        byte(self, at, access)
     }
-    let lowest = byte(board, at, access)?;
-    let others = number(board, Linear(at.0.wrapping_add(1)), size - 1, access)?;
-    Ok(u64::from(lowest) + 256 * others)
 }
 
 impl Bus for Board<'_> {
@@ -85,17 +91,17 @@ impl Bus for Board<'_> {
     }
 
     fn load(&mut self, at: Linear, size: u8) -> Result<u64, BusStop> {
-        number(self, at, size, Access::Read)
+        load_bytes(self, at, size, Access::Read)
     }
 
     #[tactic(auto, using(crate::proofs::TestBus::loaded_to_write))]
     fn load_for_write(&mut self, at: Linear, size: u8) -> Result<u64, BusStop> {
-        number(self, at, size, Access::Write)
+        load_bytes(self, at, size, Access::Write)
     }
 
     #[tactic(auto, using(sb_bus::proofs::Loads::stored_where_loaded, sb_bus::proofs::Loads::stops_where_loaded), unfolding(crate::specs::TestBus::test_stored))]
     fn store(&mut self, at: Linear, size: u8, value: u64) -> Result<(), BusStop> {
-        number(self, at, size, Access::Write)?;
+        load_bytes(self, at, size, Access::Write)?;
         self.noted = Some((at.0, size, value));
         Ok(())
     }

@@ -6,11 +6,11 @@ ghost use Rattle.sb_walks.specs.Entry.{frame_in};
 ghost use Rattle.sb_walks.specs.Ept.{is_eptp};
 
 use crate::nested::translate;
-use crate::read::{byte, bytes, stop_at};
+use crate::read::{byte, stop_at};
 use crate::store_bytes::store_bytes;
 use crate::store_word::store_word;
 use crate::walk::Walk;
-use sb_bus::{Bus, BusStop};
+use sb_bus::{Bus, BusStop, ByteSource, load_bytes};
 use sb_memory::{Access, Linear, Phys, PhysAddr};
 
 /// Physical memory as an instruction sees it, through an EPT pointer and a CR3.
@@ -86,6 +86,32 @@ impl<'a, P: Phys> Walk for NestedBus<'a, P> {
     }
 }
 
+impl<'a, P: Phys> ByteSource for NestedBus<'a, P> {
+    ghost use Rattle.std.specs.Prelude.{ℕ};
+    ghost use Rattle.sb_nested.specs.View.{View, view, view_byte};
+    ghost use Rattle.sb_nested.specs.Store.{account_after_byte};
+
+    ghost Meaning = { View };
+
+    ghost Account = { P.Account };
+
+    ghost Kept = { ℕ × ℕ × ℕ × P.Kept };
+
+    ghost gives = { view_byte };
+
+    ghost rule = { account_after_byte P.rule };
+
+    ghost meaning = { λ bus. view (P.meaning bus.phys.now) bus.eptp bus.cr3 };
+
+    ghost account = { λ bus. P.account bus.phys.now };
+
+    ghost kept = { λ bus. (bus.phys.ghost_name, bus.eptp, bus.cr3, P.kept bus.phys.now) };
+
+    fn byte(&mut self, at: Linear, access: Access) -> Result<u8, BusStop> {
+        byte(self, at, access)
+    }
+}
+
 impl<'a, P: Phys> Bus for NestedBus<'a, P> {
     ghost use Rattle.std.specs.Prelude.{ℕ};
     ghost use Rattle.sb_nested.specs.View.{View, view};
@@ -110,14 +136,14 @@ impl<'a, P: Phys> Bus for NestedBus<'a, P> {
         byte(self, at, Access::Fetch)
     }
 
-    #[tactic(auto, unfolding(crate::specs::Store::view_rule))]
+    #[tactic(auto, using(crate::proofs::Loads::load_account), unfolding(crate::specs::Store::view_rule))]
     fn load(&mut self, at: Linear, size: u8) -> Result<u64, BusStop> {
-        bytes(self, at, size, Access::Read)
+        load_bytes(self, at, size, Access::Read)
     }
 
-    #[tactic(auto, using(crate::proofs::Writing::loaded_for_write), unfolding(crate::specs::Store::view_rule))]
+    #[tactic(auto, using(crate::proofs::Writing::loaded_for_write, crate::proofs::Loads::load_account), unfolding(crate::specs::Store::view_rule))]
     fn load_for_write(&mut self, at: Linear, size: u8) -> Result<u64, BusStop> {
-        bytes(self, at, size, Access::Write)
+        load_bytes(self, at, size, Access::Write)
     }
 
     #[tactic(auto, unfolding(crate::specs::Store::view_rule, crate::specs::Store::store_rule, crate::specs::Store::memory_stored))]

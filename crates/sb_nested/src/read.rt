@@ -1,10 +1,9 @@
 //! Bytes read through the nested walk.
 
-ghost use Rattle.std.specs.Prelude.{◌≡◌, ◌*◌, ◌%◌, ◌≤◌, ◌<◌, ◌^◌, IfOk};
-ghost use Rattle.sb_bus.specs.Access.{byte_for, loaded_from};
+ghost use Rattle.std.specs.Prelude.{◌≡◌, ◌*◌, ◌%◌, ◌<◌, IfOk};
 ghost use Rattle.sb_nested.specs.Stop.{ept_stop, table_stop, walk_stop, stop_at};
 ghost use Rattle.sb_nested.specs.View.{view_byte};
-ghost use Rattle.sb_nested.specs.Store.{account_after_byte, account_after_load};
+ghost use Rattle.sb_nested.specs.Store.{account_after_byte};
 
 use crate::walk::Walk;
 use sb_bus::{BusStop, FaultKind};
@@ -69,22 +68,4 @@ pub fn byte<W: Walk>(walk: &mut W, at: Linear, access: Access) -> Result<u8, Bus
 {
     let place = walk.place(at, access)?;
     walk.read_byte(place)
-}
-
-/// The bytes from an address upwards, as a number, its lowest byte first.
-#[tactic(auto, using(sb_bus::proofs::Loads::loaded_none, sb_bus::proofs::Loads::loaded_stop, sb_bus::proofs::Loads::loaded_stop_later, sb_bus::proofs::Loads::loaded_more, crate::proofs::Loads::load_calls_none, crate::proofs::Loads::load_account_stop, crate::proofs::Loads::load_account_more, sb_bus::proofs::Loads::number_fits, sb_bus::proofs::Loads::number_below))]
-pub fn bytes<W: Walk>(walk: &mut W, at: Linear, size: u8, access: Access) -> Result<u64, BusStop>
-    requires size { size ≤ 8 }
-    ensures answer { result ≡ loaded_from (byte_for (view_byte (W.view walk.old)) access) at.0 size }
-    ensures range { IfOk result (λ number. number < 256 ^ size) }
-    ensures same { W.view walk.new ≡ W.view walk.old }
-    ensures account { W.account walk.new ≡ account_after_load W.rule (W.view walk.old) access at.0 size (W.account walk.old) }
-    ensures kept { W.kept walk.new ≡ W.kept walk.old }
-{
-    if size == 0 {
-        return Ok(0);
-    }
-    let low = byte(walk, at, access)?;
-    let high = bytes(walk, at.further(1), size - 1, access)?;
-    Ok(u64::from(low) + 256 * high)
 }

@@ -22,9 +22,12 @@ abbrev pub thread_memory_stored : ThreadMemory → ℕ → ℕ → ℕ → Threa
 thread_memory_stored memory address size value =
     memory_of memory.thread memory.view (plain_stored memory.thread memory.view memory.state address size value)
 
--- no account is kept
+-- no account is kept, of calls and of bytes
 abbrev pub no_rule : BusCall → ThreadMemory → Unit {0} → Unit {0}
 no_rule call memory account = account
+
+abbrev pub no_byte_rule : ThreadMemory → Access → ℕ → Unit {0} → Unit {0}
+no_byte_rule memory access address account = account
 
 abbrev pub thread_memory : Interface ThreadMemory (Unit {0})
 thread_memory = record { byte = thread_memory_byte; stored = thread_memory_stored; rule = no_rule }

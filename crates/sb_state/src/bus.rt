@@ -1,11 +1,14 @@
 //! The memory of a thread in a view, as instructions access it.
 
-ghost use Rattle.std.specs.Prelude.{◌≡◌};
+ghost use Rattle.std.specs.Prelude.{◌≡◌, ◌≤◌};
+ghost use Rattle.sb_bus.specs.Access.{byte_for, loaded_from};
+ghost use Rattle.sb_state.specs.PlainMemory.{plain_byte};
+ghost use Rattle.sb_state.specs.ThreadMemory.{memory_of};
 
 use crate::plain_state::PlainState;
-use crate::read::{byte, load};
+use crate::read::{byte, load_in_page};
 use crate::write::store;
-use sb_bus::{Bus, BusStop};
+use sb_bus::{Bus, BusStop, ByteSource, load_bytes};
 use sb_memory::{Access, Linear};
 
 /// The memory of a thread in a view.
@@ -28,6 +31,48 @@ impl<'a> PlainBus<'a> {
             thread,
             view,
         }
+    }
+
+    /// The number of some bytes from an address upwards, its lowest byte first. Where they end in the page
+    /// in which they begin, that page is looked up once.
+    fn number(&mut self, at: Linear, size: u8, access: Access) -> Result<u64, BusStop>
+        requires { size ≤ 8 }
+        ensures answer { result
+            ≡ loaded_from (byte_for (plain_byte self.old.thread self.old.view self.old.state.now) access) at.0 size }
+        ensures same { memory_of self.new.thread self.new.view self.new.state.now
+            ≡ memory_of self.old.thread self.old.view self.old.state.now }
+        ensures kept { self.new.state.ghost_name ≡ self.old.state.ghost_name }
+    {
+        if 0 < size && at.0 % 4096 <= 4096 - u64::from(size) {
+            load_in_page(self.state, self.thread, self.view, at, size, access)
+        } else {
+            load_bytes(self, at, size, access)
+        }
+    }
+}
+
+impl<'a> ByteSource for PlainBus<'a> {
+    ghost use Rattle.std.specs.Prelude.{ℕ};
+    ghost use Rattle.sb_state.specs.ThreadMemory.{ThreadMemory, memory_of, memory_byte, no_byte_rule};
+
+    ghost Meaning = { ThreadMemory };
+
+    ghost Account = { Unit {0} };
+
+    ghost Kept = { ℕ };
+
+    ghost gives = { memory_byte };
+
+    ghost rule = { no_byte_rule };
+
+    ghost meaning = { λ bus. memory_of bus.thread bus.view bus.state.now };
+
+    ghost account = { λ bus. tt };
+
+    ghost kept = { λ bus. bus.state.ghost_name };
+
+    fn byte(&mut self, at: Linear, access: Access) -> Result<u8, BusStop> {
+        byte(self.state, self.thread, self.view, at, access)
     }
 }
 
@@ -54,12 +99,12 @@ impl<'a> Bus for PlainBus<'a> {
     }
 
     fn load(&mut self, at: Linear, size: u8) -> Result<u64, BusStop> {
-        load(self.state, self.thread, self.view, at, size, Access::Read)
+        self.number(at, size, Access::Read)
     }
 
     #[tactic(auto, using(crate::proofs::Writing::loaded_for_write))]
     fn load_for_write(&mut self, at: Linear, size: u8) -> Result<u64, BusStop> {
-        load(self.state, self.thread, self.view, at, size, Access::Write)
+        self.number(at, size, Access::Write)
     }
 
     fn store(&mut self, at: Linear, size: u8, value: u64) -> Result<(), BusStop> {

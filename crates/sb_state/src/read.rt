@@ -1,6 +1,6 @@
 //! Bytes and numbers read from the memory of a thread in a view.
 
-ghost use Rattle.std.specs.Prelude.{◌≡◌, ◌≤◌, ◌<◌, ◌+◌, ◌%◌, ◌^◌, IfOk};
+ghost use Rattle.std.specs.Prelude.{◌≡◌, ◌≤◌, ◌+◌, ◌%◌};
 ghost use Rattle.sb_bus.specs.Access.{byte_for, loaded_from};
 ghost use Rattle.sb_state.specs.PlainMemory.{plain_byte};
 
@@ -28,7 +28,7 @@ pub fn byte(
 
 /// The number of some bytes at an address, which end in the page in which they begin: the page is looked up once.
 #[tactic(auto, using(crate::proofs::InPage::number_in_page, crate::proofs::InPage::number_refused))]
-fn load_in_page(
+pub fn load_in_page(
     state: &PlainState,
     thread: u32,
     view: u32,
@@ -43,46 +43,4 @@ fn load_in_page(
 {
     let (_, page) = page_for_access(state, thread, view, at, access)?;
     Ok(number_at(page.bytes.items(), (at.0 % 4096) as usize, size))
-}
-
-/// The number of some bytes from an address upwards, its lowest byte first, byte by byte.
-#[tactic(auto, using(sb_bus::proofs::Loads::loaded_none, sb_bus::proofs::Loads::loaded_stop, sb_bus::proofs::Loads::loaded_stop_later, sb_bus::proofs::Loads::loaded_more, sb_bus::proofs::Loads::number_fits, sb_bus::proofs::Loads::number_below))]
-fn load_bytes(
-    state: &PlainState,
-    thread: u32,
-    view: u32,
-    at: Linear,
-    size: u8,
-    access: Access,
-) -> Result<u64, BusStop>
-    requires { size ≤ 8 }
-    ensures answer { result ≡ loaded_from (byte_for (plain_byte thread view state.now) access) at.0 size }
-    ensures range { IfOk result (λ number. number < 256 ^ size) }
-{
-    if size == 0 {
-        return Ok(0);
-    }
-    let lowest = byte(state, thread, view, at, access)?;
-    let next = Linear(at.0.wrapping_add(1));
-    let others = load_bytes(state, thread, view, next, size - 1, access)?;
-    Ok(u64::from(lowest) + 256 * others)
-}
-
-/// The number of some bytes from an address upwards, its lowest byte first.
-pub fn load(
-    state: &PlainState,
-    thread: u32,
-    view: u32,
-    at: Linear,
-    size: u8,
-    access: Access,
-) -> Result<u64, BusStop>
-    requires { size ≤ 8 }
-    ensures answer { result ≡ loaded_from (byte_for (plain_byte thread view state.now) access) at.0 size }
-{
-    if 0 < size && at.0 % 4096 <= 4096 - u64::from(size) {
-        load_in_page(state, thread, view, at, size, access)
-    } else {
-        load_bytes(state, thread, view, at, size, access)
-    }
 }
