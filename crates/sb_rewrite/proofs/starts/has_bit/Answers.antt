@@ -1,4 +1,4 @@
-use Rattle.std.proofs.Common.{◌≡◌, ◌≤◌, ◌<◌, length, sym, rules, arith}
+use Rattle.std.proofs.Common.{◌≤◌, ◌<◌, length, sym, rules, arith}
 use Rattle.sb_rewrite.specs.StartBits.{word_index}
 use Rattle.sb_rewrite.proofs.StartBits.{before_text, behind_words}
 use Rattle.sb_rewrite.proofs.starts.has_bit.Goals as goal
