@@ -1,11 +1,11 @@
 -- The bits of addresses, and which addresses they list.
-use Rattle.std.proofs.Common.{◌≡◌, ◌↔◌, IsTrue, ℕ, ◌-◌, ◌*◌, ◌%◌, ◌^◌, ◌<◌, ◌≤◌, Bool, true, false, ◌&&◌, ◌||◌, List, [], ◌∷◌, ◌++◌, length, get_or, set, take, replicate, refl, ap, sym, subst, ◌∙◌, arith, ⊎_elim, length-replicate}
+use Rattle.std.proofs.Common.{◌≡◌, ◌↔◌, IsTrue, ℕ, ◌-◌, ◌*◌, ◌%◌, ◌^◌, ◌<◌, ◌≤◌, Bool, true, false, ◌&&◌, ◌||◌, List, [], ◌∷◌, ◌++◌, length, get_or, set, take, replicate, refl, ap, sym, subst, ◌∙◌, arith, ⊎_elim}
 use Rattle.std.specs.Prelude.{◌==◌, nat_le, if◌then◌else◌}
 use Rattle.std.specs.List.{Contains}
 use Rattle.std.specs.Int.{bit_at, w64}
 use Rattle.std.specs.Int.RustNames.{bit_or}
-use Rattle.std.proofs.lemmas.Bool.{eqb-true, eq-eqb, ne_eqb, le-leb, lt-leb, and_from, and_left, and_right, or_left, cases_eq, cases_lt}
-use Rattle.std.proofs.lemmas.List.{get_or-set_same, get_or-set_other, get_or_append_left, get_or-append_right, get_or-replicate, get_or_past, get_or_default, take_all}
+use Rattle.std.proofs.lemmas.Bool.{eqb-true, eq-eqb, ne_eqb, le-leb, lt-leb, and_left, and_right, or_left, cases_eq, cases_lt}
+use Rattle.std.proofs.lemmas.List.{get_or-set_same, get_or-set_other, get_or_append_left, get_or-append_right, get_or-replicate, get_or_past, take_all, get_or_default, length-replicate}
 use Rattle.std.proofs.lemmas.List.Folds.{list_any-append, Any-from_list_any, list_any_at}
 use Rattle.std.proofs.lemmas.Nat.Bits.{bit_at-zero, bit_at_set_same, bit_at_set_other}
 use Rattle.sb_rewrite.specs.StartBits.{word_index, bit_index, has_bit, is_listed, AreBitsOf, KeepsBits, SetsBit}
@@ -34,10 +34,10 @@ same_word : (old new : List ℕ) (at : ℕ) → get_or new (word_index at) 0 ≡
     → has_bit new at ≡ has_bit old at
 same_word old new at same = ap (λ (word : ℕ). nat_le 0x400000 at && (bit_at word (bit_index at) == 1)) same
 
-zero_at : (count index : ℕ) → get_or (replicate count 0) index 0 ≡ 0
+zero_at : (count index : ℕ) → get_or {A = ℕ} (replicate count 0) index 0 ≡ 0
 zero_at count index =
     ⊎_elim (λ within. get_or-replicate count index 0 0 within)
-    (λ behind. get_or_past (replicate count 0) index 0 (omega (arith, length-replicate count 0, behind)))
+    (λ behind. get_or_past (replicate count 0) index 0 (omega (arith, length-replicate {A = ℕ} count 0, behind)))
     (cases_lt index count)
 
 -- zeros behind the words change no bit
@@ -103,15 +103,22 @@ module _ (words : List ℕ) (at : ℕ) (low : 0x400000 ≤ at) (room : word_inde
       (cases_eq (word_index other) (word_index at)))
       (cases_lt other 0x400000)
 
-  -- the bit of the address is set, and each other one is as it was
-  pub sets_bit : SetsBit at words (words_with words at)
-  sets_bit other =
+  with_its_bit : SetsBit at words (words_with words at)
+  with_its_bit other =
       ⊎_elim
       (λ same.
       subst (λ (one : ℕ). has_bit (words_with words at) one ≡ true) same bit_is_set
       ∙ sym (or_left (at == other) (has_bit words other) (eq-eqb at other same)))
       (λ differ. of_another other differ ∙ ap (λ (test : Bool). test || has_bit words other) (sym (ne_eqb at other differ)))
       (cases_eq at other)
+
+-- the bit of the address is set in its word, and each other one is as it was
+pub sets_bit : (words : List ℕ) (at word : ℕ) → 0x400000 ≤ at → word_index at < length words
+    → word ≡ get_or words (word_index at) 0
+    → SetsBit at words (set words (word_index at) (bit_or word (1 * 2 ^ bit_index at % 2 ^ 64)))
+sets_bit words at word low room is =
+    subst (λ (one : ℕ). SetsBit at words (set words (word_index at) (bit_or one (1 * 2 ^ bit_index at % 2 ^ 64))))
+    (sym is) (with_its_bit words at low room)
 
 -- ---- which addresses the bits list
 

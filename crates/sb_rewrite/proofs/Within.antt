@@ -4,7 +4,7 @@ use Rattle.std.specs.List.{AllByRecursion}
 use Rattle.sb_insn.specs.declared.insn.Insn.{Insn}
 use Rattle.sb_insn.specs.Spelling.{spelling}
 use Rattle.sb_rewrite.specs.Listing.{text_address, spelled_bytes, starts_from}
-use Rattle.sb_rewrite.specs.Placing.{Placement, places, area_address}
+use Rattle.sb_rewrite.specs.Placing.{Placement, area_address}
 use Rattle.sb_rewrite.specs.RewrittenText.{RewrittenText, starts_of, IsBetween}
 use Rattle.sb_rewrite.specs.Rewriting.{StartsStandInText}
 use Rattle.sb_rewrite.proofs.Placed.{starts_placed}

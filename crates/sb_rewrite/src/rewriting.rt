@@ -66,19 +66,18 @@ const LAST_BYTE: u8 = 0xD4;
 
 /// Puts what the table of forms gives in place of an instruction of a text.
 ///
-/// It is not part of `put_text_insn`, so that the space for a form is set up only for the few instructions that need one,
-/// and for them alone the instruction is put into memory.
+/// It is not part of `put_text_insn`, so that the space for a form is set up only for the few instructions that need one.
 #[inline(never)]
-fn put_form(draft: &mut Draft, text: &[u8], text_insn: TextInsn) -> Result<(), RewriteRefusal>
+fn put_form(draft: &mut Draft, text: &[u8], text_insn: &TextInsn) -> Result<(), RewriteRefusal>
     requires size { length text.now ≤ 2097152 }
-    requires text_insn { IsTextInsn text_insn }
-    requires form { HasForm text_insn.insn }
-    requires within { (text_address ≤ text_insn.at) × (text_insn.at < text_address + length text.now) }
-    ensures { Puts draft.old draft.new (place_by_table text.now draft.old text_insn) result }
+    requires text_insn { IsTextInsn text_insn.now }
+    requires form { HasForm text_insn.now.insn }
+    requires within { (text_address ≤ text_insn.now.at) × (text_insn.now.at < text_address + length text.now) }
+    ensures { Puts draft.old draft.new (place_by_table text.now draft.old text_insn.now) result }
 {
     let after_0f = is_after_0f(text, text_insn.at);
     let form = form(&text_insn.insn, text_insn.at, draft.next_slot(), after_0f);
-    draft.put(&text_insn, &form)
+    draft.put(text_insn, &form)
 }
 
 /// Puts the start of an instruction of a text, and what stands in its place.
@@ -93,7 +92,9 @@ fn put_text_insn(draft: &mut Draft, text: &[u8], text_insn: &TextInsn) -> Result
     draft.start(text_insn.at)?;
     // ADD ESP, EDX ends with this byte too, so an instruction without it is kept.
     if text_insn.bytes.contains(&LAST_BYTE) {
-        put_form(draft, text, *text_insn)
+        // The others stay in registers.
+        let in_memory = *text_insn;
+        put_form(draft, text, &in_memory)
     } else {
         draft.keep(text_insn)
     }

@@ -8,7 +8,7 @@ pub loop-rest-init : goal.loop-rest-init
 loop-rest-init c = none_listed _ _ c.in_ok-starts.ensures
 
 pub loop-rest-preserved : goal.loop-rest-preserved
-loop-rest-preserved c = rw c.in_ok-push.ensures (one_more _ _ _ _ _ c.loop-rest.invariant c.in-Ok.ensures.answer)
+loop-rest-preserved c = rw c.in_ok-push-in-Ok.ensures (one_more _ _ _ _ _ c.loop-rest.invariant c.in-Ok.ensures.answer)
 
 pub returns-in-Err : goal.returns-in-Err
 returns-in-Err c =

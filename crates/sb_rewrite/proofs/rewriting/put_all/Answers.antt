@@ -13,7 +13,7 @@ loop-rest-init c = rw c.in_ok-draft.ensures (nothing_put _ _ c.new-jumps.ensures
 pub returns-in_err-text_insn : goal.returns-in_err-text_insn
 returns-in_err-text_insn c =
     let some : 0 < length c.loop-rest.rest.now = search rules in
-    let error = err_from_is_err_and c.from_residual.result c.from_residual.ensures.1 in
+    let error = err_from_is_err_and c.from_residual-in_err-text_insn.result c.from_residual-in_err-text_insn.ensures.1 in
     rw (error.1, error.2) (front_refused _ _ _ _ _ c.loop-rest.invariant some c.in_err-text_insn.ensures)
 
 pub returns-in_err-remember_jump : goal.returns-in_err-remember_jump
