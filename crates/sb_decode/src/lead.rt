@@ -1,6 +1,6 @@
 //! The lead of an instruction: its prefixes and its opcode.
 
-ghost use Rattle.std.specs.Prelude.{◌≡◌, [], ◌∷◌};
+ghost use Rattle.std.specs.Prelude.{◌≡◌, [], ◌∷◌, Bool};
 ghost use Rattle.sb_decode.specs.LeadReader.{lead_of, group_locks, takes_prefixes, is_lead, checked_lead, ending, second_at, opcode_at, rex_at, lead_at};
 ghost use Rattle.sb_decode.specs.Reading.{GivesLead};
 
@@ -133,33 +133,42 @@ fn opcode(lock: bool, rex: Option<u8>, bytes: &[u8]) -> Result<((Lead, Cell), &[
     }
 }
 
-/// The bytes behind LOCK, or the first ones where it does not stand.
+/// REX, if it stands, and the bytes behind it.
 #[inline(always)]
-#[tactic(auto, unfolding(crate::specs::LeadReader::rex_at))]
-fn rex(lock: bool, bytes: &[u8]) -> Result<((Lead, Cell), &[u8]), DecodeFault>
-    ensures { GivesLead result (rex_at lock bytes.now) }
+#[tactic(auto, unfolding(crate::specs::LeadReader::rex_at, crate::specs::LeadReader::opcode_at))]
+fn rex(bytes: &[u8]) -> (Option<u8>, &[u8])
+    ensures { (lock : Bool) → rex_at lock bytes.now ≡ opcode_at lock result.0 result.1.now }
 {
     match bytes {
-        [] => Err(DecodeFault::Short),
+        [] => (None, bytes),
         [byte, rest @ ..] => {
             if is_rex(*byte) {
-                opcode(lock, Some(*byte), rest)
+                (Some(*byte), rest)
             } else {
-                opcode(lock, None, bytes)
+                (None, bytes)
             }
         }
     }
 }
 
+/// Whether LOCK stands, and the bytes behind it.
+#[inline(always)]
+#[tactic(auto, unfolding(crate::specs::LeadReader::lead_at, crate::specs::LeadReader::rex_at))]
+fn lock(bytes: &[u8]) -> (bool, &[u8])
+    ensures { lead_at bytes.now ≡ rex_at result.0 result.1.now }
+{
+    match bytes {
+        [0xF0, rest @ ..] => (true, rest),
+        _ => (false, bytes),
+    }
+}
+
 /// The lead of an instruction with the cell of its opcode, and the bytes behind it.
 #[inline(always)]
-#[tactic(auto, unfolding(crate::specs::LeadReader::lead_at))]
 pub fn read(bytes: &[u8]) -> Result<((Lead, Cell), &[u8]), DecodeFault>
     ensures { GivesLead result (lead_at bytes.now) }
 {
-    match bytes {
-        [] => Err(DecodeFault::Short),
-        [0xF0, rest @ ..] => rex(true, rest),
-        [_, ..] => rex(false, bytes),
-    }
+    let (lock, rest) = lock(bytes);
+    let (rex, rest) = rex(rest);
+    opcode(lock, rex, rest)
 }
