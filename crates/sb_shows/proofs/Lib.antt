@@ -16,7 +16,12 @@ pub mod Adding
 pub mod Threads
 pub mod Viewing
 pub mod Translating
+pub mod InPlace
+pub mod Unseen
 pub mod AddingPages
+pub mod Fills
+pub mod Mapping
+pub mod Removing
 pub mod Registering
 pub mod Binding
 pub mod Placing
@@ -26,3 +31,4 @@ pub mod Joining
 pub mod Processes
 pub mod Seen
 pub mod Needs
+pub mod FreeIndices
