@@ -1,18 +1,18 @@
 -- Calls of physical memory that fill a frame with the bytes of a page.
-use Rattle.std.proofs.Common.{◌≡◌, ◌∙◌, sym, ap, subst, ℕ, zero, ◌+◌, ◌-◌, ◌*◌, ◌<◌, ◌≤◌, inl, inr, List, [], ◌∷◌, ◌++◌, length, get_or, refl, lit<, arith}
+use Rattle.std.proofs.Common.{◌≡◌, ◌∙◌, sym, ap, subst, ℕ, zero, ◌+◌, ◌-◌, ◌*◌, ◌<◌, ◌≤◌, inl, inr, List, [], ◌∷◌, ◌++◌, length, get_or, lit<, arith}
 use Rattle.std.specs.Prelude.{replicate}
 use Rattle.std.proofs.lemmas.Bool.{cases_lt}
 use Rattle.std.proofs.lemmas.List.{get_or-replicate, get_or_append_left, get_or-append-add}
-use Rattle.sb_memory.specs.Physical.{Physical, HasSize, frame_count, frame_of}
+use Rattle.sb_memory.specs.Physical.{Physical, frame_of}
 use Rattle.sb_memory.specs.Changes.{SameOutside}
 use Rattle.sb_memory.specs.Reading.{with_bytes}
-use Rattle.sb_memory.specs.Words.{put_bytes, put_word, clear_frame}
+use Rattle.sb_memory.specs.Words.{put_bytes}
 use Rattle.sb_memory.proofs.Words.{get_or-sets_other, get_or-sets_same, byte_of_cleared, word_held}
 use Rattle.sb_memory.proofs.Changes.{same_outside_then, same_outside_word}
 use Rattle.sb_memory.proofs.Frames.{bytes_within, cleared_within}
 use Rattle.sb_trace.specs.PageWords.{zeros}
 use Rattle.sb_trace.specs.Start.{page_padded}
-use Rattle.sb_shows.specs.Fills.{FillsFrame, ClearsFill, PagesFill, ImagesFill, WordsFill}
+use Rattle.sb_shows.specs.Fills.{ClearsFill, PagesFill, ImagesFill, WordsFill}
 
 zero_at : (offset : ℕ) → offset < 4096 → get_or zeros offset 0 ≡ 0
 unfolding zeros

@@ -1,18 +1,13 @@
 -- The index that the root kernel gives a view is the plain thread's free index.
 use Rattle.std.proofs.Common.{◌≡◌, ◌∙◌, sym, ap, ℕ, zero, suc, ◌+◌, ◌<◌, ◌≤◌, ◌==◌, inl, inr, Bool, true, false, List, refl, arith}
-use Rattle.std.proofs.lemmas.Order.{cases_lt}
 use Rattle.std.specs.Prelude.{Option, Some, None, is_some, slice_get, if◌then◌else◌}
 use Rattle.std.specs.Option.{option_map, option_and_then}
-use Rattle.std.proofs.lemmas.Bool.{ne_eqb}
-use Rattle.sb_memory.specs.Physical.{Physical}
-use Rattle.sb_root.specs.Root.{IsLowestFree}
+use Rattle.std.proofs.lemmas.Bool.{cases_lt, ne_eqb}
 use Rattle.sb_state.specs.declared.state.Binding.{Binding}
 use Rattle.sb_state.specs.declared.state.Thread.{Thread}
 use Rattle.sb_state.specs.Bindings.{binding_with, has_index, free_index_from, free_index}
 use Rattle.sb_trace.specs.State.{State}
 use Rattle.sb_trace.specs.Windows.{process_shown, process_of_view, server_of}
-use Rattle.sb_shows.specs.Placement.{Placement}
-use Rattle.sb_shows.specs.Keeping.{Keeps}
 use Rattle.sb_shows.specs.CallLaws.{FreeIndicesAgree}
 use Rattle.sb_shows.proofs.Binding.{free_away, free_fresh}
 

@@ -1,5 +1,5 @@
 -- What the calls ask of the pages of a state, where the state is sound.
-use Rattle.std.proofs.Common.{◌≡◌, ◌≢◌, ◌∙◌, ap, ℕ, ◌==◌, ◌+◌, ◌-◌, ◌*◌, ◌^◌, ◌<◌, ◌≤◌, Bool, [], ◌∷◌, length, refl, lit≤, arith}
+use Rattle.std.proofs.Common.{◌≡◌, ◌≢◌, ◌∙◌, ap, ℕ, ◌+◌, ◌-◌, ◌*◌, ◌^◌, ◌<◌, ◌≤◌, Bool, [], ◌∷◌, length, refl, lit≤, arith}
 use Rattle.std.specs.Prelude.{Option, Some, None, slice_get, if◌then◌else◌}
 use Rattle.std.specs.Option.{option_and_then}
 use Rattle.std.proofs.lemmas.Bool.{ne_eqb}
@@ -12,14 +12,14 @@ use Rattle.sb_state.specs.declared.page.PageName.TheVariants.{Heap, Pool}
 use Rattle.sb_state.specs.declared.state.Binding.{Binding}
 use Rattle.sb_state.specs.declared.state.Thread.{Thread}
 use Rattle.sb_trace.specs.PageName.{mode_of}
-use Rattle.sb_trace.specs.State.{State, HasFewThreads, Process, process_at, registration_at}
+use Rattle.sb_trace.specs.State.{State, Process, process_at, registration_at}
 use Rattle.sb_trace.specs.Start.{pages_from}
 use Rattle.sb_trace.specs.KernelCall.{handler_in}
 use Rattle.sb_trace.specs.Windows.{process_shown, process_of_view, server_of}
 use Rattle.sb_trace.specs.SyscallBind.{buffer_page, with_binding, server_words}
 use Rattle.sb_trace.specs.SyscallRegister.{server_stack_page, with_server}
 use Rattle.sb_trace.specs.SyscallProtect.{heap_count, with_heap_mode}
-use Rattle.sb_trace.specs.Sound.{IsProcessSound, IsThreadSound, IsSound}
+use Rattle.sb_trace.specs.Sound.{IsProcessSound, IsSound}
 use Rattle.sb_trace.proofs.ProcessFacts.{all_at}
 use Rattle.sb_trace.proofs.TablePages as table
 use Rattle.sb_shows.specs.Placement.{Placement, IsThere, leaf_for, rights_for}

@@ -1,5 +1,5 @@
 -- Pages are taken away: no process maps them, the base exposes their frames no more, and these are not used then.
-use Rattle.std.proofs.Common.{◌≡◌, ◌≢◌, ◌∙◌, sym, ap, subst, ℕ, ◌+◌, ◌*◌, ◌/◌, ◌<◌, ◌≤◌, ◌==◌, ◌⊎◌, inl, inr, Bool, true, false, List, [], ◌∷◌, length, refl, arith}
+use Rattle.std.proofs.Common.{◌≡◌, ◌≢◌, ◌∙◌, sym, ap, subst, ℕ, ◌*◌, ◌/◌, ◌<◌, ◌≤◌, ◌⊎◌, inl, inr, Bool, true, false, List, [], ◌∷◌, length, refl, arith}
 use Rattle.std.specs.Prelude.{Option, Some, None, if◌then◌else◌}
 use Rattle.std.specs.List.{Contains}
 use Rattle.std.proofs.lemmas.Bool.{ne_eqb}
@@ -14,7 +14,7 @@ use Rattle.sb_trace.specs.PageName.{same_name, mode_of}
 use Rattle.sb_trace.specs.State.{State, find_page, thread_at}
 use Rattle.sb_trace.specs.Windows.{name_at}
 use Rattle.sb_state.proofs.Names.{name_same}
-use Rattle.sb_shows.specs.Placement.{Placement, Purpose, Unused, BaseTable, RootTable, GuestTable, Holds, IsThere, IsOneToOne, is_own, guest_page, leaf_for, leaf_if, rights_for, name_entry, entry_of}
+use Rattle.sb_shows.specs.Placement.{Placement, Purpose, Unused, BaseTable, RootTable, GuestTable, Holds, IsThere, IsOneToOne, is_own, guest_page, leaf_for, leaf_if, name_entry, entry_of}
 use Rattle.sb_shows.specs.Keeping.{HasContents, Keeps}
 use Rattle.sb_shows.specs.Windows.{page_number}
 use Rattle.sb_shows.specs.Calls.{SetsPages, ExposesFrame, IsSeenIn, RemovesPages, placed_without, placed_without_all, without_page, without_pages, AreGoingPages}
@@ -22,7 +22,7 @@ use Rattle.sb_shows.specs.InPlace.{StaysInPlace, ViewsStay, KeepsRest}
 use Rattle.sb_shows.proofs.Names.{name_self}
 use Rattle.sb_shows.proofs.Numbers.{name_number}
 use Rattle.sb_shows.proofs.Changing.{contents_still}
-use Rattle.sb_shows.proofs.Between.{Between, Claims, IsPageClaim, entries_in, leads_between, between_leads, between_exposed}
+use Rattle.sb_shows.proofs.Between.{Claims, entries_in, leads_between, between_leads, between_exposed}
 use Rattle.sb_shows.proofs.Protecting.{base_word, base_sets_apart, base_no_page}
 use Rattle.sb_shows.proofs.Mapping.{Half, all_set}
 use Rattle.sb_shows.proofs.InPlace.{addresses_stay}

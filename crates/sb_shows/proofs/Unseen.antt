@@ -1,5 +1,5 @@
 -- Where a view shows the page that it showed, a translation is what it was: the same address or the same refusal.
-use Rattle.std.proofs.Common.{◌≡◌, ◌≢◌, ◌∙◌, sym, ap, subst, ℕ, ◌+◌, ◌*◌, ◌/◌, ◌%◌, ◌^◌, ◌<◌, ◌==◌, Bool, true, false, List, Result, Ok, Err, refl}
+use Rattle.std.proofs.Common.{◌≡◌, ◌∙◌, sym, ap, ℕ, ◌+◌, ◌*◌, ◌/◌, ◌%◌, ◌^◌, ◌<◌, ◌==◌, Bool, true, false, List, Result, Err, refl}
 use Rattle.std.specs.Prelude.{Option, Some, None, if◌then◌else◌}
 use Rattle.std.specs.Option.{option_map, option_and_then}
 use Rattle.std.proofs.lemmas.Bool.{eqb-true, eqb-false}
@@ -11,10 +11,10 @@ use Rattle.sb_walks.specs.declared.stop.WalkStop.{WalkStop}
 use Rattle.sb_walks.specs.declared.stop.WalkStop.TheVariants as guest
 use Rattle.sb_walks.specs.declared.stop.NestedStop.{NestedStop}
 use Rattle.sb_walks.specs.declared.stop.NestedStop.TheVariants as nested
-use Rattle.sb_walks.specs.Guest.{guest_entry_answer, guest_walk}
-use Rattle.sb_walks.specs.Nested.{memory_behind, guest_entry, page_behind, page_answer, translation}
+use Rattle.sb_walks.specs.Guest.{guest_entry_answer}
+use Rattle.sb_walks.specs.Nested.{memory_behind, page_behind, page_answer, translation}
 use Rattle.sb_pagewalk.specs.Windows.{IsInWindow, region_of, page_table_of}
-use Rattle.sb_pagewalk.specs.TableSet.{page_walked, set_walked}
+use Rattle.sb_pagewalk.specs.TableSet.{page_walked}
 use Rattle.sb_pagewalk.proofs.OnePage.{set_walked_same, set_walked_window}
 use Rattle.sb_root.specs.Entry.{entry_reached}
 use Rattle.sb_root.specs.Root.{list_entry, eptp_of_view}
@@ -24,7 +24,7 @@ use Rattle.sb_state.specs.declared.page.Page.{Page}
 use Rattle.sb_state.specs.declared.page.SeenPage.{SeenPage}
 use Rattle.sb_state.specs.declared.page.Mode.{Mode}
 use Rattle.sb_trace.specs.PageName.{mode_of}
-use Rattle.sb_trace.specs.State.{State, find_page, thread_at}
+use Rattle.sb_trace.specs.State.{State, find_page}
 use Rattle.sb_trace.specs.Windows.{name_at, page_by_name, page_and_mode, process_shown, page_for}
 use Rattle.sb_shows.specs.Placement.{Placement, IsThere, is_own, guest_page, leaf_for, leaf_if, rights_for, entry_of, entries_of}
 use Rattle.sb_shows.specs.Keeping.{HasView, Leads, Keeps}
