@@ -32,7 +32,7 @@ found_by false bindings first count index is low high taken free rest = elim (ca
 found_first : (count : ℕ) (bindings : List Binding) (first index : ℕ) → first ≤ index → index ≤ first + count
     → ((other : ℕ) → first ≤ other → other < index → has_index bindings other ≡ true) → has_index bindings index ≡ false
     → free_index_from bindings first count ≡ index
-found_first zero bindings first index low high taken free = omega arith
+found_first zero bindings first index low high taken free = let same : first ≡ index = omega arith in same
 found_first (suc count) bindings first index low high taken free =
     found_by (has_index bindings first) bindings first count index refl low high taken free
     (λ more. found_first count bindings (first + 1) index more (omega arith) (λ other above below. taken other (omega arith) below)

@@ -11,6 +11,7 @@ use Rattle.sb_walks.specs.Guest.{is_canonical}
 use Rattle.sb_walks.specs.Nested.{memory_behind, translation}
 use Rattle.sb_root.specs.Root.{list_entry}
 use Rattle.sb_state.specs.declared.page.PageName.{PageName}
+use Rattle.sb_state.specs.declared.page.PageName.TheVariants.{Save, Stack, Buffer}
 use Rattle.sb_state.specs.declared.page.Page.{Page}
 use Rattle.sb_state.specs.declared.page.SeenPage.{SeenPage}
 use Rattle.sb_state.specs.declared.state.Thread.{Thread}
@@ -74,7 +75,12 @@ module _ (old new : List Thread) (views : (thread view process : ℕ) → proces
 
   buffer_still : (process page : ℕ) → NamedStill (buffer_name old process page) (buffer_name new process page)
   buffer_still process page =
-      still_named _ _ _
+      still_named
+      (is_process (process_shown old (page / 64) 0) process || is_process
+      (process_shown old (page / 64) (page / 4 % 16)) process)
+      (is_process (process_shown new (page / 64) 0) process || is_process
+      (process_shown new (page / 64) (page / 4 % 16)) process)
+      (Buffer (page / 64) (page / 4 % 16) (page % 4))
       (or_still (is_process (process_shown old (page / 64) 0) process)
       (is_process (process_shown old (page / 64) (page / 4 % 16)) process)
       (is_process (process_shown new (page / 64) 0) process)
@@ -83,8 +89,11 @@ module _ (old new : List Thread) (views : (thread view process : ℕ) → proces
 
   stack_still : (process page : ℕ) → NamedStill (stack_name old process page) (stack_name new process page)
   stack_still process page =
-      still_if (page % 8 == 0) _ _ _ _ (still_named _ _ _ (shown_still (page / 8) 0 process))
-      (still_named _ _ _
+      still_if (page % 8 == 0) _ _ _ _
+      (still_named (is_process (process_shown old (page / 8) 0) process) (is_process (process_shown new (page / 8) 0) process)
+      (Save (page / 8)) (shown_still (page / 8) 0 process))
+      (still_named (is_process (process_shown old (page / 8) 0) process && nat_le 4 (page % 8))
+      (is_process (process_shown new (page / 8) 0) process && nat_le 4 (page % 8)) (Stack (page / 8) (page % 8 - 4))
       (and_still (is_process (process_shown old (page / 8) 0) process) (nat_le 4 (page % 8))
       (is_process (process_shown new (page / 8) 0) process) (shown_still (page / 8) 0 process)))
 
@@ -96,8 +105,8 @@ module _ (old new : List Thread) (views : (thread view process : ℕ) → proces
       (still_if (is_within 0x400 page) _ _ _ _ (still_same _)
       (still_if (is_within 0x800 page) _ _ _ _ (still_same _)
       (still_if (is_within 0xC00 page) _ _ _ _ (still_same _)
-      (still_if (is_in_buffers page) _ _ _ _ (buffer_still process _)
-      (still_if (is_within 0x3000 page) _ _ _ _ (stack_still process _)
+      (still_if (is_in_buffers page) _ _ _ _ (buffer_still process (page - 0x2000))
+      (still_if (is_within 0x3000 page) _ _ _ _ (stack_still process (page - 0x3000))
       (still_if (is_within 0x4000 page) _ _ _ _ (still_same _) (still_same (special_name thread view process page))))))))
 
 -- ---- what is seen stays seen

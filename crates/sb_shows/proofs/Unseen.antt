@@ -34,7 +34,7 @@ use Rattle.sb_shows.specs.InPlace.{SameFrames, ViewsStay, StaysInPlace, SamePage
 use Rattle.sb_shows.specs.Laws.{TranslationsStayWhereSeen}
 use Rattle.sb_shows.proofs.Names.{IsOwnOf, own_name}
 use Rattle.sb_shows.proofs.Leaves.{guest_permits, leaf_answered}
-use Rattle.sb_shows.proofs.Nested.{Own, own_page, base_page, behind, outside, seen_of, walk_is}
+use Rattle.sb_shows.proofs.Nested.{OwnPage, own_page, base_page, outside, seen_of, walk_is}
 use Rattle.sb_shows.proofs.Bytes.{IsFound, seen_there, small_frames, pointer_is}
 use Rattle.sb_shows.proofs.InPlace.{kept_in_place}
 
@@ -84,9 +84,6 @@ guest_same frame frame' (Buffer thread index page) is = is
 module _ (placement : Placement) (state : State) (memory : Physical) (leads : Leads placement state memory)
     (small : (name : PageName) (page : Page) → find_page state.pages name ≡ Some page → placement.frame name < 2 ^ 32)
     (thread view process : ℕ) (has : HasView placement state thread view process) where
-  abbrev pointer : ℕ
-  pointer = eptp_of_view has.kept
-
   abbrev answered : Access → Result GuestPhys WalkStop → Result PhysAddr NestedStop
   answered access answer = page_behind (memory_behind memory (eptp_of_view has.kept)) access answer
 
@@ -96,7 +93,7 @@ module _ (placement : Placement) (state : State) (memory : Physical) (leads : Le
   nothing_gives linear access = refl
 
   own_gives : (name : PageName) (found : Option Page) → find_page state.pages name ≡ found
-      → Own placement state memory leads small thread view process has name → (linear : ℕ) (access : Access)
+      → OwnPage memory (eptp_of_view has.kept) placement.frame state.pages name → (linear : ℕ) (access : Access)
       → answered access (page_walked (leaf_for (guest_page placement.frame name) (mode_of name false)) linear access)
       ≡ page_gives placement.frame (option_map (page_and_mode name) found) linear access
   own_gives name None is own linear access = absurd (let there = own.there.1 in cc)
