@@ -14,6 +14,7 @@ pub mod Between
 pub mod Protecting
 pub mod Adding
 pub mod Threads
+pub mod BesideView
 pub mod Viewing
 pub mod Translating
 pub mod InPlace
@@ -31,4 +32,5 @@ pub mod Joining
 pub mod Processes
 pub mod Seen
 pub mod Needs
+pub mod ClearingView
 pub mod FreeIndices

@@ -18,7 +18,7 @@ use Rattle.sb_shows.specs.Placement.{Placement, Purpose, Unused, BaseTable, Root
 use Rattle.sb_shows.specs.Keeping.{HasContents, Keeps}
 use Rattle.sb_shows.specs.Windows.{page_number}
 use Rattle.sb_shows.specs.Calls.{SetsPages, ExposesFrame, IsSeenIn, RemovesPages, placed_without, placed_without_all, without_page, without_pages, AreGoingPages}
-use Rattle.sb_shows.specs.InPlace.{StaysInPlace, ViewsStay, KeepsRest}
+use Rattle.sb_shows.specs.InPlace.{StaysInPlace, KeepsRest}
 use Rattle.sb_shows.proofs.Names.{name_self}
 use Rattle.sb_shows.proofs.Numbers.{name_number}
 use Rattle.sb_shows.proofs.Changing.{contents_still}
@@ -271,7 +271,7 @@ module _ (placement : Placement) (state : State) (memory : Physical) (keeps : Ke
 -- ---- what is left stays
 
 -- the pages of one list are pages of another, in the same modes
-abbrev AreAmong : List Page → List Page → Type 0
+abbrev pub AreAmong : List Page → List Page → Type 0
 AreAmong few many = (name : PageName) (page : Page) → find_page few name ≡ Some page → find_page many name ≡ Some page
 
 -- what is left was there, in its place
@@ -288,28 +288,14 @@ left_stays old new state pages frames root among = record {
   };
 }
 
-views_left : (old new : Placement) (state : State) (pages : List Page) → new.root ≡ old.root
-    → ViewsStay old new state (record state { pages = pages })
-unfolding thread_at
-views_left old new state pages root = record {
-  shown = λ thread index process shows. shows;
-  entries = λ thread index shows. ap (λ one. list_entry one thread index) root;
-  homes = λ thread index shows. refl;
-}
-
-kept_rest : (old new : Placement) (state : State) (pages : List Page) (memory memory' : Physical) → Keeps old state memory
-    → Keeps new (record state { pages = pages }) memory' → new.frame ≡ old.frame → new.root ≡ old.root
-    → AreAmong pages state.pages → KeepsRest old new state (record state { pages = pages }) memory memory'
-kept_rest old new state pages memory memory' keeps keeps' frames root among = record {
+-- so the rest is kept
+pub kept_rest : (old new : Placement) (state state' : State) (memory memory' : Physical) → Keeps old state memory
+    → Keeps new state' memory' → StaysInPlace new old state' state → KeepsRest old new state state' memory memory'
+kept_rest old new state state' memory memory' keeps keeps' stays = record {
   keeps = keeps';
-  frames = λ name there. ap (λ (frame : PageName → ℕ). frame name) frames;
-  views = views_left old new state pages root;
-  translations =
-      seen_stay old new state (record state { pages = pages }) memory memory' keeps keeps'
-      (λ name there. ap (λ (frame : PageName → ℕ). frame name) frames) (views_left old new state pages root);
-  addresses =
-      addresses_stay new old (record state { pages = pages }) state memory' memory keeps' keeps
-      (left_stays old new state pages frames root among);
+  stays = stays;
+  translations = seen_stay new old state' state memory' memory keeps' keeps stays.frames stays.views;
+  addresses = addresses_stay new old state' state memory' memory keeps' keeps stays;
 }
 
 -- ---- several pages
@@ -326,7 +312,7 @@ removed_keeps (name ∷ names) placement state memory new processes keeps are re
     (keeps_left placement state memory keeps name are.0.there are.0.shared_page processes are.0.seen removes.1.cleared removes.0
     removes.1.sets removes.1.hidden) are.1 removes.2
 
-without_among : (names : List PageName) (pages : List Page) → AreAmong (without_pages pages names) pages
+pub without_among : (names : List PageName) (pages : List Page) → AreAmong (without_pages pages names) pages
 without_among [] pages name page found = found
 without_among (one ∷ names) pages name page found =
     (without_found pages one name page (without_among names (without_page pages one) name page found)).1
@@ -347,6 +333,7 @@ pub pages_removed : (names : List PageName) (placement : Placement) (state : Sta
     → KeepsRest placement (placed_without_all placement names) state
     (record state { pages = without_pages state.pages names }) memory new
 pages_removed names placement state memory new processes keeps are removes =
-    kept_rest placement (placed_without_all placement names) state (without_pages state.pages names) memory new keeps
-    (removed_keeps names placement state memory new processes keeps are removes) (frames_left names placement)
-    (root_left names placement) (without_among names state.pages)
+    kept_rest placement (placed_without_all placement names) state (record state { pages = without_pages state.pages names }) memory
+    new keeps (removed_keeps names placement state memory new processes keeps are removes)
+    (left_stays placement (placed_without_all placement names) state (without_pages state.pages names) (frames_left names placement)
+    (root_left names placement) (without_among names state.pages))

@@ -1,5 +1,5 @@
 -- The laws of calls of a kernel: what is kept before a call is kept after it.
-use Rattle.std.specs.Prelude.{ℕ, ◌≡◌, ◌+◌, ◌-◌, ◌*◌, ◌^◌, ◌<◌, ◌≤◌, Bool, Some, None, List, [], ◌∷◌, ◌++◌, length, slice_get}
+use Rattle.std.specs.Prelude.{ℕ, ◌≡◌, ◌≢◌, ◌+◌, ◌-◌, ◌*◌, ◌^◌, ◌<◌, ◌≤◌, Bool, Some, None, List, [], ◌∷◌, ◌++◌, length, slice_get}
 use Rattle.sb_abi.specs.declared.space.TheConstants.{WINDOW_PAGES, HEAP_ADDRESS, MAX_STACKS, STACK_PAGES, BUFFER_PAGES}
 use Rattle.sb_memory.specs.Physical.{Physical}
 use Rattle.sb_memory.specs.declared.page.TheConstants.{PAGE_SIZE}
@@ -26,7 +26,7 @@ use Rattle.sb_shows.specs.Threads.{SameSight}
 use Rattle.sb_shows.specs.Placement.{Placement, IsThere, leaf_for, rights_for}
 use Rattle.sb_shows.specs.Keeping.{Keeps}
 use Rattle.sb_shows.specs.InPlace.{KeepsInPlace, KeepsRest}
-use Rattle.sb_shows.specs.Views.{AddsRootView, placed_view}
+use Rattle.sb_shows.specs.Views.{AddsRootView, placed_view, ClearsEntry, placed_on, without_view}
 
 -- what the tables do not show may change: registers, present views, flights, registrations, free frames and key words
 abbrev pub MovesKeep : Type 0
@@ -99,6 +99,15 @@ SoundRegistersKeep =
     → (adds : AddsPages placement (process ∷ []) (pages_from (server_stack_page process) 0 (STACK_PAGES * stacks)) mid new)
     → KeepsInPlace placement (placed_all placement (process ∷ []) (pages_from (server_stack_page process) 0 (STACK_PAGES * stacks)) mid new
     adds) state (with_server state process handler stacks) memory new
+
+-- A view of a server goes, whose buffer is not there: its entry is cleared in the list of the thread. The rest is kept.
+abbrev pub ViewRemovalsKeep : Type 0
+ViewRemovalsKeep =
+    (placement : Placement) (state : State) (memory new : Physical) (root : RootKernel) (number index : ℕ) (thread : Thread)
+    → Keeps placement state memory → slice_get state.threads number ≡ Some thread → index ≢ 0
+    → ((page : ℕ) → find_page state.pages (Buffer number index page) ≡ None)
+    → ClearsEntry placement root number index memory new
+    → KeepsRest placement (placed_on placement root) state (without_view state number thread index) memory new
 
 -- ---- bind
 

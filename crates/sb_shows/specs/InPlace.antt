@@ -85,11 +85,10 @@ pub record KeepsUnseen (old new : Placement) (state state' : State) (memory memo
   pub pages : SamePages state state'
   pub translations : SameTranslations old state memory memory'
 
--- A call that takes pages away keeps the rest: the state that it leaves is kept, each page that is left has its frame, and each view
--- stays. A translation is the same where the page that is seen stays, and one that gives an address gave the same before.
+-- A call that takes pages or views away keeps the rest: the state that it leaves is kept, and all that is left was there, in its
+-- place. A translation is what it was where the page that is seen is, and one that gives an address gave the same before.
 pub record KeepsRest (old new : Placement) (state state' : State) (memory memory' : Physical) : Type 0 where
   pub keeps : Keeps new state' memory'
-  pub frames : SameFrames old new state'
-  pub views : ViewsStay old new state state'
-  pub translations : SameWhereSeen old state state' memory memory'
+  pub stays : StaysInPlace new old state' state
+  pub translations : SameWhereSeen new state' state memory' memory
   pub addresses : SameAddresses new state' memory' memory

@@ -1,6 +1,6 @@
 //! What the calls of a kernel keep.
 
-ghost use Rattle.sb_shows.specs.CallLaws.{BindsKeep, FreeIndicesAgree, MovesKeep, PagesKeep, ProtectsKeep, RegistersKeep, RemovalsKeep, SoundBindsKeep, SoundProtectsKeep, SoundRegistersKeep};
+ghost use Rattle.sb_shows.specs.CallLaws.{BindsKeep, FreeIndicesAgree, MovesKeep, PagesKeep, ProtectsKeep, RegistersKeep, RemovalsKeep, SoundBindsKeep, SoundProtectsKeep, SoundRegistersKeep, ViewRemovalsKeep};
 ghost use Rattle.sb_shows.specs.Fills.{ClearsFill, ImagesFill, PagesFill, WordsFill};
 ghost use Rattle.sb_shows.specs.StartLaws.{FirstKeeps, ListsKeep, ProcessesKeep, ThreadsKeep};
 
@@ -15,6 +15,7 @@ pub fn calls_keep()
     ensures protects { ProtectsKeep }
     ensures pages { PagesKeep }
     ensures removals { RemovalsKeep }
+    ensures view_removals { ViewRemovalsKeep }
     ensures registers { RegistersKeep }
     ensures binds { BindsKeep }
     ensures sound_protects { SoundProtectsKeep }

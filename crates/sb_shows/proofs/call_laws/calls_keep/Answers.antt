@@ -2,6 +2,7 @@ use Rattle.sb_shows.proofs.Threads.{keeps_moved}
 use Rattle.sb_shows.proofs.Protecting.{protected_keeps}
 use Rattle.sb_shows.proofs.AddingPages.{pages_kept}
 use Rattle.sb_shows.proofs.Removing.{pages_removed}
+use Rattle.sb_shows.proofs.ClearingView.{view_cleared}
 use Rattle.sb_shows.proofs.Registering.{registered_keeps}
 use Rattle.sb_shows.proofs.Binding.{bound_keeps}
 use Rattle.sb_shows.proofs.Needs.{sound_protected_keeps, sound_registered_keeps, sound_bound_keeps}
@@ -18,6 +19,9 @@ returns-clause-pages c = λ placement state memory new processes pages. pages_ke
 
 pub returns-clause-removals : goal.returns-clause-removals
 returns-clause-removals c = λ placement state memory new processes names. pages_removed names placement state memory new processes
+
+pub returns-clause-view_removals : goal.returns-clause-view_removals
+returns-clause-view_removals c = view_cleared
 
 pub returns-clause-registers : goal.returns-clause-registers
 returns-clause-registers c = registered_keeps
