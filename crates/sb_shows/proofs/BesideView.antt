@@ -1,5 +1,5 @@
--- What threads see beside a view that comes or goes: each page number has the entry that it had, and other views show the pages that
--- they showed.
+-- What threads see beside a view that comes or goes: each page number has the entry that it had, and other views show the pages
+-- that they showed.
 use Rattle.std.proofs.Common.{◌≡◌, ◌≢◌, ◌∙◌, sym, ap, subst, ℕ, ◌-◌, ◌/◌, ◌%◌, ◌==◌, ◌&&◌, ◌||◌, ◌⊎◌, inl, inr, Bool, true, false, nat_le, nat_lt, List, refl}
 use Rattle.std.specs.Prelude.{Option, Some, None, if◌then◌else◌}
 use Rattle.std.specs.Option.{option_map, option_and_then}

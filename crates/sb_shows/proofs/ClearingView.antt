@@ -92,7 +92,8 @@ module _ (state : State) (number index : ℕ) (thread : Thread) (there : slice_g
   pub hidden : process_shown left.threads number index ≡ None
   hidden =
       shown_left index
-      ∙ (ap (λ (test : Bool). if test then Some thread.home else server_in (binding_with (without_index thread.bindings index) index))
+      ∙ (ap (λ (test : Bool). if test then Some thread.home else server_in
+      (binding_with (without_index thread.bindings index) index))
       (ne_eqb index 0 away) ∙ ap server_in (binding_gone thread.bindings index))
 
   same_view : (view : ℕ) → view ≢ index → process_shown left.threads number view ≡ process_shown state.threads number view
@@ -101,7 +102,8 @@ module _ (state : State) (number index : ℕ) (thread : Thread) (there : slice_g
       ∙ (ap (λ (found : Option Binding). if view == 0 then Some thread.home else server_in found)
       (binding_left thread.bindings index view differ) ∙ sym (shown_was view))
 
-  other_thread : (other view : ℕ) → other ≢ number → process_shown left.threads other view ≡ process_shown state.threads other view
+  other_thread : (other view : ℕ) → other ≢ number
+      → process_shown left.threads other view ≡ process_shown state.threads other view
   unfolding process_shown
   other_thread other view differ =
       ap (option_and_then (process_of_view view)) (set_other state.threads number other unbound differ)
@@ -178,7 +180,8 @@ module _ (placement : Placement) (state : State) (memory new : Physical) (root :
   sets_apart process within table number_table changed =
       let e : RootTable (ListOf number) ≡ GuestTable process table =
       sym list_purpose
-      ∙ (ap placement.purpose (sym (only_one clears.list.0 _ changed)) ∙ keeps.apart.guest process table within number_table) in cc
+      ∙ (ap placement.purpose (sym (only_one clears.list.0 _ changed))
+      ∙ keeps.apart.guest process table within number_table) in cc
 
   exposed_now : (frame rights : ℕ) → IsExposed memory frame rights → IsExposed new frame rights
   exposed_now frame rights exposed =

@@ -35,7 +35,8 @@ found_first : (count : ℕ) (bindings : List Binding) (first index : ℕ) → fi
 found_first zero bindings first index low high taken free = let same : first ≡ index = omega arith in same
 found_first (suc count) bindings first index low high taken free =
     found_by (has_index bindings first) bindings first count index refl low high taken free
-    (λ more. found_first count bindings (first + 1) index more (omega arith) (λ other above below. taken other (omega arith) below)
+    (λ more. found_first count bindings (first + 1) index more (omega arith)
+    (λ other above below. taken other (omega arith) below)
     free)
 
 -- ---- what a thread's views say of its bindings

@@ -216,7 +216,8 @@ pub view_shown_after : (old new : Placement) (state state' : State) (memory' : P
     → IsPlaced new state' thread index linear access
     (translation (memory_behind memory' (list_entry old.root thread index)) (cr3_of state thread) linear access)
 view_shown_after old new state state' memory' keeps stays thread index shows linear access =
-    let now = view_shown new state' memory' keeps thread index (shows.0, stays.views.shown thread index shows.0 shows.1) linear access
+    let still : IsView state' thread index = (shows.0, stays.views.shown thread index shows.0 shows.1) in
+    let now = view_shown new state' memory' keeps thread index still linear access
     in
     subst (λ eptp. IsPlaced new state' thread index linear access
     (translation (memory_behind memory' eptp) (cr3_of state thread) linear access)) (stays.views.entries thread index shows)

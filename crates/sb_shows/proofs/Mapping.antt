@@ -20,7 +20,8 @@ module _ (placement : Placement) (state : State) (apart : IsOneToOne placement s
     (before after : ℕ → ℕ → ℕ → ℕ → ℕ) (at leaf : ℕ) (window : IsInWindow at) (sees : ℕ → Bool)
     (here : (process thread view : ℕ) → process < length state.processes → sees process ≡ true
     → after process thread view (at / 4096) ≡ leaf)
-    (beside : (process thread view page : ℕ) → page ≢ at / 4096 → after process thread view page ≡ before process thread view page)
+    (beside : (process thread view page : ℕ) → page ≢ at / 4096
+    → after process thread view page ≡ before process thread view page)
     (unseen : (process thread view page : ℕ) → process < length state.processes → sees process ≡ false
     → after process thread view page ≡ before process thread view page) where
   -- the entries where some processes are done

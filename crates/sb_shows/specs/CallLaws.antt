@@ -66,8 +66,8 @@ PagesKeep =
     → KeepsInPlace placement (placed_all placement processes pages memory new adds) state
     (record state { pages = state.pages ++ pages }) memory new
 
--- Pages that are no view's own are taken away one after another: their entries are cleared in each process that shows them, and their
--- frames become unused. The rest is kept.
+-- Pages that are no view's own are taken away one after another: their entries are cleared in each process that shows them, and
+-- their frames become unused. The rest is kept.
 abbrev pub RemovalsKeep : Type 0
 RemovalsKeep =
     (placement : Placement) (state : State) (memory new : Physical) (processes : List ℕ) (names : List PageName)
@@ -77,6 +77,10 @@ RemovalsKeep =
     → KeepsRest placement (placed_without_all placement names) state
     (record state { pages = without_pages state.pages names }) memory new
 
+-- the pages of the stacks of a server
+abbrev pub pages_of_stacks : ℕ → ℕ → List Page
+pages_of_stacks process stacks = pages_from (server_stack_page process) 0 (STACK_PAGES * stacks)
+
 -- register: the pool word is put, and the pages of the stacks are added; what was there stays in its place
 abbrev pub RegistersKeep : Type 0
 RegistersKeep =
@@ -85,9 +89,9 @@ RegistersKeep =
     → find_page state.pages (Pool process) ≡ Some pool
     → ((page : ℕ) → find_page state.pages (ServerStack process page) ≡ None)
     → mid ≡ with_bytes memory (put_word memory.bytes (PAGE_SIZE * placement.frame (Pool process) + 0) (2 ^ stacks - 1))
-    → (adds : AddsPages placement (process ∷ []) (pages_from (server_stack_page process) 0 (STACK_PAGES * stacks)) mid new)
-    → KeepsInPlace placement (placed_all placement (process ∷ []) (pages_from (server_stack_page process) 0 (STACK_PAGES * stacks)) mid new
-    adds) state (with_server state process handler stacks) memory new
+    → (adds : AddsPages placement (process ∷ []) (pages_of_stacks process stacks) mid new)
+    → KeepsInPlace placement (placed_all placement (process ∷ []) (pages_of_stacks process stacks) mid new adds) state
+    (with_server state process handler stacks) memory new
 
 -- register of a process that is no server, where the state is sound
 abbrev pub SoundRegistersKeep : Type 0
@@ -96,9 +100,9 @@ SoundRegistersKeep =
     → IsSound state → Keeps placement state memory → process < length state.processes
     → registration_at state process ≡ None → stacks ≤ MAX_STACKS
     → mid ≡ with_bytes memory (put_word memory.bytes (PAGE_SIZE * placement.frame (Pool process) + 0) (2 ^ stacks - 1))
-    → (adds : AddsPages placement (process ∷ []) (pages_from (server_stack_page process) 0 (STACK_PAGES * stacks)) mid new)
-    → KeepsInPlace placement (placed_all placement (process ∷ []) (pages_from (server_stack_page process) 0 (STACK_PAGES * stacks)) mid new
-    adds) state (with_server state process handler stacks) memory new
+    → (adds : AddsPages placement (process ∷ []) (pages_of_stacks process stacks) mid new)
+    → KeepsInPlace placement (placed_all placement (process ∷ []) (pages_of_stacks process stacks) mid new adds) state
+    (with_server state process handler stacks) memory new
 
 -- A view of a server goes, whose buffer is not there: its entry is cleared in the list of the thread. The rest is kept.
 abbrev pub ViewRemovalsKeep : Type 0
@@ -118,6 +122,10 @@ FreeIndicesAgree =
     → Keeps placement state memory → slice_get state.threads number ≡ Some thread → IsLowestFree placement.root number index
     → free_index thread.bindings ≡ index
 
+-- the pages of the buffer of a binding
+abbrev pub pages_of_buffer : ℕ → ℕ → List Page
+pages_of_buffer thread index = pages_from (buffer_page thread index) 0 BUFFER_PAGES
+
 -- bind: a view of the server is added, and then the pages of its buffer; what was there stays in its place
 abbrev pub BindsKeep : Type 0
 BindsKeep =
@@ -130,10 +138,10 @@ BindsKeep =
     → (view : AddsRootView placement root number binding.index thread.home binding.server
     (server_words number thread binding (handler_in (registration_at state binding.server))) memory mid)
     → (adds : AddsPages (placed_view placement root number binding.index view.view) (thread.home ∷ binding.server ∷ [])
-    (pages_from (buffer_page number binding.index) 0 BUFFER_PAGES) mid new)
+    (pages_of_buffer number binding.index) mid new)
     → KeepsInPlace placement
     (placed_all (placed_view placement root number binding.index view.view) (thread.home ∷ binding.server ∷ [])
-    (pages_from (buffer_page number binding.index) 0 BUFFER_PAGES) mid new adds) state (with_binding state number thread binding) memory new
+    (pages_of_buffer number binding.index) mid new adds) state (with_binding state number thread binding) memory new
 
 -- bind of a thread, where the state is sound
 abbrev pub SoundBindsKeep : Type 0
@@ -145,7 +153,7 @@ SoundBindsKeep =
     → (view : AddsRootView placement root number binding.index thread.home binding.server
     (server_words number thread binding (handler_in (registration_at state binding.server))) memory mid)
     → (adds : AddsPages (placed_view placement root number binding.index view.view) (thread.home ∷ binding.server ∷ [])
-    (pages_from (buffer_page number binding.index) 0 BUFFER_PAGES) mid new)
+    (pages_of_buffer number binding.index) mid new)
     → KeepsInPlace placement
     (placed_all (placed_view placement root number binding.index view.view) (thread.home ∷ binding.server ∷ [])
-    (pages_from (buffer_page number binding.index) 0 BUFFER_PAGES) mid new adds) state (with_binding state number thread binding) memory new
+    (pages_of_buffer number binding.index) mid new adds) state (with_binding state number thread binding) memory new

@@ -25,8 +25,8 @@ SameFrames old new state = (name : PageName) → IsThere state.pages name → ne
 abbrev pub IsThereAs : List Page → PageName → Bool → Type 0
 IsThereAs pages name executable = (page : Page) × (find_page pages name ≡ Some page) × (page.executable ≡ executable)
 
--- Each view that was there stays: it shows the same process, behind the same entry of its list, and its thread is at home where it
--- was.
+-- Each view that was there stays: it shows the same process, behind the same entry of its list, and its thread has the same
+-- home.
 pub record ViewsStay (old new : Placement) (state state' : State) : Type 0 where
   pub shown : (thread index process : ℕ) → process_shown state.threads thread index ≡ Some process
       → process_shown state'.threads thread index ≡ Some process

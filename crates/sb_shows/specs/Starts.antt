@@ -60,10 +60,11 @@ pub record IsFirst (state : State) (memory : Physical) : Type 0 where
 abbrev pub ExposesTables : RootKernel → TableSet → ℕ → ℕ → Physical → Physical → Type 0
 ExposesTables root set table zero old new = new ≡ old
 ExposesTables root set table (suc count) old new =
-    (mid : Physical) × ExposesFrame root old mid (table_frame set table) RIGHT_READ × ExposesTables root set (table + 1) count mid new
+    (mid : Physical) × ExposesFrame root old mid (table_frame set table) RIGHT_READ
+    × ExposesTables root set (table + 1) count mid new
 
--- The tables of a process are built in frames that were not used; the entries of the three pages that each view has of its own are
--- set; and the tables below the root are exposed, for walks behind an EPT to read.
+-- The tables of a process are built in frames that were not used; the entries of the three pages that each view has of its own
+-- are set; and the tables below the root are exposed, for walks behind an EPT to read.
 pub record AddsTables (placement : Placement) (process : ℕ) (old new : Physical) : Type 0 where
   pub set : TableSet
   pub eleven : length set.tables ≡ 11

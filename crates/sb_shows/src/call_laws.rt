@@ -4,12 +4,12 @@ ghost use Rattle.sb_shows.specs.CallLaws.{BindsKeep, FreeIndicesAgree, MovesKeep
 ghost use Rattle.sb_shows.specs.Fills.{ClearsFill, ImagesFill, PagesFill, WordsFill};
 ghost use Rattle.sb_shows.specs.StartLaws.{FirstKeeps, ListsKeep, ProcessesKeep, ThreadsKeep};
 
-/// What the kernel's calls leave is kept as well: changes that tables do not show, a change of a heap page's mode, new pages, pages
-/// that go, a registration, and a binding. Where pages are added, those that were there stay in their frames, and each translation
-/// that gave an address gives the same; where pages go, so do those that are left.
+/// What the kernel's calls leave is kept as well: changes that tables do not show, a change of a heap page's mode, new pages,
+/// pages and views that go, a registration, and a binding. Where pages are added, those that were there stay in their frames, and
+/// each translation that gave an address gives the same; where pages or views go, so do those that are left.
 ///
-/// `sound_protects`, `sound_registers` and `sound_binds` say it where the state is sound: the pages that they ask for are there, and
-/// those that are added are not.
+/// `sound_protects`, `sound_registers` and `sound_binds` say it where the state is sound: the pages that they ask for are there,
+/// and those that are added are not.
 pub fn calls_keep()
     ensures moves { MovesKeep }
     ensures protects { ProtectsKeep }
@@ -28,8 +28,8 @@ pub fn free_indices_agree()
     ensures indices { FreeIndicesAgree }
 {}
 
-/// What the steps of a start leave is kept: memory before there are processes and threads, a process with its tables, a list, and a
-/// thread with its home view. No step changes a translation.
+/// What the steps of a start leave is kept: memory before there are processes and threads, a process with its tables, a list, and
+/// a thread with its home view. No step changes a translation.
 pub fn start_steps_keep()
     ensures first { FirstKeeps }
     ensures processes { ProcessesKeep }
@@ -37,8 +37,8 @@ pub fn start_steps_keep()
     ensures threads { ThreadsKeep }
 {}
 
-/// What fills a frame that a page is added in: the frame is cleared, a page is put into it, bytes of an image are put over a filler,
-/// or a word is put.
+/// What fills a frame that a page is added in: the frame is cleared, a page is put into it, bytes of an image are put over a
+/// filler, or a word is put.
 pub fn frames_are_filled()
     ensures cleared { ClearsFill }
     ensures pages { PagesFill }
