@@ -334,7 +334,7 @@ pub pages_removed : (names : List PageName) (placement : Placement) (state : Sta
     (record state { pages = without_pages state.pages names }) memory new
 pages_removed names placement state memory new processes keeps are removes =
     kept_rest placement (placed_without_all placement names) state
-    (record state { pages = without_pages state.pages names }) memory new keeps (removed_keeps names placement state memory new processes keeps are removes)
+    (record state { pages = without_pages state.pages names }) memory new keeps
+    (removed_keeps names placement state memory new processes keeps are removes)
     (left_stays placement (placed_without_all placement names) state (without_pages state.pages names)
-    (frames_left names placement)
-    (root_left names placement) (without_among names state.pages))
+    (frames_left names placement) (root_left names placement) (without_among names state.pages))
