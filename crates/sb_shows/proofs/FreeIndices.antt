@@ -72,7 +72,7 @@ positive (suc index) away = omega arith
 pub free_indices_agree : FreeIndicesAgree
 unfolding free_index
 free_indices_agree placement state memory number index thread keeps there lowest =
-    let few = lowest.inside in
+    let few : index < 16 = lowest.inside in
     let away = free_away placement state memory keeps number index thread there lowest.free in
     found_first 14 thread.bindings 1 index (positive index away) (omega arith)
     (λ other above below.
