@@ -19,8 +19,8 @@ module _ (frame frame' : PageName → ℕ) (old new : State) (thread index : ℕ
     (found : (name : PageName) → name ≢ Record thread index → name ≢ Scratch thread index
     → find_page new.pages name ≡ find_page old.pages name)
     (frames : (name : PageName) → name ≢ Record thread index → name ≢ Scratch thread index → frame' name ≡ frame name)
-    (buffer_gone : (other page : ℕ) → (other ≡ index) ⊎ (0 ≡ index) → find_page old.pages (Buffer thread other page) ≡ None)
-    (stack_gone : 0 ≡ index → (page : ℕ)
+    (absent_buffer : (other page : ℕ) → (other ≡ index) ⊎ (0 ≡ index) → find_page old.pages (Buffer thread other page) ≡ None)
+    (absent_stack : 0 ≡ index → (page : ℕ)
     → (find_page old.pages (Save thread) ≡ None) × (find_page old.pages (Stack thread page) ≡ None)) where
   own_record : is_own (Record thread index) ≡ true
   unfolding is_own
@@ -111,7 +111,7 @@ module _ (frame frame' : PageName → ℕ) (old new : State) (thread index : ℕ
       (process_shown new.threads other second) process)
       (is_process (process_shown old.threads other 0) process || is_process (process_shown old.threads other second) process)
       (Buffer other second page) (buffer_own other second page)
-      (subst (λ n. find_page old.pages (Buffer n second page) ≡ None) (sym same) (buffer_gone second page which_one))
+      (subst (λ n. find_page old.pages (Buffer n second page) ≡ None) (sym same) (absent_buffer second page which_one))
 
   buffer_by : (other second page process : ℕ) → Place thread index other second → Place thread index other 0
       → SameEntry (BufferOf new.threads other second page process) (BufferOf old.threads other second page process)
@@ -138,7 +138,7 @@ module _ (frame frame' : PageName → ℕ) (old new : State) (thread index : ℕ
   stack_by : (process page : ℕ) → Place thread index (page / 8) 0
       → SameEntry (stack_name new.threads process page) (stack_name old.threads process page)
   stack_by process page (here same again) =
-      let gone = stack_gone again (page % 8 - 4) in
+      let gone = absent_stack again (page % 8 - 4) in
       entry_if (page % 8 == 0) _ _ _ _
       (absent_entry (is_process (process_shown new.threads (page / 8) 0) process)
       (is_process (process_shown old.threads (page / 8) 0) process) (Save (page / 8)) (save_own (page / 8))
@@ -216,7 +216,7 @@ module _ (frame frame' : PageName → ℕ) (old new : State) (thread index : ℕ
       (process_shown new.threads other second) process)
       (is_process (process_shown old.threads other 0) process || is_process (process_shown old.threads other second) process)
       (Buffer other second page) (λ e. cc) (λ e. cc)
-      (subst (λ n. find_page old.pages (Buffer n second page) ≡ None) (sym same) (buffer_gone second page which_one))
+      (subst (λ n. find_page old.pages (Buffer n second page) ≡ None) (sym same) (absent_buffer second page which_one))
 
   seen_buffer_by : (other second page process : ℕ) → Place thread index other second → Place thread index other 0
       → SameSeen (BufferOf new.threads other second page process) (BufferOf old.threads other second page process)
@@ -239,7 +239,7 @@ module _ (frame frame' : PageName → ℕ) (old new : State) (thread index : ℕ
   seen_stack_by : (process page : ℕ) → Place thread index (page / 8) 0
       → SameSeen (stack_name new.threads process page) (stack_name old.threads process page)
   seen_stack_by process page (here same again) =
-      let gone = stack_gone again (page % 8 - 4) in
+      let gone = absent_stack again (page % 8 - 4) in
       seen_if (page % 8 == 0) _ _ _ _
       (seen_absent (is_process (process_shown new.threads (page / 8) 0) process)
       (is_process (process_shown old.threads (page / 8) 0) process) (Save (page / 8)) (λ e. cc) (λ e. cc)

@@ -152,8 +152,8 @@ module _ (placement : Placement) (state : State) (memory new : Physical) (root :
     (keeps : Keeps placement state memory) (there : slice_get state.threads number ≡ Some thread) (away : index ≢ 0)
     (no_buffer : (page : ℕ) → find_page state.pages (Buffer number index page) ≡ None)
     (clears : ClearsEntry placement root number index memory new) where
-  abbrev left : State
-  left = without_view state number thread index
+  abbrev remains : State
+  remains = without_view state number thread index
 
   abbrev after : Placement
   after = placed_on placement root
@@ -196,7 +196,7 @@ module _ (placement : Placement) (state : State) (memory new : Physical) (root :
       → (find_page state.pages (Save number) ≡ None) × (find_page state.pages (Stack number page) ≡ None)
   stack_gone zero_index page = absurd (away (sym zero_index))
 
-  guest_now : (process : ℕ) → process < length state.processes → HasGuest after left new process
+  guest_now : (process : ℕ) → process < length state.processes → HasGuest after remains new process
   guest_now process within =
       let guest = keeps.leads.guests process within in
       let size = keeps.leads.stands.whole.size in
@@ -211,16 +211,16 @@ module _ (placement : Placement) (state : State) (memory new : Physical) (root :
             (sets_apart process within) linear access
             ∙ guest.maps other seen linear access
             ∙ set_walked_same (entries_of placement.frame state other seen process)
-            (entries_of placement.frame left other seen process) linear access
+            (entries_of placement.frame remains other seen process) linear access
             (λ inside. sym
-            (name_entries placement.frame placement.frame state left number index
+            (name_entries placement.frame placement.frame state remains number index
             (others_left state number index thread there away) (found_left state number index thread there away)
             (λ name first second. refl) buffer_gone stack_gone other seen (linear / 4096) process).same);
         above = guest.above;
         readable = λ table first number_table. exposed_now _ 1 (guest.readable table first number_table);
       }
 
-  page_now : (name : PageName) (page : Page) → find_page left.pages name ≡ Some page → is_own name ≡ false
+  page_now : (name : PageName) (page : Page) → find_page remains.pages name ≡ Some page → is_own name ≡ false
       → HasPage after new name page
   page_now name page found own =
       let kept = keeps.leads.pages name page (was_there state number index thread there away name page found) own in
@@ -241,11 +241,11 @@ module _ (placement : Placement) (state : State) (memory new : Physical) (root :
       let first : other ≡ number = cc in let again : second ≡ index = cc in differ first again
 
   there_still : (name : PageName) → name ≢ Record number index → name ≢ Scratch number index → IsThere state.pages name
-      → IsThere left.pages name
+      → IsThere remains.pages name
   there_still name first second was = (was.0, found_left state number index thread there away name first second ∙ was.1)
 
   view_now : (other second process : ℕ) → (other ≡ number → second ≡ index → ⊥)
-      → HasView placement state other second process → HasView after left other second process
+      → HasView placement state other second process → HasView after remains other second process
   view_now other second process differ has =
       let home = sym (home_left state number index thread there away other) in
       record {
@@ -266,16 +266,16 @@ module _ (placement : Placement) (state : State) (memory new : Physical) (root :
       }
 
   -- the view is hidden
-  not_shown : (other second process : ℕ) → process_shown left.threads other second ≡ Some process → other ≡ number
+  not_shown : (other second process : ℕ) → process_shown remains.threads other second ≡ Some process → other ≡ number
       → second ≡ index → ⊥
   not_shown other second process shows same_thread again =
-      let none : process_shown left.threads other second ≡ None =
-      ap (λ n. process_shown left.threads n second) same_thread
-      ∙ (ap (process_shown left.threads number) again ∙ hidden state number index thread there away) in
+      let none : process_shown remains.threads other second ≡ None =
+      ap (λ n. process_shown remains.threads n second) same_thread
+      ∙ (ap (process_shown remains.threads number) again ∙ hidden state number index thread there away) in
       let e = sym none ∙ shows in cc
 
-  views_now : (other second process : ℕ) → process_shown left.threads other second ≡ Some process
-      → HasView after left other second process
+  views_now : (other second process : ℕ) → process_shown remains.threads other second ≡ Some process
+      → HasView after remains other second process
   views_now other second process shows =
       let differ = not_shown other second process shows in
       view_now other second process differ
@@ -283,7 +283,7 @@ module _ (placement : Placement) (state : State) (memory new : Physical) (root :
       (sym (others_left state number index thread there away other second differ) ∙ shows))
 
   only_by : (other second : ℕ) → Place number index other second → IsSet root other second
-      → (process : ℕ) × (process_shown left.threads other second ≡ Some process)
+      → (process : ℕ) × (process_shown remains.threads other second ≡ Some process)
   only_by other second (here same_thread again) set =
       let unset : is_listed (view_of root other second) ≡ false =
       ap (λ n. is_listed (view_of root n second)) same_thread
@@ -296,7 +296,7 @@ module _ (placement : Placement) (state : State) (memory new : Physical) (root :
       let old = keeps.leads.only other second (sym (ap is_listed (view_is other second differ)) ∙ set) in
       (old.0, others_left state number index thread there away other second differ ∙ old.1)
 
-  leads_now : Leads after left new
+  leads_now : Leads after remains new
   leads_now = record {
     stands = clears.stands;
     guests = guest_now;
@@ -312,7 +312,7 @@ module _ (placement : Placement) (state : State) (memory new : Physical) (root :
       sym (unlisted_uses placement.root number index clears.view keeps.leads.stands.shape small few clears.was part)
       ∙ (ap (λ one. used_frame one part) (sym clears.cleared) ∙ used)
 
-  apart_now : IsOneToOne after left
+  apart_now : IsOneToOne after remains
   apart_now = record {
     base = keeps.apart.base;
     root = λ part frame table used. keeps.apart.root part frame table (use_was part frame used);
@@ -327,7 +327,7 @@ module _ (placement : Placement) (state : State) (memory new : Physical) (root :
       (one_holds_none placement clears.list.0 (λ name is. let e = sym list_purpose ∙ is in cc))
       (record { before = λ one page found. (page, found, refl) })
 
-  keeps_left : Keeps after left new
+  keeps_left : Keeps after remains new
   keeps_left = record {
     leads = leads_now;
     apart = apart_now;
@@ -339,7 +339,7 @@ module _ (placement : Placement) (state : State) (memory new : Physical) (root :
         };
   }
 
-  left_stays : StaysInPlace after placement left state
+  left_stays : StaysInPlace after placement remains state
   left_stays = record {
     frames = λ name still. refl;
     modes = λ name page found. (page, was_there state number index thread there away name page found, refl);

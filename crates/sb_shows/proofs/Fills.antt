@@ -14,7 +14,8 @@ use Rattle.sb_trace.specs.PageWords.{zeros}
 use Rattle.sb_trace.specs.Start.{page_padded}
 use Rattle.sb_shows.specs.Fills.{ClearsFill, PagesFill, ImagesFill, WordsFill}
 
-zero_at : (offset : ℕ) → offset < 4096 → get_or zeros offset 0 ≡ 0
+-- a page of zeros has zeros
+pub zero_at : (offset : ℕ) → offset < 4096 → get_or zeros offset 0 ≡ 0
 unfolding zeros
 zero_at offset below = get_or-replicate 4096 offset 0 0 below
 

@@ -30,18 +30,17 @@ use Rattle.sb_shows.proofs.Unseen.{seen_stay}
 
 -- ---- the pages without it
 
-other_by : (test : Bool) (page : Page) (name other : PageName) (rest : Option Page) → same_name page.name name ≡ test
-    → same_name name other ≡ false → test ≡ true → (if same_name page.name other then Some page else rest) ≡ rest
-other_by true page name other rest is differ yes =
+other_by : (page : Page) (name other : PageName) (rest : Option Page) → same_name page.name name ≡ true
+    → same_name name other ≡ false → (if same_name page.name other then Some page else rest) ≡ rest
+other_by page name other rest is differ =
     ap (λ (test : Bool). if test then Some page else rest) (ap (λ n. same_name n other) (name_same page.name name is) ∙ differ)
-other_by false page name other rest is differ yes = cc
 
 without_by : (test : Bool) (pages : List Page) (page : Page) (name other : PageName) → same_name page.name name ≡ test
     → same_name name other ≡ false → find_page (without_page pages name) other ≡ find_page pages other
     → find_page (if test then without_page pages name else page ∷ without_page pages name) other
     ≡ (if same_name page.name other then Some page else find_page pages other)
 without_by true pages page name other is differ rest =
-    rest ∙ sym (other_by true page name other (find_page pages other) is differ refl)
+    rest ∙ sym (other_by page name other (find_page pages other) is differ)
 without_by false pages page name other is differ rest =
     ap (λ (found : Option Page). if same_name page.name other then Some page else found) rest
 

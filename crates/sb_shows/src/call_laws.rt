@@ -25,7 +25,7 @@ pub fn calls_keep()
 
 /// The index that the root kernel gives a view is the lowest that the thread has free.
 pub fn free_indices_agree()
-    ensures indices { FreeIndicesAgree }
+    ensures { FreeIndicesAgree }
 {}
 
 /// What the steps of a start leave is kept: memory before there are processes and threads, a process with its tables, a list, and
