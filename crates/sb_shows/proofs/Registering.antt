@@ -24,12 +24,13 @@ use Rattle.sb_trace.specs.Windows.{name_at, is_within, is_in_buffers}
 use Rattle.sb_state.proofs.Names.{name_other}
 use Rattle.sb_state.proofs.PageLists.{found_other}
 use Rattle.sb_state.proofs.Start.{zeros_size}
+use Rattle.sb_shows.specs.CallLaws.{RegistersKeep}
 use Rattle.sb_shows.specs.Placement.{Placement, is_own}
 use Rattle.sb_shows.specs.Keeping.{Keeps}
 use Rattle.sb_shows.specs.Windows.{page_number}
-use Rattle.sb_shows.specs.Calls.{AddsPages, placed_all, IsSeenIn, AreNewPages}
+use Rattle.sb_shows.specs.Calls.{placed_all, IsSeenIn, AreNewPages}
 use Rattle.sb_shows.specs.Threads.{SameSight}
-use Rattle.sb_shows.specs.InPlace.{StaysInPlace, KeepsInPlace}
+use Rattle.sb_shows.specs.InPlace.{StaysInPlace}
 use Rattle.sb_shows.proofs.Numbers.{name_number}
 use Rattle.sb_memory.proofs.Words.{word_held}
 use Rattle.sb_shows.proofs.Putting.{replaced_shapes, keeps_replaced}
@@ -187,14 +188,7 @@ server_sight state process handler stacks = record {
 }
 
 -- the pool word is set, then the pages of the stacks are added in their order; what was there stays in its place
-pub registered_keeps : (placement : Placement) (state : State) (memory mid new : Physical) (process handler stacks : ℕ)
-    (pool : Page)
-    → Keeps placement state memory → process < length state.processes → stacks ≤ 16
-    → find_page state.pages (Pool process) ≡ Some pool → ((page : ℕ) → find_page state.pages (ServerStack process page) ≡ None)
-    → mid ≡ with_bytes memory (put_word memory.bytes (4096 * placement.frame (Pool process) + 0) (2 ^ stacks - 1))
-    → (adds : AddsPages placement (process ∷ []) (pages_from (server_stack_page process) 0 (4 * stacks)) mid new)
-    → KeepsInPlace placement (placed_all placement (process ∷ []) (pages_from (server_stack_page process) 0 (4 * stacks)) mid new
-    adds) state (with_server state process handler stacks) memory new
+pub registered_keeps : RegistersKeep
 unfolding with_word with_contents
 registered_keeps placement state memory mid new process handler stacks pool keeps there few found none written adds =
     let pooled_keeps =

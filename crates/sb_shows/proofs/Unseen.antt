@@ -30,13 +30,13 @@ use Rattle.sb_shows.specs.Placement.{Placement, IsThere, is_own, guest_page, lea
 use Rattle.sb_shows.specs.Keeping.{HasView, Leads, Keeps}
 use Rattle.sb_shows.specs.Related.{cr3_of}
 use Rattle.sb_shows.specs.Shows.{IsView}
-use Rattle.sb_shows.specs.InPlace.{SameFrames, ViewsStay, StaysInPlace, SamePages, KeepsUnseen}
+use Rattle.sb_shows.specs.InPlace.{SameFrames, ViewsStay, StaysInPlace, SamePages, KeepsFrames, KeepsUnseen}
 use Rattle.sb_shows.specs.Laws.{TranslationsStayWhereSeen}
 use Rattle.sb_shows.proofs.Names.{IsOwnOf, own_name}
 use Rattle.sb_shows.proofs.Leaves.{guest_permits, leaf_answered}
 use Rattle.sb_shows.proofs.Nested.{OwnPage, own_page, base_page, outside, seen_of, walk_is}
 use Rattle.sb_shows.proofs.Bytes.{IsFound, seen_there, small_frames, pointer_is}
-use Rattle.sb_shows.proofs.InPlace.{kept_in_place}
+use Rattle.sb_shows.proofs.InPlace.{views_paged, kept_in_place}
 
 -- ---- what an address of a window answers
 
@@ -243,4 +243,15 @@ kept_unseen old new state state' memory memory' keeps keeps' stays same = record
   translations = λ thread index shows linear access.
       seen_stay old new state state' memory memory' keeps keeps' stays.frames stays.views thread index shows linear access
       (same thread index shows (linear / 4096));
+}
+
+-- and one that changes pages alone, and no frame
+pub kept_frames : (placement : Placement) (state : State) (pages : List Page) (memory memory' : Physical)
+    → Keeps placement state memory → Keeps placement (record state { pages = pages }) memory'
+    → KeepsFrames placement state (record state { pages = pages }) memory memory'
+kept_frames placement state pages memory memory' keeps keeps' = record {
+  keeps = keeps';
+  translations =
+      seen_stay placement placement state (record state { pages = pages }) memory memory' keeps keeps' (λ name there. refl)
+      (views_paged placement state pages);
 }

@@ -25,7 +25,7 @@ use Rattle.sb_shows.specs.Calls.{SetsPage, ExposesFrame, AddsPages, placed_all, 
 use Rattle.sb_shows.specs.Threads.{SameSight}
 use Rattle.sb_shows.specs.Placement.{Placement, IsThere, leaf_for, rights_for}
 use Rattle.sb_shows.specs.Keeping.{Keeps}
-use Rattle.sb_shows.specs.InPlace.{KeepsInPlace, KeepsRest}
+use Rattle.sb_shows.specs.InPlace.{KeepsFrames, KeepsInPlace, KeepsRest}
 use Rattle.sb_shows.specs.Views.{AddsRootView, placed_view, ClearsEntry, placed_on, without_view}
 
 -- what the tables do not show may change: registers, present views, flights, registrations, free frames and key words
@@ -33,7 +33,7 @@ abbrev pub MovesKeep : Type 0
 MovesKeep = (placement : Placement) (old new : State) (memory : Physical) → SameSight old new → Keeps placement old memory
     → Keeps placement new memory
 
--- protect: one lowest entry is set, and one frame exposed with other rights
+-- protect: one lowest entry is set, and one frame exposed with other rights; all frames stay
 abbrev pub ProtectsKeep : Type 0
 ProtectsKeep =
     (placement : Placement) (state : State) (memory mid new : Physical) (process page : ℕ) (executable : Bool)
@@ -43,7 +43,7 @@ ProtectsKeep =
     (leaf_for (placement.frame (Heap process page)) (mode_of (Heap process page) executable))
     → ExposesFrame placement.root mid new (placement.frame (Heap process page))
     (rights_for (mode_of (Heap process page) executable))
-    → Keeps placement (with_heap_mode state process page executable) new
+    → KeepsFrames placement state (with_heap_mode state process page executable) memory new
 
 -- protect of a page of a heap, where the state is sound
 abbrev pub SoundProtectsKeep : Type 0
@@ -54,7 +54,7 @@ SoundProtectsKeep =
     (leaf_for (placement.frame (Heap process page)) (mode_of (Heap process page) executable))
     → ExposesFrame placement.root mid new (placement.frame (Heap process page))
     (rights_for (mode_of (Heap process page) executable))
-    → Keeps placement (with_heap_mode state process page executable) new
+    → KeepsFrames placement state (with_heap_mode state process page executable) memory new
 
 -- Pages are added one after another, in frames that were not used. What was there stays in its place.
 abbrev pub PagesKeep : Type 0

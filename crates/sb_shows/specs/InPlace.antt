@@ -85,6 +85,12 @@ pub record KeepsUnseen (old new : Placement) (state state' : State) (memory memo
   pub pages : SamePages state state'
   pub translations : SameTranslations old state memory memory'
 
+-- A call that changes modes keeps all frames: the state that it leaves is kept by the same placement, and each translation is the
+-- same where the page that is seen is, in its mode.
+pub record KeepsFrames (placement : Placement) (state state' : State) (memory memory' : Physical) : Type 0 where
+  pub keeps : Keeps placement state' memory'
+  pub translations : SameWhereSeen placement state state' memory memory'
+
 -- A call that takes pages or views away keeps the rest: the state that it leaves is kept, and all that is left was there, in its
 -- place. A translation is what it was where the page that is seen is, and one that gives an address gave the same before.
 pub record KeepsRest (old new : Placement) (state state' : State) (memory memory' : Physical) : Type 0 where

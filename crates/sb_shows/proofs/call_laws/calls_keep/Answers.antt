@@ -1,18 +1,17 @@
 use Rattle.sb_shows.proofs.Threads.{keeps_moved}
-use Rattle.sb_shows.proofs.Protecting.{protected_keeps}
 use Rattle.sb_shows.proofs.AddingPages.{pages_kept}
 use Rattle.sb_shows.proofs.Removing.{pages_removed}
 use Rattle.sb_shows.proofs.ClearingView.{view_cleared}
 use Rattle.sb_shows.proofs.Registering.{registered_keeps}
 use Rattle.sb_shows.proofs.Binding.{bound_keeps}
-use Rattle.sb_shows.proofs.Needs.{sound_protected_keeps, sound_registered_keeps, sound_bound_keeps}
+use Rattle.sb_shows.proofs.Needs.{protected_frames, sound_protected_frames, sound_registered_keeps, sound_bound_keeps}
 use Rattle.sb_shows.proofs.call_laws.calls_keep.Goals as goal
 
 pub returns-clause-moves : goal.returns-clause-moves
 returns-clause-moves c = keeps_moved
 
 pub returns-clause-protects : goal.returns-clause-protects
-returns-clause-protects c = protected_keeps
+returns-clause-protects c = protected_frames
 
 pub returns-clause-pages : goal.returns-clause-pages
 returns-clause-pages c = λ placement state memory new processes pages. pages_kept pages placement state memory new processes
@@ -30,7 +29,7 @@ pub returns-clause-binds : goal.returns-clause-binds
 returns-clause-binds c = bound_keeps
 
 pub returns-clause-sound_protects : goal.returns-clause-sound_protects
-returns-clause-sound_protects c = sound_protected_keeps
+returns-clause-sound_protects c = sound_protected_frames
 
 pub returns-clause-sound_registers : goal.returns-clause-sound_registers
 returns-clause-sound_registers c = sound_registered_keeps
