@@ -26,3 +26,7 @@ pub mod Joining
 pub mod Processes
 pub mod Seen
 pub mod Needs
+pub mod Fetched
+pub mod Refuted
+pub mod Example
+pub mod Dumped
