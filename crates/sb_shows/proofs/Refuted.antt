@@ -2,6 +2,7 @@
 use Rattle.std.proofs.Common.{◌≡◌, ◌≢◌, ◌∙◌, sym, ap, subst, ℕ, ◌/◌, ◌<◌, Bool, true, false, List, length, Result, Ok, Err, refl}
 use Rattle.std.specs.Prelude.{Option, Some, None, if◌then◌else◌}
 use Rattle.std.specs.Option.{option_map, option_and_then}
+use Rattle.sb_abi.specs.declared.trampoline.TheConstants.{POOL_ADDRESS}
 use Rattle.sb_memory.specs.Physical.{Physical}
 use Rattle.sb_memory.specs.Reading.{byte_read}
 use Rattle.sb_memory.specs.declared.address.Access.{Access}
@@ -14,7 +15,7 @@ use Rattle.sb_nested.specs.View.{View, view, place_of, view_byte, byte_behind, b
 use Rattle.sb_state.specs.declared.page.PageName.{PageName}
 use Rattle.sb_state.specs.declared.page.PageName.TheVariants.{Data, Pool}
 use Rattle.sb_state.specs.declared.page.Page.{Page}
-use Rattle.sb_state.specs.declared.page.Seen.{Seen}
+use Rattle.sb_state.specs.declared.page.SeenPage.{SeenPage}
 use Rattle.sb_state.specs.declared.page.Mode.{Mode}
 use Rattle.sb_state.specs.declared.page.Mode.TheVariants as mode
 use Rattle.sb_trace.specs.PageName.{permits}
@@ -23,7 +24,7 @@ use Rattle.sb_trace.specs.Windows.{name_at, page_by_name, page_and_mode, process
 use Rattle.sb_trace.specs.PlainMemory.{is_canonical, byte_in, byte_seen, plain_byte, fault_at}
 use Rattle.sb_shows.specs.Windows.{IsOf}
 use Rattle.sb_shows.specs.Shows.{CoreWords, Shows, IsView, IsEntryFor, IsSameByte, LeadsTo, entry_at, name_seen, seen_through}
-use Rattle.sb_shows.specs.Defects.{Reaches, NoSecondPageAtAPlace, NoEntryOfAnUnusedIndex, NoTableInSight, NoDataOfTheClient, NoPageIsWrittenAndFetched, pool_address, NoCr3OfAnother}
+use Rattle.sb_shows.specs.Defects.{Reaches, NoSecondPageAtAPlace, NoEntryOfAnUnusedIndex, NoTableInSight, NoDataOfTheClient, NoPageIsWrittenAndFetched, NoCr3OfAnother}
 use Rattle.sb_shows.proofs.Numbers.{name_number}
 
 -- ---- what is seen has its name
@@ -51,7 +52,7 @@ seen_name state thread index page process name shows is =
 -- ---- where a walk leads, a page is seen that may be accessed so
 
 record IsSeenFor (state : State) (thread index address : ℕ) (access : Access) : Type 0 where
-  page : Seen
+  page : SeenPage
   seen : page_for state thread index (address / 4096) ≡ Some page
   may : permits page.mode access ≡ true
 
@@ -61,7 +62,7 @@ is_byte true address byte answer is = refl
 is_byte false address byte (Ok other) is = absurd cc
 is_byte false address byte (Err gap) is = absurd cc
 
-is_seen : (state : State) (thread index address : ℕ) (access : Access) (page : Option Seen) (answer : Result ℕ Missing)
+is_seen : (state : State) (thread index address : ℕ) (access : Access) (page : Option SeenPage) (answer : Result ℕ Missing)
     → page_for state thread index (address / 4096) ≡ page → byte_answer answer ≡ byte_seen state page address access
     → IsSeenFor state thread index address access
 is_seen state thread index address access None (Ok byte) seen is = absurd cc
@@ -149,7 +150,7 @@ no_page_is_written_and_fetched state memory cores thread index address place pla
     let other = seen_for state memory cores shows thread index address Fetch place' view fetched in
     let same : Some one.page ≡ Some other.page = sym one.seen ∙ other.seen in
     let page : one.page ≡ other.page = cc in
-    not_both one.page.mode one.may (subst (λ (seen : Seen). permits seen.mode Fetch ≡ true) (sym page) other.may)
+    not_both one.page.mode one.may (subst (λ (seen : SeenPage). permits seen.mode Fetch ≡ true) (sym page) other.may)
 
 pool_named : (state : State) (thread home : ℕ) → name_at state.threads thread 0 0x70006 home ≡ Some (Pool home)
 unfolding name_at
@@ -158,10 +159,10 @@ pool_named state thread home = refl
 -- what is seen at the address of the pool page is the pool page of the home
 pool_seen : (state : State) (memory : Physical) (cores : ℕ → CoreWords) (shows : Shows state memory cores)
     (thread home : ℕ) (access : Access) (place : PhysAddr) → process_shown state.threads thread 0 ≡ Some home
-    → LeadsTo (seen_through memory (cores thread) 0) access pool_address place
-    → Reaches state memory cores thread 0 pool_address access (Pool home) place
+    → LeadsTo (seen_through memory (cores thread) 0) access POOL_ADDRESS place
+    → Reaches state memory cores thread 0 POOL_ADDRESS access (Pool home) place
 pool_seen state memory cores shows thread home access place shown leads =
-    let seen = seen_for state memory cores shows thread 0 pool_address access place (home, shown) leads in
+    let seen = seen_for state memory cores shows thread 0 POOL_ADDRESS access place (home, shown) leads in
     let named : name_seen (page_for state thread 0 0x70006) ≡ Some seen.page.name = ap name_seen seen.seen in
     record {
       shows = (home, shown);
@@ -172,11 +173,11 @@ pool_seen state memory cores shows thread home access place shown leads =
 
 pub no_cr3_of_another : NoCr3OfAnother
 no_cr3_of_another state memory cores thread other home home' access place shown shown' away same leads leads' shows =
-    let here : LeadsTo (seen_through memory (cores thread) 0) access pool_address place =
-    subst (λ cr3. LeadsTo (view memory (entry_at memory (cores thread) 0) cr3) access pool_address place) (sym same) leads in
+    let here : LeadsTo (seen_through memory (cores thread) 0) access POOL_ADDRESS place =
+    subst (λ cr3. LeadsTo (view memory (entry_at memory (cores thread) 0) cr3) access POOL_ADDRESS place) (sym same) leads in
     let one = pool_seen state memory cores shows thread home access place shown here in
     let two = pool_seen state memory cores shows other home' access place shown' leads' in
     let names : Pool home ≡ Pool home' =
-    one_name state memory cores shows thread 0 other 0 pool_address pool_address access access (Pool home) (Pool home') place one
+    one_name state memory cores shows thread 0 other 0 POOL_ADDRESS POOL_ADDRESS access access (Pool home) (Pool home') place one
     two in
     away cc

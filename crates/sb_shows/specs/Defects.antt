@@ -1,11 +1,12 @@
 -- What memory that shows a state never has: each of these defects, and it shows none.
 use Rattle.std.specs.Prelude.{ℕ, ◌≡◌, ◌≢◌, ◌/◌, ◌<◌, Some, None, length}
 use Rattle.std.specs.List.{Contains}
+use Rattle.sb_abi.specs.declared.trampoline.TheConstants.{POOL_ADDRESS}
 use Rattle.sb_memory.specs.Physical.{Physical, frame_of}
 use Rattle.sb_memory.specs.declared.address.Access.{Access}
 use Rattle.sb_memory.specs.declared.address.Access.TheVariants.{Write, Fetch}
 use Rattle.sb_memory.specs.declared.address.PhysAddr.{PhysAddr}
-use Rattle.sb_walks.specs.Nested.{mapped_answer, translation_reads}
+use Rattle.sb_walks.specs.Nested.{memory_behind, translation_reads}
 use Rattle.sb_nested.specs.View.{view}
 use Rattle.sb_state.specs.declared.page.PageName.{PageName}
 use Rattle.sb_state.specs.declared.page.PageName.TheVariants.{Data}
@@ -44,7 +45,7 @@ NoTableInSight =
     → Reaches state memory cores thread index address access name place
     → IsView state thread' index'
     → Contains
-    (translation_reads (mapped_answer memory (entry_at memory (cores thread') index')) (cores thread').cr3 address' access') read
+    (translation_reads (memory_behind memory (entry_at memory (cores thread') index')) (cores thread').cr3 address' access') read
     → frame_of place.0 ≡ frame_of read → ¬ Shows state memory cores
 
 -- the client's data in the server's view: an address there leads to a byte of the data of the client
@@ -64,10 +65,6 @@ NoPageIsWrittenAndFetched =
     → LeadsTo (seen_through memory (cores thread) index) Write address place
     → LeadsTo (seen_through memory (cores thread) index) Fetch address place' → ¬ Shows state memory cores
 
--- the address of a process's pool page
-abbrev pub pool_address : ℕ
-pool_address = 0x70006000
-
 -- The CR3 word of another process: it is that of a thread with another home, and the home views of both threads lead from there
 -- to one pool page.
 abbrev pub NoCr3OfAnother : Type 0
@@ -76,6 +73,6 @@ NoCr3OfAnother =
     (place : PhysAddr)
     → process_shown state.threads thread 0 ≡ Some home → process_shown state.threads other 0 ≡ Some home' → home ≢ home'
     → (cores thread).cr3 ≡ (cores other).cr3
-    → LeadsTo (view memory (entry_at memory (cores thread) 0) (cores other).cr3) access pool_address place
-    → LeadsTo (view memory (entry_at memory (cores other) 0) (cores other).cr3) access pool_address place
+    → LeadsTo (view memory (entry_at memory (cores thread) 0) (cores other).cr3) access POOL_ADDRESS place
+    → LeadsTo (view memory (entry_at memory (cores other) 0) (cores other).cr3) access POOL_ADDRESS place
     → ¬ Shows state memory cores

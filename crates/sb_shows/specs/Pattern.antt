@@ -1,5 +1,7 @@
 -- Where the walks of the cores lead to VMFUNC's bytes.
 use Rattle.std.specs.Prelude.{ℕ, ◌≡◌, ◌+◌, ◌%◌, ◌^◌, ◌<◌, ◌==◌, Result, if◌then◌else◌}
+use Rattle.sb_abi.specs.declared.layout.TheConstants.{HOME_TRAMPOLINE_FRAME, SERVER_TRAMPOLINE_FRAME}
+use Rattle.sb_abi.specs.declared.trampoline.TheConstants.{VMFUNC_ADDRESS}
 use Rattle.sb_memory.specs.Physical.{Physical}
 use Rattle.sb_memory.specs.declared.address.Access.TheVariants.{Fetch}
 use Rattle.sb_bus.specs.declared.stop.BusStop.{BusStop}
@@ -7,22 +9,22 @@ use Rattle.sb_exec.specs.Fetching.{Stands, bytes_from_fetch}
 use Rattle.sb_scan.specs.Pattern.{pattern}
 use Rattle.sb_nested.specs.View.{View, view_byte}
 use Rattle.sb_trace.specs.State.{State}
-use Rattle.sb_trace.specs.Sound.{IsSound, vmfunc_address}
-use Rattle.sb_shows.specs.Shows.{CoreWords, Shows, IsView, LeadsTo, seen_through}
+use Rattle.sb_trace.specs.Sound.{IsSound}
+use Rattle.sb_shows.specs.Shows.{CoreWords, Shows, IsView, LeadsTo, seen_through, vmfunc_place}
 
 -- VMFUNC's bytes stand at three consecutive addresses, each of which a core may fetch
 abbrev pub FetchesPattern : View → ℕ → Type 0
 FetchesPattern core address = Stands (λ at. view_byte core at Fetch) address pattern
 
--- the physical place of VMFUNC: in the home trampoline page, or in that of the servers
-abbrev pub vmfunc_place : ℕ → ℕ
-vmfunc_place index = if index == 0 then 0x1040 else 0x4040
+-- the physical place of VMFUNC in a view: in the home trampoline page, or in that of the servers
+abbrev pub pattern_place : ℕ → ℕ
+pattern_place index = if index == 0 then vmfunc_place HOME_TRAMPOLINE_FRAME else vmfunc_place SERVER_TRAMPOLINE_FRAME
 
 -- three consecutive addresses lead there for fetch
 abbrev pub LeadsToPattern : View → ℕ → ℕ → Type 0
 LeadsToPattern core index address =
     (offset : ℕ) → offset < 3
-    → LeadsTo core Fetch (bytes_from_fetch address offset) (record { 0 = vmfunc_place index + offset })
+    → LeadsTo core Fetch (bytes_from_fetch address offset) (record { 0 = pattern_place index + offset })
 
 -- Where memory shows a sound state, a core may fetch VMFUNC's bytes at one address alone, in every view of every thread; from
 -- there they are fetched at one of two places.
@@ -31,11 +33,11 @@ PatternIsAtTwoPlaces =
     (state : State) (memory : Physical) (cores : ℕ → CoreWords) (thread index address : ℕ)
     → IsSound state → Shows state memory cores → IsView state thread index
     → FetchesPattern (seen_through memory (cores thread) index) address
-    → (address % 2 ^ 64 ≡ vmfunc_address) × LeadsToPattern (seen_through memory (cores thread) index) index address
+    → (address % 2 ^ 64 ≡ VMFUNC_ADDRESS) × LeadsToPattern (seen_through memory (cores thread) index) index address
 
 -- There they do stand.
 abbrev pub PatternIsFetched : Type 0
 PatternIsFetched =
     (state : State) (memory : Physical) (cores : ℕ → CoreWords) (thread index address : ℕ)
-    → IsSound state → Shows state memory cores → IsView state thread index → address % 2 ^ 64 ≡ vmfunc_address
+    → IsSound state → Shows state memory cores → IsView state thread index → address % 2 ^ 64 ≡ VMFUNC_ADDRESS
     → FetchesPattern (seen_through memory (cores thread) index) address
