@@ -5,6 +5,7 @@ use Rattle.std.specs.List.{AllByRecursion}
 use Rattle.std.proofs.lemmas.Bool.{cases_eq}
 use Rattle.std.proofs.lemmas.Bool.Decides.{Decides-eqb}
 use Rattle.std.proofs.lemmas.List.{length-set, length-replicate}
+use Rattle.sb_abi.specs.declared.space.TheConstants.{STACKS_ADDRESS, THREAD_DISTANCE}
 use Rattle.sb_exec.specs.Words.{AreWords}
 use Rattle.sb_exec.proofs.RowWords.{set_word}
 use Rattle.sb_abi.specs.declared.space.TheConstants.{STACKS_ADDRESS, THREAD_DISTANCE}
