@@ -37,13 +37,13 @@ same_tail first second rest rest' same = cc
 -- where two texts are the same, so are the digits at their fronts
 cut : (ones others rest rest' : List ℕ) (code code' : ℕ) → AllDigits 16 ones → AllDigits 16 others → IsNoDigit code
     → IsNoDigit code' → ones ++ code ∷ rest ≡ others ++ code' ∷ rest' → IsCut ones others rest rest'
-cut [] [] rest rest' code code' all all' no no' same = record { same = refl; behind = same_tail _ _ _ _ same }
-cut [] (other ∷ others) rest rest' code code' all all' no no' same =
-    absurd (no (subst (λ one. digit_value one < 16) (sym (same_head _ _ _ _ same)) all'.0))
-cut (one ∷ ones) [] rest rest' code code' all all' no no' same =
-    absurd (no' (subst (λ one. digit_value one < 16) (same_head _ _ _ _ same) all.0))
-cut (one ∷ ones) (other ∷ others) rest rest' code code' all all' no no' same =
-    let behind = cut ones others rest rest' code code' all.1 all'.1 no no' (same_tail _ _ _ _ same) in
+cut [] [] rest rest' code code' all all' ends ends' same = record { same = refl; behind = same_tail _ _ _ _ same }
+cut [] (other ∷ others) rest rest' code code' all all' ends ends' same =
+    absurd (ends (subst (λ one. digit_value one < 16) (sym (same_head _ _ _ _ same)) all'.0))
+cut (one ∷ ones) [] rest rest' code code' all all' ends ends' same =
+    absurd (ends' (subst (λ one. digit_value one < 16) (same_head _ _ _ _ same) all.0))
+cut (one ∷ ones) (other ∷ others) rest rest' code code' all all' ends ends' same =
+    let behind = cut ones others rest rest' code code' all.1 all'.1 ends ends' (same_tail _ _ _ _ same) in
     let head = same_head _ _ _ _ same in
     let tail = behind.same in
     record { same = ap (λ first. first ∷ ones) head ∙ ap (λ later. other ∷ later) tail; behind = behind.behind }
@@ -356,11 +356,17 @@ how_begins memory first zero = ends refl
 how_begins memory first (suc count) =
     begins_by memory first count (has_bytes memory first) refl (how_begins memory (first + 1) count)
 
+-- texts that begin differently are not the same
+heads_differ : (one other : List ℕ) (first second : ℕ) → get_or one 0 0 ≡ first → get_or other 0 0 ≡ second → first ≢ second
+    → one ≡ other → ⊥
+heads_differ one other first second here there differ same =
+    differ (sym here ∙ (ap (λ (text : List ℕ). get_or text 0 0) same ∙ there))
+
 -- no text of later frames begins with an earlier one
 no_earlier : (text rest : List ℕ) (earlier first count : ℕ) → earlier < first → first + count < 2 ^ 32
     → Begins text first count → text ≡ codes "frame " ++ (hex earlier ++ (10 ∷ rest)) → ⊥
 no_earlier text rest earlier first count before few (ends is) same =
-    let heads : 101 ≡ 102 = ap (λ list. get_or list 0 0) (sym is ∙ same) in absurd (omega arith)
+    heads_differ (codes "end\n") (codes "frame " ++ (hex earlier ++ (10 ∷ rest))) 101 102 refl refl (omega arith) (sym is ∙ same)
 no_earlier text rest earlier first count before few (begins frame rest' from below is) same =
     let one = cut (hex frame) (hex earlier) rest' rest 10 10 (hex_digits frame (omega arith)) (hex_digits earlier (omega arith))
     no_line_feed no_line_feed (leave (codes "frame ") _ _ (sym is ∙ same)) in
@@ -454,9 +460,9 @@ module _ (memory memory' : Physical) (physical : IsPhysical memory) (physical' :
   frames_same : (first count : ℕ) → first + count ≤ frame_count memory
       → frames_text memory first count ≡ frames_text memory' first count → AreSameFrom first count
   frames_same first zero inside same frame from below = absurd (omega arith)
-  frames_same first (suc count) inside same =
+  frames_same first (suc count) inside same frame from below =
       frames_by (has_bytes memory first) (has_bytes memory' first) first count inside refl refl
-      (λ later. frames_same (first + 1) count (omega arith) later) same
+      (λ later. frames_same (first + 1) count (omega arith) later) same frame from below
 
   bytes_same : AreSameFrom 0 (frame_count memory) → (place : ℕ) → get_or memory.bytes place 0 ≡ get_or memory'.bytes place 0
   bytes_same same place = elim (cases_lt place (4096 * frame_count memory)) [
@@ -473,11 +479,14 @@ module _ (memory memory' : Physical) (physical : IsPhysical memory) (physical' :
         past memory.bytes place (omega arith) ∙ sym (past memory'.bytes place (omega arith))
   ]
 
+no_core : (code : ℕ) → 99 < code → code ≡ 99 → ⊥
+no_core code above here = omega arith
+
 by_begin : (text : List ℕ) (first count : ℕ) → Begins text first count → IsBehindCores text
 by_begin text first count (ends is) here =
-    let heads : 101 ≡ 99 = ap (λ list. get_or list 0 0) (sym is) ∙ here in omega arith
+    no_core 101 (omega arith) (ap (λ (text : List ℕ). get_or text 0 0) (sym is) ∙ here)
 by_begin text first count (begins frame rest from below is) here =
-    let heads : 102 ≡ 99 = ap (λ list. get_or list 0 0) (sym is) ∙ here in omega arith
+    no_core 102 (omega arith) (ap (λ (text : List ℕ). get_or text 0 0) (sym is) ∙ here)
 
 -- the texts of frames begin as no line of a core does
 behind_cores : (memory : Physical) (first count : ℕ) → IsBehindCores (frames_text memory first count)

@@ -23,7 +23,7 @@ use Rattle.sb_pagewalk.proofs.OnePage.{set_walked_same}
 use Rattle.sb_root.specs.declared.root_kernel.RootKernel.{RootKernel}
 use Rattle.sb_root.specs.declared.view.View.{View}
 use Rattle.sb_root.specs.Entry.{eptp_to, is_rights, leaf_to, entry_reached}
-use Rattle.sb_root.specs.Tables.{IsPage, HasTables, HasBase, IsRootMemory, IsExposed as IsExposedPage, base_eptp, base_frames, base_tables, base_entries, upper_entries, directory_entries, view_entries, shared_place, shared_frames, rights_in}
+use Rattle.sb_root.specs.Tables.{IsPage, HasTables, HasBase, IsRootMemory, IsExposed as IsExposedPage, base_eptp, base_frames, base_tables, base_entries, is_root_frame, upper_entries, directory_entries, view_entries, shared_place, shared_frames, rights_in}
 use Rattle.sb_root.specs.Root.{IsShaped, IsSet, is_listed, Use, ListOf, PartOf, eptp_list_frame, view_of, list_entry, used_frame, part_in, view_frames}
 use Rattle.sb_root.specs.Standing.{HasView as HasViewTables, Stands, IsTable}
 use Rattle.sb_root.proofs.BaseAnswers.{base_answers}
@@ -183,7 +183,8 @@ directory_small first index few within =
 
 base_small : (index : ℕ) → index < 512 → base_entries index < 2 ^ 64
 unfolding base_entries
-base_small index within = small_if (index == 1) _ _ (omega arith) (small_if _ _ _ (omega arith) (omega arith))
+base_small index within =
+    small_if (index == 1) _ _ (omega arith) (small_if (is_root_frame index) (leaf_to index 1) 0 (omega arith) (omega arith))
 
 view_small : (index : ℕ) → index < 512 → view_entries kept index < 2 ^ 64
 unfolding view_entries
@@ -650,11 +651,14 @@ module _ (frames : ℕ) (enough : 530 ≤ frames) (most : frames ≤ 8192) where
   }
 
   -- of the shared pages the eleven tables are exposed, for reading
+  abbrev rights_by : Bool → ℕ
+  rights_by table = if table then 1 else 0
+
   abbrev shared_rights : ℕ → ℕ
-  shared_rights page = if nat_lt page 523 then 1 else 0
+  shared_rights page = rights_by (nat_lt page 523)
 
   second_region : (table : Bool) (page : ℕ) → nat_lt page 523 ≡ table → 512 ≤ page → page < 1024
-      → exposed_entry (page % 512) ≡ leaf_to page (if table then 1 else 0)
+      → exposed_entry (page % 512) ≡ leaf_to page (rights_by table)
   second_region true page is from below =
       let few = ltb-true page 523 is in
       let low : nat_lt (page % 512) 11 ≡ true = lt-ltb (page % 512) 11 (omega arith) in
@@ -685,11 +689,11 @@ module _ (frames : ℕ) (enough : 530 ≤ frames) (most : frames ≤ 8192) where
         ) refl
   ]
 
-  rights_possible : (table : Bool) → IsTrue (is_rights (if table then 1 else 0))
+  rights_possible : (table : Bool) → IsTrue (is_rights (rights_by table))
   rights_possible true = refl
   rights_possible false = refl
 
-  exposed_inside : (table : Bool) (page : ℕ) → nat_lt page 523 ≡ table → (if table then 1 else 0) ≢ 0 → page < frame_count memory
+  exposed_inside : (table : Bool) (page : ℕ) → nat_lt page 523 ≡ table → rights_by table ≢ 0 → page < frame_count memory
   exposed_inside true page is some = let few = ltb-true page 523 is in there page (omega arith)
   exposed_inside false page is some = absurd (some refl)
 
