@@ -1,11 +1,11 @@
 -- What the text of a dump determines.
 use Rattle.std.proofs.Common.{◌≡◌, ◌≢◌, ◌∙◌, sym, ap, subst, ℕ, zero, suc, ◌+◌, ◌-◌, ◌*◌, ◌/◌, ◌%◌, ◌^◌, ◌<◌, ◌≤◌, ◌==◌, ◌||◌, inl, inr, Bool, true, false, cond, List, [], ◌∷◌, ◌++◌, length, get_or, refl, arith}
-use Rattle.std.specs.Prelude.{codes, flat_map, filter, take, drop, not, if◌then◌else◌}
+use Rattle.std.specs.Prelude.{codes, flat_map, filter, take, drop, not}
 use Rattle.std.specs.List.{list_any, range_with_len, slice_range}
-use Rattle.std.specs.Fmt.{decimal, digits, digits_onto, digit_glyph}
+use Rattle.std.specs.Fmt.{decimal, digits, digit_glyph}
 use Rattle.std.specs.Str.Parse.{AllDigits, digits_value}
 use Rattle.std.specs.Char.{digit_value}
-use Rattle.std.proofs.lemmas.Bool.{eqb-true, eqb-false, ne_eqb, cases_lt, lt-ltb, le-ltb}
+use Rattle.std.proofs.lemmas.Bool.{eqb-true, eqb-false, cases_lt}
 use Rattle.std.proofs.lemmas.List.{get_or-drop, get_or-take, length-drop, length-take-le}
 use Rattle.std.proofs.Math.ListN.{get_or-eq_default}
 use Rattle.std.proofs.lemmas.Fmt.{digits_is_IsNumeral, decimal_is_IsNumeral, decimal_injective}
@@ -15,7 +15,7 @@ use Rattle.sb_memory.proofs.Frames.{length_frame_bytes, byte_of_frame}
 use Rattle.sb_trace.specs.EndText.{hex}
 use Rattle.sb_trace.specs.Report.{line_feed}
 use Rattle.sb_shows.specs.Shows.{CoreWords}
-use Rattle.sb_shows.specs.Dump.{words_text, core_line, byte_text, bytes_line, frame_text, has_bytes, dump_text, AreCoreWords, IsDump, IsSameMachine, DumpsOneMachine}
+use Rattle.sb_shows.specs.Dump.{words_text, core_line, byte_text, bytes_line, frame_text, has_bytes, AreCoreWords, DumpsOneMachine}
 
 -- ---- texts side by side
 

@@ -1,29 +1,26 @@
 -- Memory that shows a state: one process, and one thread at home there, of which each view's own pages are there and no other.
 use Rattle.std.proofs.Common.{◌≡◌, ◌≢◌, ◌∙◌, sym, ap, subst, ℕ, zero, suc, ◌+◌, ◌-◌, ◌*◌, ◌/◌, ◌%◌, ◌^◌, ◌<◌, ◌≤◌, ◌==◌, ◌⊎◌, inl, inr, Bool, true, false, nat_lt, List, [], ◌∷◌, length, get_or, refl, arith}
-use Rattle.std.specs.Prelude.{Option, Some, None, replicate, slice_get, map, IsTrue, if◌then◌else◌}
-use Rattle.std.specs.Option.{option_and_then}
+use Rattle.std.specs.Prelude.{Option, Some, None, replicate, IsTrue, if◌then◌else◌}
 use Rattle.std.specs.List.{Contains}
 use Rattle.std.proofs.lemmas.Bool.{cases_lt, eqb-true, eqb-false, ne_eqb, lt-ltb, le-ltb, ltb-true, ltb-false}
 use Rattle.std.proofs.lemmas.List.{length-replicate, get_or-replicate}
 use Rattle.std.proofs.Math.ListN.{get_or-eq_default}
 use Rattle.byteorder.specs.Endian.{little_bytes}
-use Rattle.sb_memory.specs.Physical.{Physical, HasSize, HasAllFrames, frame_count}
+use Rattle.sb_memory.specs.Physical.{Physical, HasSize, frame_count}
 use Rattle.sb_memory.specs.Words.{word_at, put_word, zeros as so_many_zeros}
-use Rattle.sb_memory.specs.declared.address.Access.{Access}
 use Rattle.sb_memory.specs.declared.address.Frame.{Frame}
 use Rattle.sb_memory.proofs.Words.{word_read_back, byte_in_word, word_of_same_bytes, zero_in_zeros}
 use Rattle.sb_walks.specs.Entry.{entry_in}
-use Rattle.sb_walks.specs.Ept.{ept_walk}
 use Rattle.sb_pagewalk.specs.declared.table_set.TableSet.{TableSet}
 use Rattle.sb_pagewalk.specs.Windows.{IsInWindow, region_of, page_table_of, next_table}
-use Rattle.sb_pagewalk.specs.TableSet.{table_frame, place_in, page_place, entry_to, page_entry, set_walked, Maps}
-use Rattle.sb_pagewalk.specs.Standing.{AreFrames, HasTables as HasGuestTables}
+use Rattle.sb_pagewalk.specs.TableSet.{table_frame, place_in, entry_to, page_entry, Maps}
+use Rattle.sb_pagewalk.specs.Standing.{HasTables as HasGuestTables}
 use Rattle.sb_pagewalk.proofs.Standing.{stands_maps}
 use Rattle.sb_pagewalk.proofs.OnePage.{set_walked_same}
 use Rattle.sb_root.specs.declared.root_kernel.RootKernel.{RootKernel}
 use Rattle.sb_root.specs.declared.view.View.{View}
 use Rattle.sb_root.specs.Entry.{eptp_to, is_rights, leaf_to, entry_reached}
-use Rattle.sb_root.specs.Tables.{IsPage, HasTables, HasBase, IsRootMemory, IsExposed as IsExposedPage, base_eptp, base_frames, base_tables, base_entries, is_root_frame, upper_entries, directory_entries, view_entries, shared_place, shared_frames, rights_in}
+use Rattle.sb_root.specs.Tables.{IsPage, HasTables, IsRootMemory, IsExposed as IsExposedPage, base_frames, base_tables, base_entries, is_root_frame, upper_entries, directory_entries, view_entries, shared_frames, rights_in}
 use Rattle.sb_root.specs.Root.{IsShaped, IsSet, is_listed, Use, ListOf, PartOf, eptp_list_frame, view_of, list_entry, used_frame, part_in, view_frames}
 use Rattle.sb_root.specs.Standing.{HasView as HasViewTables, Stands, IsTable}
 use Rattle.sb_root.proofs.BaseAnswers.{base_answers}
@@ -42,9 +39,9 @@ use Rattle.sb_trace.specs.PageName.{same_name, mode_of}
 use Rattle.sb_trace.specs.PageWords.{zeros}
 use Rattle.sb_trace.specs.State.{State, Process, find_page, page_with, thread_at, flight_at}
 use Rattle.sb_trace.specs.Start.{start_thread}
-use Rattle.sb_trace.specs.Windows.{name_at, process_shown, process_of_view, server_of}
-use Rattle.sb_shows.specs.Placement.{Placement, Purpose, BaseTable, RootTable, GuestTable, Holds, IsThere, IsOneToOne, is_own, guest_page, leaf_for, leaf_if, name_entry, entry_of, entries_of}
-use Rattle.sb_shows.specs.Keeping.{IsExposed, HasGuest, HasView, HoldsPage, Leads, Keeps}
+use Rattle.sb_trace.specs.Windows.{name_at, process_shown, server_of}
+use Rattle.sb_shows.specs.Placement.{Placement, Purpose, BaseTable, RootTable, GuestTable, Holds, IsThere, IsOneToOne, is_own, guest_page, leaf_for, leaf_if, entry_of, entries_of}
+use Rattle.sb_shows.specs.Keeping.{IsExposed, HasGuest, HasView, HoldsPage, Keeps}
 use Rattle.sb_shows.specs.Related.{cr3_of, HasCores}
 use Rattle.sb_shows.specs.Windows.{page_number}
 use Rattle.sb_shows.specs.Shows.{CoreWords, IsView, present_index}

@@ -1,5 +1,5 @@
 -- VMFUNC's bytes where memory shows a state: what a core fetches is what plain memory gives.
-use Rattle.std.proofs.Common.{◌≡◌, ◌∙◌, sym, subst, ℕ, ◌+◌, ◌%◌, ◌^◌, ◌<◌, ◌==◌, arith}
+use Rattle.std.proofs.Common.{◌≡◌, ◌∙◌, sym, subst, ℕ, ◌+◌, ◌%◌, ◌^◌, arith}
 use Rattle.sb_abi.specs.declared.trampoline.TheConstants.{VMFUNC_ADDRESS}
 use Rattle.sb_memory.specs.Physical.{Physical}
 use Rattle.sb_memory.specs.declared.address.Access.TheVariants.{Fetch}

@@ -1,5 +1,5 @@
 -- Each defect of memory beside a clause of what memory shows.
-use Rattle.std.proofs.Common.{◌≡◌, ◌≢◌, ◌∙◌, sym, ap, subst, ℕ, ◌/◌, ◌<◌, Bool, true, false, List, length, Result, Ok, Err, refl}
+use Rattle.std.proofs.Common.{◌≡◌, ◌∙◌, sym, ap, subst, ℕ, ◌/◌, Bool, true, false, List, Result, Ok, Err, refl}
 use Rattle.std.specs.Prelude.{Option, Some, None, if◌then◌else◌}
 use Rattle.std.specs.Option.{option_map, option_and_then}
 use Rattle.sb_abi.specs.declared.trampoline.TheConstants.{POOL_ADDRESS}
@@ -9,9 +9,8 @@ use Rattle.sb_memory.specs.declared.address.Access.{Access}
 use Rattle.sb_memory.specs.declared.address.Access.TheVariants.{Write, Fetch}
 use Rattle.sb_memory.specs.declared.address.Missing.{Missing}
 use Rattle.sb_memory.specs.declared.address.PhysAddr.{PhysAddr}
-use Rattle.sb_bus.specs.declared.stop.BusStop.{BusStop}
 use Rattle.sb_bus.specs.declared.stop.FaultKind.TheVariants.{Canon, Memory}
-use Rattle.sb_nested.specs.View.{View, view, place_of, view_byte, byte_behind, byte_answer}
+use Rattle.sb_nested.specs.View.{view, view_byte, byte_behind, byte_answer}
 use Rattle.sb_state.specs.declared.page.PageName.{PageName}
 use Rattle.sb_state.specs.declared.page.PageName.TheVariants.{Data, Pool}
 use Rattle.sb_state.specs.declared.page.Page.{Page}
@@ -21,9 +20,9 @@ use Rattle.sb_state.specs.declared.page.Mode.TheVariants as mode
 use Rattle.sb_trace.specs.PageName.{permits}
 use Rattle.sb_trace.specs.State.{State, find_page}
 use Rattle.sb_trace.specs.Windows.{name_at, page_by_name, page_and_mode, process_shown, page_for}
-use Rattle.sb_trace.specs.PlainMemory.{is_canonical, byte_in, byte_seen, plain_byte, fault_at}
+use Rattle.sb_trace.specs.PlainMemory.{is_canonical, byte_seen, plain_byte, fault_at}
 use Rattle.sb_shows.specs.Windows.{IsOf}
-use Rattle.sb_shows.specs.Shows.{CoreWords, Shows, IsView, IsEntryFor, IsSameByte, LeadsTo, entry_at, name_seen, seen_through}
+use Rattle.sb_shows.specs.Shows.{CoreWords, Shows, IsView, IsEntryFor, LeadsTo, entry_at, name_seen, seen_through}
 use Rattle.sb_shows.specs.Defects.{Reaches, NoSecondPageAtAPlace, NoEntryOfAnUnusedIndex, NoTableInSight, NoDataOfTheClient, NoPageIsWrittenAndFetched, NoCr3OfAnother}
 use Rattle.sb_shows.proofs.Numbers.{name_number}
 

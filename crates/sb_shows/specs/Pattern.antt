@@ -1,10 +1,9 @@
 -- Where the walks of the cores lead to VMFUNC's bytes.
-use Rattle.std.specs.Prelude.{ℕ, ◌≡◌, ◌+◌, ◌%◌, ◌^◌, ◌<◌, ◌==◌, Result, if◌then◌else◌}
+use Rattle.std.specs.Prelude.{ℕ, ◌≡◌, ◌+◌, ◌%◌, ◌^◌, ◌<◌, ◌==◌, if◌then◌else◌}
 use Rattle.sb_abi.specs.declared.layout.TheConstants.{HOME_TRAMPOLINE_FRAME, SERVER_TRAMPOLINE_FRAME}
 use Rattle.sb_abi.specs.declared.trampoline.TheConstants.{VMFUNC_ADDRESS}
 use Rattle.sb_memory.specs.Physical.{Physical}
 use Rattle.sb_memory.specs.declared.address.Access.TheVariants.{Fetch}
-use Rattle.sb_bus.specs.declared.stop.BusStop.{BusStop}
 use Rattle.sb_exec.specs.Fetching.{Stands, bytes_from_fetch}
 use Rattle.sb_scan.specs.Pattern.{pattern}
 use Rattle.sb_nested.specs.View.{View, view_byte}
