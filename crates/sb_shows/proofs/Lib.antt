@@ -34,3 +34,7 @@ pub mod Seen
 pub mod Needs
 pub mod ClearingView
 pub mod FreeIndices
+pub mod Fetched
+pub mod Refuted
+pub mod Example
+pub mod Dumped

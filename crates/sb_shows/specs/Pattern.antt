@@ -1,0 +1,42 @@
+-- Where the walks of the cores lead to VMFUNC's bytes.
+use Rattle.std.specs.Prelude.{ℕ, ◌≡◌, ◌+◌, ◌%◌, ◌^◌, ◌<◌, ◌==◌, if◌then◌else◌}
+use Rattle.sb_abi.specs.declared.layout.TheConstants.{HOME_TRAMPOLINE_FRAME, SERVER_TRAMPOLINE_FRAME}
+use Rattle.sb_abi.specs.declared.trampoline.TheConstants.{VMFUNC_ADDRESS}
+use Rattle.sb_memory.specs.Physical.{Physical}
+use Rattle.sb_memory.specs.declared.address.Access.TheVariants.{Fetch}
+use Rattle.sb_exec.specs.Fetching.{Stands, bytes_from_fetch}
+use Rattle.sb_scan.specs.Pattern.{pattern}
+use Rattle.sb_nested.specs.View.{View, view_byte}
+use Rattle.sb_trace.specs.State.{State}
+use Rattle.sb_trace.specs.Sound.{IsSound}
+use Rattle.sb_shows.specs.Shows.{CoreWords, Shows, IsView, LeadsTo, seen_through, vmfunc_place}
+
+-- VMFUNC's bytes stand at three consecutive addresses, each of which a core may fetch
+abbrev pub FetchesPattern : View → ℕ → Type 0
+FetchesPattern core address = Stands (λ at. view_byte core at Fetch) address pattern
+
+-- the physical place of VMFUNC in a view: in the home trampoline page, or in that of the servers
+abbrev pub pattern_place : ℕ → ℕ
+pattern_place index = if index == 0 then vmfunc_place HOME_TRAMPOLINE_FRAME else vmfunc_place SERVER_TRAMPOLINE_FRAME
+
+-- three consecutive addresses lead there for fetch
+abbrev pub LeadsToPattern : View → ℕ → ℕ → Type 0
+LeadsToPattern core index address =
+    (offset : ℕ) → offset < 3
+    → LeadsTo core Fetch (bytes_from_fetch address offset) (record { 0 = pattern_place index + offset })
+
+-- Where memory shows a sound state, a core may fetch VMFUNC's bytes at one address alone, in every view of every thread; from
+-- there they are fetched at one of two places.
+abbrev pub PatternIsAtTwoPlaces : Type 0
+PatternIsAtTwoPlaces =
+    (state : State) (memory : Physical) (cores : ℕ → CoreWords) (thread index address : ℕ)
+    → IsSound state → Shows state memory cores → IsView state thread index
+    → FetchesPattern (seen_through memory (cores thread) index) address
+    → (address % 2 ^ 64 ≡ VMFUNC_ADDRESS) × LeadsToPattern (seen_through memory (cores thread) index) index address
+
+-- There they do stand.
+abbrev pub PatternIsFetched : Type 0
+PatternIsFetched =
+    (state : State) (memory : Physical) (cores : ℕ → CoreWords) (thread index address : ℕ)
+    → IsSound state → Shows state memory cores → IsView state thread index → address % 2 ^ 64 ≡ VMFUNC_ADDRESS
+    → FetchesPattern (seen_through memory (cores thread) index) address
