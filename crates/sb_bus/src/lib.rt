@@ -6,7 +6,8 @@
 //! say (`specs/Interface.antt`).
 //!
 //! Inside: the trait; `load_bytes`, by which a bus that can give a byte loads a number; what stops an access, as `BusStop`
-//! and the kinds of fault; and the lemmas by which a bus is proved byte by byte (`proofs/Loads.antt`). Not inside: a memory, and what an instruction does.
+//! and the kinds of fault; and the lemmas by which a bus is proved byte by byte (`proofs/Loads.antt`).
+//! Not inside: a memory, and what an instruction does.
 //!
 //! So a load of 4 bytes at FFFFFFFF_FFFFFFFE reads the bytes at FFFFFFFF_FFFFFFFE, FFFFFFFF_FFFFFFFF, 0 and 1.
 #![tactic(auto)]

@@ -17,7 +17,8 @@ use Rattle.sb_nested.specs.Store.{bytes_stored, memory_stored}
 
 -- a nested walk reads at most 24 words
 abbrev pub ReadsAtMost24 : Type 0
-ReadsAtMost24 = (memory : MemoryBehindEpt) (cr3 linear : ℕ) (access : Access) → length (translation_reads memory cr3 linear access) ≤ 24
+ReadsAtMost24 = (memory : MemoryBehindEpt) (cr3 linear : ℕ) (access : Access)
+    → length (translation_reads memory cr3 linear access) ≤ 24
 
 -- ---- stores
 

@@ -1,8 +1,6 @@
 -- The law of 01 D4 behind 0F, in place.
 use Rattle.std.proofs.Common.{◌≡◌, true, refl, sym, subst}
 use Rattle.sb_insn.specs.declared.insn.Insn.{Insn}
-use Rattle.sb_insn.specs.declared.insn.Disp.TheVariants as disp
-use Rattle.sb_insn.specs.declared.insn.Imm.TheVariants as imm
 use Rattle.sb_insn.specs.declared.registers.Regs.{Regs}
 use Rattle.sb_insn.specs.OpcodeMap.{one_byte}
 use Rattle.sb_insn.specs.Lookup.{instruction_of, modrm_opcode_of}

@@ -1,5 +1,5 @@
 -- The operands of the mains with a constant.
-use Rattle.std.proofs.Common.{◌≡◌, ℕ, ◌≤◌, ◌+◌, ◌*◌, ◌/◌, ◌%◌, ◌^◌, true, Option, Some, None, refl, sym, ap, ◌∙◌, arith}
+use Rattle.std.proofs.Common.{◌≡◌, ℕ, ◌≤◌, ◌+◌, ◌*◌, ◌/◌, ◌%◌, ◌^◌, Option, Some, None, refl, sym, ap, ◌∙◌, arith}
 use Rattle.std.specs.Prelude.{◌==◌}
 use Rattle.std.proofs.lemmas.Bool.{cond-true, eq-eqb}
 use Rattle.sb_insn.specs.declared.insn.Insn.{Insn}
@@ -8,12 +8,12 @@ use Rattle.sb_insn.specs.declared.opcode_map.Mnemonic.{Mnemonic}
 use Rattle.sb_insn.specs.Fields.{mod_field, rex_r, rex_b}
 use Rattle.sb_exec.specs.declared.action.Location.TheVariants.{Register, Memory}
 use Rattle.sb_exec.specs.Operand.{rm_number, general}
-use Rattle.sb_insn.specs.RegisterNumbers.{modrm_of, reg_number, opcode_number}
+use Rattle.sb_insn.specs.RegisterNumbers.{modrm_of, reg_number}
 use Rattle.sb_exec.specs.Address.{linear, disp_value, operand_address, rm_location}
 use Rattle.sb_forms.specs.declared.helper.Helper.{Helper}
 use Rattle.sb_forms.specs.declared.mains.RmOperand.{RmOperand}
 use Rattle.sb_insn.specs.Rex.{with_r_b}
-use Rattle.sb_forms.specs.Registers.{number_of, is_number, is_named}
+use Rattle.sb_forms.specs.Registers.{number_of}
 use Rattle.sb_forms.specs.Mains.{at_helper, with_constant}
 use Rattle.sb_original.proofs.Fields.{with_b_0, helper_not_4, at_mod, at_reg, at_rm}
 use Rattle.sb_original.proofs.Memory.{memory_place, rm_base}

@@ -15,7 +15,7 @@ use Rattle.sb_walks.specs.declared.stop.NestedStop.{NestedStop}
 use Rattle.sb_walks.specs.declared.stop.NestedStop.TheVariants as nested
 use Rattle.sb_walks.specs.Ept.{ept_walk, phys_in}
 use Rattle.sb_walks.specs.Guest.{guest_entry_answer, address_in}
-use Rattle.sb_walks.specs.Nested.{memory_behind, page_behind}
+use Rattle.sb_walks.specs.Nested.{memory_behind, page_behind, page_answer}
 use Rattle.sb_pagewalk.specs.TableSet.{page_walked}
 use Rattle.sb_nested.specs.Stop.{stop_at, memory_fault}
 use Rattle.sb_root.specs.Entry.{entry_reached}
@@ -132,3 +132,23 @@ module _ (memory : Physical) (eptp page frame linear : ℕ) where
       (sym (ap (λ (judged : Result ℕ WalkStop). and_then judged (λ (led : ℕ). Ok (address_in linear led)))
       (leaf_judged how one page small) ∙ on_judged (guest_permits how one)))
       (led_by (guest_permits how one) how one refl behind)
+
+  -- the answer for a leaf: what the guest's entry refuses, or what the EPT answers of the frame
+  abbrev pub leaf_answer : Bool → Mode → Access → Result PhysAddr NestedStop
+  leaf_answer may how one =
+      if may then page_answer (entry_reached frame (rights_for how) (4096 * page + linear % 4096) one) else Err
+      (nested.Walk (guest.Denied 1))
+
+  answer_by : (may : Bool) (how : Mode) (one : Access) → IsBehind memory eptp page frame how
+      → after one (if may then Ok (address_in linear page) else Err (guest.Denied 1)) ≡ leaf_answer may how one
+  answer_by true how one behind = ap page_answer (behind.answer (4096 * page + linear % 4096) one here)
+  answer_by false how one behind = refl
+
+  -- a leaf has this one answer
+  pub leaf_answered : (how : Mode) (one : Access) → page < 2 ^ 32 → IsBehind memory eptp page frame how
+      → after one (page_walked (leaf_for page how) linear one) ≡ leaf_answer (guest_permits how one) how one
+  leaf_answered how one small behind =
+      ap (after one)
+      (ap (λ (judged : Result ℕ WalkStop). and_then judged (λ (led : ℕ). Ok (address_in linear led)))
+      (leaf_judged how one page small) ∙ on_judged (guest_permits how one))
+      ∙ answer_by (guest_permits how one) how one behind

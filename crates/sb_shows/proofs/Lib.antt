@@ -14,9 +14,15 @@ pub mod Between
 pub mod Protecting
 pub mod Adding
 pub mod Threads
+pub mod BesideView
 pub mod Viewing
 pub mod Translating
+pub mod InPlace
+pub mod Unseen
 pub mod AddingPages
+pub mod Fills
+pub mod Mapping
+pub mod Removing
 pub mod Registering
 pub mod Binding
 pub mod Placing
@@ -26,3 +32,5 @@ pub mod Joining
 pub mod Processes
 pub mod Seen
 pub mod Needs
+pub mod ClearingView
+pub mod FreeIndices

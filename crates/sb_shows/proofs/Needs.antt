@@ -1,31 +1,22 @@
 -- What the calls ask of the pages of a state, where the state is sound.
-use Rattle.std.proofs.Common.{◌≡◌, ◌≢◌, ◌∙◌, ap, ℕ, ◌==◌, ◌+◌, ◌-◌, ◌*◌, ◌^◌, ◌<◌, ◌≤◌, Bool, [], ◌∷◌, length, refl, lit≤, arith}
+use Rattle.std.proofs.Common.{◌≡◌, ◌≢◌, ◌∙◌, ap, ℕ, ◌-◌, ◌<◌, ◌≤◌, Bool, length, refl, lit≤, arith}
 use Rattle.std.specs.Prelude.{Option, Some, None, slice_get, if◌then◌else◌}
 use Rattle.std.specs.Option.{option_and_then}
 use Rattle.std.proofs.lemmas.Bool.{ne_eqb}
 use Rattle.std.proofs.lemmas.Option.{slice_get_within}
-use Rattle.sb_memory.specs.Physical.{Physical}
-use Rattle.sb_memory.specs.Reading.{with_bytes}
-use Rattle.sb_memory.specs.Words.{put_word}
-use Rattle.sb_state.specs.declared.page.PageName.TheVariants.{Heap, Pool}
-use Rattle.sb_state.specs.declared.state.Binding.{Binding}
+use Rattle.sb_state.specs.declared.page.PageName.TheVariants.{Heap}
 use Rattle.sb_state.specs.declared.state.Thread.{Thread}
-use Rattle.sb_trace.specs.PageName.{mode_of}
-use Rattle.sb_trace.specs.State.{State, HasFewThreads, Process, process_at, registration_at}
-use Rattle.sb_trace.specs.Start.{pages_from}
-use Rattle.sb_trace.specs.KernelCall.{handler_in}
+use Rattle.sb_trace.specs.State.{State, with_mode, Process, process_at}
 use Rattle.sb_trace.specs.Windows.{process_shown, process_of_view, server_of}
-use Rattle.sb_trace.specs.SyscallBind.{buffer_page, with_binding, server_words}
-use Rattle.sb_trace.specs.SyscallRegister.{server_stack_page, with_server}
 use Rattle.sb_trace.specs.SyscallProtect.{heap_count, with_heap_mode}
-use Rattle.sb_trace.specs.Sound.{IsProcessSound, IsThreadSound, IsSound}
+use Rattle.sb_trace.specs.Sound.{IsProcessSound, IsSound}
 use Rattle.sb_trace.proofs.ProcessFacts.{all_at}
 use Rattle.sb_trace.proofs.TablePages as table
-use Rattle.sb_shows.specs.Placement.{Placement, IsThere, leaf_for, rights_for}
-use Rattle.sb_shows.specs.Keeping.{Keeps}
-use Rattle.sb_shows.specs.Calls.{SetsPage, ExposesFrame, AddsPages, placed_all}
-use Rattle.sb_shows.proofs.Binding.{viewed, bound_keeps}
+use Rattle.sb_shows.specs.Placement.{IsThere}
+use Rattle.sb_shows.proofs.Binding.{free_away, free_fresh, bound_keeps}
+use Rattle.sb_shows.specs.CallLaws.{ProtectsKeep, SoundProtectsKeep, SoundRegistersKeep, SoundBindsKeep}
 use Rattle.sb_shows.proofs.Protecting.{protected_keeps}
+use Rattle.sb_shows.proofs.Unseen.{kept_frames}
 use Rattle.sb_shows.proofs.Registering.{registered_keeps}
 
 -- ---- protect
@@ -56,29 +47,23 @@ heap_there state process page sound below =
       table.heap_there state sound.table process page below,
     )
 
+-- protect of a page of a heap keeps all frames
+pub protected_frames : ProtectsKeep
+unfolding with_heap_mode
+protected_frames placement state memory mid new process page executable keeps there few found set exposed =
+    kept_frames placement state (with_mode state.pages (Heap process page) executable) memory new keeps
+    (protected_keeps placement state memory mid new process page executable keeps there few found set exposed)
+
 -- protect of a heap page of a sound state
-pub sound_protected_keeps : (placement : Placement) (state : State) (memory mid new : Physical) (process page : ℕ)
-    (executable : Bool)
-    → IsSound state → Keeps placement state memory → page < heap_count (process_at state process)
-    → SetsPage (placement.sets process) memory mid (0xC00000 + 4096 * page)
-    (leaf_for (placement.frame (Heap process page)) (mode_of (Heap process page) executable))
-    → ExposesFrame placement.root mid new (placement.frame (Heap process page))
-    (rights_for (mode_of (Heap process page) executable))
-    → Keeps placement (with_heap_mode state process page executable) new
-sound_protected_keeps placement state memory mid new process page executable sound keeps below set exposed =
+pub sound_protected_frames : SoundProtectsKeep
+sound_protected_frames placement state memory mid new process page executable sound keeps below set exposed =
     let there = heap_there state process page sound below in
-    protected_keeps placement state memory mid new process page executable keeps there.0 there.1 there.2 set exposed
+    protected_frames placement state memory mid new process page executable keeps there.0 there.1 there.2 set exposed
 
 -- ---- register
 
 -- register of a process of a sound state that is no server
-pub sound_registered_keeps : (placement : Placement) (state : State) (memory mid new : Physical) (process handler stacks : ℕ)
-    → IsSound state → Keeps placement state memory → process < length state.processes
-    → registration_at state process ≡ None → stacks ≤ 16
-    → mid ≡ with_bytes memory (put_word memory.bytes (4096 * placement.frame (Pool process) + 0) (2 ^ stacks - 1))
-    → (adds : AddsPages placement (process ∷ []) (pages_from (server_stack_page process) 0 (4 * stacks)) mid new)
-    → Keeps (placed_all placement (process ∷ []) (pages_from (server_stack_page process) 0 (4 * stacks)) mid new adds)
-    (with_server state process handler stacks) new
+pub sound_registered_keeps : SoundRegistersKeep
 sound_registered_keeps placement state memory mid new process handler stacks sound keeps there none few written adds =
     let pool = table.pool_there state sound.table process there in
     registered_keeps placement state memory mid new process handler stacks pool.0 keeps there few pool.1
@@ -94,24 +79,12 @@ unshown state number index thread there away fresh =
     ap (option_and_then (process_of_view index)) there
     ∙ (ap (λ (test : Bool). if test then Some thread.home else server_of thread.bindings index) (ne_eqb index 0 away) ∙ fresh)
 
--- bind of a thread of a sound state of few threads, where the view is there
-pub sound_bound_keeps : (placement : Placement) (state : State) (memory new : Physical) (number : ℕ) (thread : Thread)
-    (binding : Binding)
-    → IsSound state → HasFewThreads state
-    → (there : slice_get state.threads number ≡ Some thread) (away : binding.index ≢ 0)
-    (fresh : server_of thread.bindings binding.index ≡ None)
-    → Keeps placement
-    (viewed state number thread binding
-    (server_words number thread binding (handler_in (registration_at state binding.server))) there away fresh) memory
-    → binding.index < 16 → binding.server < length state.processes
-    → (adds : AddsPages placement (thread.home ∷ binding.server ∷ [])
-    (pages_from (buffer_page number binding.index) 0 4) memory new)
-    → Keeps (placed_all placement (thread.home ∷ binding.server ∷ [])
-    (pages_from (buffer_page number binding.index) 0 4) memory new adds) (with_binding state number thread binding) new
-sound_bound_keeps placement state memory new number thread binding sound few there away fresh keeps small server_there adds =
-    let within = slice_get_within state.threads number thread there in
-    let sound_thread = all_at (IsThreadSound state) state.threads number thread sound.threads there in
+-- bind of a thread of a sound state
+pub sound_bound_keeps : SoundBindsKeep
+sound_bound_keeps placement state memory mid new root number thread binding sound keeps there server_there view adds =
+    let free = view.added.lowest.free in
     let none = table.view_absent state sound.table number binding.index
-    (unshown state number binding.index thread there away fresh) in
-    bound_keeps placement state memory new number thread binding there away fresh keeps (omega (arith, within, few)) small
-    sound_thread.home server_there none.2 adds
+    (unshown state number binding.index thread there
+    (free_away placement state memory keeps number binding.index thread there free)
+    (free_fresh placement state memory keeps number binding.index thread there free)) in
+    bound_keeps placement state memory mid new root number thread binding keeps there server_there none.0 none.1 none.2 view adds

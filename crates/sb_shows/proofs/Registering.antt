@@ -24,15 +24,19 @@ use Rattle.sb_trace.specs.Windows.{name_at, is_within, is_in_buffers}
 use Rattle.sb_state.proofs.Names.{name_other}
 use Rattle.sb_state.proofs.PageLists.{found_other}
 use Rattle.sb_state.proofs.Start.{zeros_size}
+use Rattle.sb_shows.specs.CallLaws.{RegistersKeep}
 use Rattle.sb_shows.specs.Placement.{Placement, is_own}
 use Rattle.sb_shows.specs.Keeping.{Keeps}
 use Rattle.sb_shows.specs.Windows.{page_number}
-use Rattle.sb_shows.specs.Calls.{AddsPages, placed_all, IsSeenIn, AreNewPages}
+use Rattle.sb_shows.specs.Calls.{placed_all, IsSeenIn, AreNewPages}
+use Rattle.sb_shows.specs.Threads.{SameSight}
+use Rattle.sb_shows.specs.InPlace.{StaysInPlace}
 use Rattle.sb_shows.proofs.Numbers.{name_number}
 use Rattle.sb_memory.proofs.Words.{word_held}
-use Rattle.sb_shows.proofs.Putting.{keeps_replaced}
+use Rattle.sb_shows.proofs.Putting.{replaced_shapes, keeps_replaced}
 use Rattle.sb_shows.proofs.Adding.{added_other}
-use Rattle.sb_shows.proofs.AddingPages.{pages_added}
+use Rattle.sb_shows.proofs.AddingPages.{pages_added, pages_stay}
+use Rattle.sb_shows.proofs.InPlace.{kept_in_place, stays_then, stays_moved, stays_shaped}
 use Rattle.sb_shows.proofs.Threads.{keeps_moved}
 use Rattle.sb_trace.proofs.KeptPages.{size_if}
 
@@ -142,37 +146,65 @@ registered_count (Some process) processes number registration = length-set proce
 pub pools_differ : (process page : ℕ) → Pool process ≢ ServerStack process page
 pools_differ process page same = cc
 
--- the pool word is set, then the pages of the stacks are added in their order
-pub registered_keeps : (placement : Placement) (state : State) (memory mid new : Physical) (process handler stacks : ℕ)
-    (pool : Page)
-    → Keeps placement state memory → process < length state.processes → stacks ≤ 16
-    → find_page state.pages (Pool process) ≡ Some pool → ((page : ℕ) → find_page state.pages (ServerStack process page) ≡ None)
-    → mid ≡ with_bytes memory (put_word memory.bytes (4096 * placement.frame (Pool process) + 0) (2 ^ stacks - 1))
-    → (adds : AddsPages placement (process ∷ []) (pages_from (server_stack_page process) 0 (4 * stacks)) mid new)
-    → Keeps (placed_all placement (process ∷ []) (pages_from (server_stack_page process) 0 (4 * stacks)) mid new adds)
-    (with_server state process handler stacks) new
+-- the pages with the pool word set, and then those of the stacks
+abbrev pooled : State → ℕ → ℕ → State
+pooled state process stacks =
+    record state {
+      pages = with_page_bytes state.pages (Pool process) (put_word (contents state (Pool process)) 0 (2 ^ stacks - 1));
+    }
+
+abbrev stacked : ℕ → ℕ → List Page
+stacked process stacks = pages_from (server_stack_page process) 0 (4 * stacks)
+
+stacks_new : (state : State) (process stacks : ℕ) → process < length state.processes → stacks ≤ 16
+    → ((page : ℕ) → find_page state.pages (ServerStack process page) ≡ None)
+    → AreNewPages state.threads (length state.processes) (pooled state process stacks).pages (process ∷ [])
+    (stacked process stacks)
+stacks_new state process stacks there few none =
+    new_stacks (4 * stacks) 0 state.threads (length state.processes) (pooled state process stacks).pages process there
+    (omega arith)
+    (λ page above. found_other state.pages (Pool process) (ServerStack process page)
+    (put_word (contents state (Pool process)) 0 (2 ^ stacks - 1))
+    (name_other (Pool process) (ServerStack process page) (pools_differ process page)) ∙ none page)
+
+pool_shaped : (placement : Placement) (state : State) (process stacks : ℕ)
+    → StaysInPlace placement placement state (pooled state process stacks)
+unfolding contents
+pool_shaped placement state process stacks =
+    stays_shaped placement state _
+    (replaced_shapes state.pages (Pool process) (put_word (contents state (Pool process)) 0 (2 ^ stacks - 1))
+    (length_put_word (contents state (Pool process)) 0 (2 ^ stacks - 1)))
+
+server_sight : (state : State) (process handler stacks : ℕ)
+    → SameSight (record (pooled state process stacks) { pages = (pooled state process stacks).pages ++ stacked process stacks })
+    (with_server state process handler stacks)
 unfolding with_server with_word with_contents thread_at
+server_sight state process handler stacks = record {
+  pages = λ name. refl;
+  processes =
+      registered_count (process_at state process) state.processes process (record { handler = handler; stacks = stacks });
+  shows = λ thread view. refl;
+  home = λ thread. refl;
+}
+
+-- the pool word is set, then the pages of the stacks are added in their order; what was there stays in its place
+pub registered_keeps : RegistersKeep
+unfolding with_word with_contents
 registered_keeps placement state memory mid new process handler stacks pool keeps there few found none written adds =
-    let word = 2 ^ stacks - 1 in
-    let pooled =
+    let pooled_keeps =
     subst (Keeps placement (with_word state (Pool process) 0 (2 ^ stacks - 1))) (sym written)
     (word_kept placement state memory (Pool process) pool 0 (2 ^ stacks - 1) keeps found refl (lit≤ tt)) in
-    let bytes = put_word (contents state (Pool process)) 0 (2 ^ stacks - 1) in
-    let still =
-    λ (page : ℕ). found_other state.pages (Pool process) (ServerStack process page)
-    (put_word (contents state (Pool process)) 0 (2 ^ stacks - 1))
-    (name_other (Pool process) (ServerStack process page) (pools_differ process page)) ∙ none page in
-    let added =
-    pages_added (pages_from (server_stack_page process) 0 (4 * stacks)) placement
-    (with_word state (Pool process) 0 (2 ^ stacks - 1)) mid new (process ∷ []) pooled
-    (new_stacks (4 * stacks) 0 state.threads (length state.processes)
-    (with_page_bytes state.pages (Pool process) (put_word (contents state (Pool process)) 0 (2 ^ stacks - 1))) process there
-    (omega arith) (λ page above. still page)) adds in
-    keeps_moved _ _ (with_server state process handler stacks) new
-    (record {
-      pages = λ name. refl;
-      processes =
-          registered_count (process_at state process) state.processes process (record { handler = handler; stacks = stacks });
-      shows = λ thread view. refl;
-      home = λ thread. refl;
-    }) added
+    let are = stacks_new state process stacks there few none in
+    let sight = server_sight state process handler stacks in
+    kept_in_place placement (placed_all placement (process ∷ []) (stacked process stacks) mid new adds) state
+    (with_server state process handler stacks) memory new keeps
+    (keeps_moved _ _ (with_server state process handler stacks) new sight
+    (pages_added (stacked process stacks) placement (pooled state process stacks) mid new (process ∷ []) pooled_keeps are adds))
+    (stays_then placement placement (placed_all placement (process ∷ []) (stacked process stacks) mid new adds) state
+    (pooled state process stacks) (with_server state process handler stacks)
+    (pool_shaped placement state process stacks)
+    (stays_then placement (placed_all placement (process ∷ []) (stacked process stacks) mid new adds)
+    (placed_all placement (process ∷ []) (stacked process stacks) mid new adds) (pooled state process stacks) _
+    (with_server state process handler stacks)
+    (pages_stay (stacked process stacks) placement (pooled state process stacks) mid new (process ∷ []) are adds)
+    (stays_moved _ _ (with_server state process handler stacks) sight)))

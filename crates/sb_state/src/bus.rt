@@ -53,7 +53,7 @@ impl<'a> PlainBus<'a> {
 
 impl<'a> ByteSource for PlainBus<'a> {
     ghost use Rattle.std.specs.Prelude.{ℕ};
-    ghost use Rattle.sb_state.specs.ThreadMemory.{ThreadMemory, memory_of, memory_byte, no_byte_rule};
+    ghost use Rattle.sb_state.specs.ThreadMemory.{ThreadMemory, memory_of, thread_memory_byte, no_byte_rule};
 
     ghost Meaning = { ThreadMemory };
 
@@ -61,7 +61,7 @@ impl<'a> ByteSource for PlainBus<'a> {
 
     ghost Kept = { ℕ };
 
-    ghost gives = { memory_byte };
+    ghost gives = { thread_memory_byte };
 
     ghost rule = { no_byte_rule };
 

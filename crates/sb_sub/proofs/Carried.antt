@@ -95,8 +95,7 @@ module _ (placement : Placement) (root : RootKernel) (book : Book) (memory : Phy
       above = takes.free.0.0;
       below = (let size = carries.booked.size in let inside = takes.free.0.1 in omega arith);
       filled = takes.filled;
-      same = takes.same;
-      held = takes.held;
+      fills = record { same = takes.same; held = takes.held };
       mapped = takes.mapped;
       sets = (takes.mapped, entry_set, refl);
       exposed = frame_exposed;

@@ -45,7 +45,8 @@ pub record TakesPage (set : TableSet) (root : RootKernel) (book book' : Book) (o
   pub fewer : free_count book' + 1 ≡ free_count book
   pub filled : Physical
   pub same : SameOutside (frame.0 ∷ []) old filled
-  pub held : (offset : ℕ) → offset < PAGE_SIZE → get_or filled.bytes (PAGE_SIZE * frame.0 + offset) 0 ≡ get_or (top_bytes top) offset 0
+  pub held : (offset : ℕ) → offset < PAGE_SIZE
+      → get_or filled.bytes (PAGE_SIZE * frame.0 + offset) 0 ≡ get_or (top_bytes top) offset 0
   pub mapped : Physical
   pub set_page : SetsPage set filled mapped at (leaf_for frame.0 ReadWrite)
   pub exposed : ExposesFrame root mapped new frame.0 RIGHT_READ_WRITE

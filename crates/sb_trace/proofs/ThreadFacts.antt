@@ -5,8 +5,10 @@ use Rattle.std.specs.List.{AllByRecursion}
 use Rattle.std.proofs.lemmas.Bool.{cases_eq}
 use Rattle.std.proofs.lemmas.Bool.Decides.{Decides-eqb}
 use Rattle.std.proofs.lemmas.List.{length-set, length-replicate}
+use Rattle.sb_abi.specs.declared.space.TheConstants.{STACKS_ADDRESS, THREAD_DISTANCE}
 use Rattle.sb_exec.specs.Words.{AreWords}
 use Rattle.sb_exec.proofs.RowWords.{set_word}
+use Rattle.sb_abi.specs.declared.space.TheConstants.{STACKS_ADDRESS, THREAD_DISTANCE}
 use Rattle.sb_state.specs.declared.state.Binding.{Binding}
 use Rattle.sb_state.specs.declared.state.Thread.{Thread}
 use Rattle.sb_state.specs.Bindings.{binding_with}
@@ -269,13 +271,13 @@ threads_kept old core event new sound steps changes =
 start_words : (number address : ℕ) → number < 32 → address < 2 ^ 64 → AreWords (start_registers number address)
 unfolding start_registers
 start_words number address few word =
-    let top : 0x3008000 + number * 0x8000 < 2 ^ 64 = omega (arith, few) in
+    let top : STACKS_ADDRESS + (number + 1) * THREAD_DISTANCE < 2 ^ 64 = omega (arith, few) in
     let small : number < 2 ^ 64 = omega (arith, few) in
     record {
-      sixteen = length-set (slice_set (replicate 16 0) 4 (0x3008000 + number * 0x8000)) 7 number
-          ∙ (length-set (replicate 16 0) 4 (0x3008000 + number * 0x8000) ∙ length-replicate {A = ℕ} 16 0);
-      words = set_word (slice_set (replicate 16 0) 4 (0x3008000 + number * 0x8000)) 7 number small
-          (set_word (replicate 16 0) 4 (0x3008000 + number * 0x8000) top (zero_word 16));
+      sixteen = length-set (slice_set (replicate 16 0) 4 (STACKS_ADDRESS + (number + 1) * THREAD_DISTANCE)) 7 number
+          ∙ (length-set (replicate 16 0) 4 (STACKS_ADDRESS + (number + 1) * THREAD_DISTANCE) ∙ length-replicate {A = ℕ} 16 0);
+      words = set_word (slice_set (replicate 16 0) 4 (STACKS_ADDRESS + (number + 1) * THREAD_DISTANCE)) 7 number small
+          (set_word (replicate 16 0) 4 (STACKS_ADDRESS + (number + 1) * THREAD_DISTANCE) top (zero_word 16));
       rip = word;
     }
 

@@ -10,7 +10,7 @@ use Rattle.sb_insn.specs.declared.insn.Disp.TheVariants as disp
 use Rattle.sb_insn.specs.declared.insn.Imm.TheVariants as imm
 use Rattle.sb_insn.specs.OpcodeMap.{one_byte, two_byte}
 use Rattle.sb_insn.specs.Groups.{group_operand}
-use Rattle.sb_insn.specs.Fields.{permits, has_sib, modrm_disp}
+use Rattle.sb_insn.specs.Fields.{modrm_opcode_permits, has_sib, modrm_disp}
 use Rattle.sb_forms.specs.Pieces.{opcode_alone}
 use Rattle.sb_bundle.specs.Spelling.{number_bytes}
 use Rattle.sb_rewrite.specs.Listing.{spelled_bytes, AllValid}
@@ -100,9 +100,9 @@ fits : (n : ℕ) → n < 2 ^ 31 → FitsSigned w32 (pos n)
 fits n below = record { sfits = omega (arith, below) }
 
 pub server_valid : AllValid server_insns
-unfolding one_byte two_byte group_operand permits has_sib modrm_disp
+unfolding one_byte two_byte group_operand modrm_opcode_permits has_sib modrm_disp
 server_valid = search (ltb-true, sfits_lit)
 
 pub client_valid : (server calls : ℕ) → server < 2 ^ 31 → calls < 2 ^ 31 → AllValid (client_insns server calls)
-unfolding one_byte two_byte group_operand permits has_sib modrm_disp
+unfolding one_byte two_byte group_operand modrm_opcode_permits has_sib modrm_disp
 client_valid server calls below few = let a = fits server below in let b = fits calls few in search (ltb-true, sfits_lit, a, b)

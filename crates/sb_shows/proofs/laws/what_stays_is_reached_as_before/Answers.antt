@@ -1,0 +1,9 @@
+use Rattle.sb_shows.proofs.InPlace.{addresses_stay}
+use Rattle.sb_shows.proofs.Unseen.{seen_stay}
+use Rattle.sb_shows.proofs.laws.what_stays_is_reached_as_before.Goals as goal
+
+pub returns-clause-addresses : goal.returns-clause-addresses
+returns-clause-addresses c = addresses_stay
+
+pub returns-clause-translations : goal.returns-clause-translations
+returns-clause-translations c = seen_stay

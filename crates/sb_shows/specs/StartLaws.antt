@@ -1,0 +1,51 @@
+-- The laws of the steps of a start: what is kept before a step is kept after it, and no translation changes.
+use Rattle.std.specs.Prelude.{ℕ, ◌≡◌, ◌<◌, None, [], length}
+use Rattle.sb_abi.specs.declared.space.TheConstants.{MAX_THREADS}
+use Rattle.sb_memory.specs.Physical.{Physical}
+use Rattle.sb_pagewalk.specs.declared.table_set.TableSet.{TableSet}
+use Rattle.sb_root.specs.declared.root_kernel.RootKernel.{RootKernel}
+use Rattle.sb_tramp.specs.declared.record_words.RecordWords.{RecordWords}
+use Rattle.sb_state.specs.declared.page.PageName.TheVariants.{Buffer, Record, Save, Scratch, Stack}
+use Rattle.sb_state.specs.declared.state.Thread.{Thread}
+use Rattle.sb_trace.specs.State.{State, Process, find_page}
+use Rattle.sb_shows.specs.Placement.{Placement}
+use Rattle.sb_shows.specs.Keeping.{Keeps}
+use Rattle.sb_shows.specs.InPlace.{KeepsUnseen}
+use Rattle.sb_shows.specs.Views.{AddsList, AddsRootView, placed_list, placed_view, with_new_thread}
+use Rattle.sb_shows.specs.Starts.{IsFirst, first_placement, AddsTables, placed_tables, HasNoPages, with_new_process}
+
+-- without processes and threads, what `RootKernel::new` built and the two pages of the trampoline are kept
+abbrev pub FirstKeeps : Type 0
+FirstKeeps = (sets : ℕ → TableSet) (state : State) (memory : Physical) → IsFirst state memory
+    → Keeps (first_placement sets) state memory
+
+-- a process is added: its tables are built, lead to the pages that each view has of its own, and are exposed
+abbrev pub ProcessesKeep : Type 0
+ProcessesKeep =
+    (placement : Placement) (state : State) (memory new : Physical) (process : Process)
+    → Keeps placement state memory → HasNoPages state.pages (length state.processes)
+    → (adds : AddsTables placement (length state.processes) memory new)
+    → KeepsUnseen placement (placed_tables placement (length state.processes) adds.set) state (with_new_process state process)
+    memory new
+
+-- a list is added
+abbrev pub ListsKeep : Type 0
+ListsKeep =
+    (placement : Placement) (state : State) (memory new : Physical) (root : RootKernel) (thread : ℕ)
+    → Keeps placement state memory → (adds : AddsList placement root thread memory new)
+    → KeepsUnseen placement (placed_list placement root thread adds.frame.0) state state memory new
+
+-- a thread is added with its home view, of which no page is there yet
+abbrev pub ThreadsKeep : Type 0
+ThreadsKeep =
+    (placement : Placement) (state : State) (memory new : Physical) (root : RootKernel) (thread : Thread) (words : RecordWords)
+    → Keeps placement state memory → thread.bindings ≡ [] → thread.home < length state.processes
+    → length state.threads < MAX_THREADS
+    → find_page state.pages (Record (length state.threads) 0) ≡ None
+    → find_page state.pages (Scratch (length state.threads) 0) ≡ None
+    → ((index page : ℕ) → find_page state.pages (Buffer (length state.threads) index page) ≡ None)
+    → find_page state.pages (Save (length state.threads)) ≡ None
+    → ((page : ℕ) → find_page state.pages (Stack (length state.threads) page) ≡ None)
+    → (adds : AddsRootView placement root (length state.threads) 0 thread.home thread.home words memory new)
+    → KeepsUnseen placement (placed_view placement root (length state.threads) 0 adds.view) state
+    (with_new_thread state thread words) memory new

@@ -1,0 +1,47 @@
+//! What the calls of a kernel keep.
+
+ghost use Rattle.sb_shows.specs.CallLaws.{BindsKeep, FreeIndicesAgree, MovesKeep, PagesKeep, ProtectsKeep, RegistersKeep, RemovalsKeep, SoundBindsKeep, SoundProtectsKeep, SoundRegistersKeep, ViewRemovalsKeep};
+ghost use Rattle.sb_shows.specs.Fills.{ClearsFill, ImagesFill, PagesFill, WordsFill};
+ghost use Rattle.sb_shows.specs.StartLaws.{FirstKeeps, ListsKeep, ProcessesKeep, ThreadsKeep};
+
+/// What the kernel's calls leave is kept as well: changes that tables do not show, a change of a heap page's mode, new pages,
+/// pages and views that go, a registration, and a binding. Where pages are added, those that were there stay in their frames, and
+/// each translation that gave an address gives the same; where pages or views go, so do those that are left.
+///
+/// `sound_protects`, `sound_registers` and `sound_binds` say it where the state is sound: the pages that they ask for are there,
+/// and those that are added are not.
+pub fn calls_keep()
+    ensures moves { MovesKeep }
+    ensures protects { ProtectsKeep }
+    ensures pages { PagesKeep }
+    ensures removals { RemovalsKeep }
+    ensures view_removals { ViewRemovalsKeep }
+    ensures registers { RegistersKeep }
+    ensures binds { BindsKeep }
+    ensures sound_protects { SoundProtectsKeep }
+    ensures sound_registers { SoundRegistersKeep }
+    ensures sound_binds { SoundBindsKeep }
+{}
+
+/// The index that the root kernel gives a view is the lowest that the thread has free.
+pub fn free_indices_agree()
+    ensures { FreeIndicesAgree }
+{}
+
+/// What the steps of a start leave is kept: memory before there are processes and threads, a process with its tables, a list, and
+/// a thread with its home view. No step changes a translation.
+pub fn start_steps_keep()
+    ensures first { FirstKeeps }
+    ensures processes { ProcessesKeep }
+    ensures lists { ListsKeep }
+    ensures threads { ThreadsKeep }
+{}
+
+/// What fills a frame that a page is added in: the frame is cleared, a page is put into it, bytes of an image are put over a
+/// filler, or a word is put.
+pub fn frames_are_filled()
+    ensures cleared { ClearsFill }
+    ensures pages { PagesFill }
+    ensures images { ImagesFill }
+    ensures words { WordsFill }
+{}
