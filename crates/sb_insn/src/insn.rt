@@ -8,7 +8,6 @@ ghost use Rattle.sb_insn.specs.Branch.{imm_value, is_direct, direct_target};
 ghost use Rattle.sb_insn.specs.Grammar.{IsByte, FitsDisp, FitsImm, IsValid};
 
 use crate::fields::{disp_kind, imm_kind, is_rex, permits_modrm, stands_alone, wants_sib};
-use crate::lookup::instruction_of;
 use crate::opcode_map::{Cell, OperandForm};
 use crate::opcodes::cell_of;
 
@@ -253,12 +252,14 @@ impl Insn {
 
     /// Whether it is JMP, Jcc or CALL with a distance (SDM volume 2), by its opcode alone.
     #[inline(always)]
+    #[tactic(auto, using(crate::proofs::Direct::direct_by_cell))]
     pub fn is_direct(&self) -> bool
         ensures { result ≡ is_direct self.now }
     {
-        match instruction_of(self) {
-            None => false,
-            Some(instruction) => matches!(instruction.form, OperandForm::Relative),
+        match cell_of(self.op) {
+            Cell::NoModRm(opcode) => matches!(opcode.instruction.form, OperandForm::Relative),
+            // No opcode with a ModRM byte has a distance.
+            Cell::Absent | Cell::ModRm(_) | Cell::Extended(..) => false,
         }
     }
 

@@ -1,14 +1,14 @@
 -- The bits of addresses, and which addresses they list.
-use Rattle.std.proofs.Common.{◌≡◌, ◌↔◌, IsTrue, ℕ, ◌-◌, ◌*◌, ◌%◌, ◌^◌, ◌<◌, ◌≤◌, Bool, true, false, ◌&&◌, ◌||◌, List, [], ◌∷◌, ◌++◌, length, get_or, set, take, replicate, refl, ap, sym, subst, ◌∙◌, arith, ⊎_elim}
-use Rattle.std.specs.Prelude.{◌==◌, nat_le, if◌then◌else◌}
+use Rattle.std.proofs.Common.{◌≡◌, ◌↔◌, IsTrue, ℕ, ◌*◌, ◌%◌, ◌^◌, ◌<◌, ◌≤◌, Bool, true, false, ◌&&◌, ◌||◌, List, length, get_or, set, ap, sym, subst, ◌∙◌, arith, ⊎_elim}
+use Rattle.std.specs.Prelude.{◌==◌, nat_le}
 use Rattle.std.specs.List.{Contains}
 use Rattle.std.specs.Int.{bit_at, w64}
 use Rattle.std.specs.Int.RustNames.{bit_or}
 use Rattle.std.proofs.lemmas.Bool.{eqb-true, eq-eqb, ne_eqb, le-leb, lt-leb, and_left, and_right, or_left, cases_eq, cases_lt}
-use Rattle.std.proofs.lemmas.List.{get_or-set_same, get_or-set_other, get_or_append_left, get_or-append_right, get_or-replicate, get_or_past, take_all, get_or_default, length-replicate}
-use Rattle.std.proofs.lemmas.List.Folds.{list_any-append, Any-from_list_any, list_any_at}
+use Rattle.std.proofs.lemmas.List.{get_or-set_same, get_or-set_other, get_or_past, get_or_default}
+use Rattle.std.proofs.lemmas.List.Folds.{Any-from_list_any, list_any_at}
 use Rattle.std.proofs.lemmas.Nat.Bits.{bit_at-zero, bit_at_set_same, bit_at_set_other}
-use Rattle.sb_rewrite.specs.StartBits.{word_index, bit_index, has_bit, is_listed, AreBitsOf, KeepsBits, SetsBit}
+use Rattle.sb_rewrite.specs.StartBits.{word_index, bit_index, has_bit, is_listed, AreBitsOf, SetsBit}
 
 -- ---- a bit
 
@@ -17,7 +17,7 @@ pub before_text : (words : List ℕ) (at : ℕ) → at < 0x400000 → has_bit wo
 before_text words at before = and_left (nat_le 0x400000 at) _ (lt-leb 0x400000 at before)
 
 -- the word of another address tells
-pub in_text : (words : List ℕ) (at : ℕ) → 0x400000 ≤ at
+in_text : (words : List ℕ) (at : ℕ) → 0x400000 ≤ at
     → has_bit words at ≡ (bit_at (get_or words (word_index at) 0) (bit_index at) == 1)
 in_text words at low =
     ap (λ (test : Bool). test && (bit_at (get_or words (word_index at) 0) (bit_index at) == 1)) (le-leb 0x400000 at low)
@@ -33,31 +33,6 @@ behind_words words at behind =
 same_word : (old new : List ℕ) (at : ℕ) → get_or new (word_index at) 0 ≡ get_or old (word_index at) 0
     → has_bit new at ≡ has_bit old at
 same_word old new at same = ap (λ (word : ℕ). nat_le 0x400000 at && (bit_at word (bit_index at) == 1)) same
-
-zero_at : (count index : ℕ) → get_or {A = ℕ} (replicate count 0) index 0 ≡ 0
-zero_at count index =
-    ⊎_elim (λ within. get_or-replicate count index 0 0 within)
-    (λ behind. get_or_past (replicate count 0) index 0 (omega (arith, length-replicate {A = ℕ} count 0, behind)))
-    (cases_lt index count)
-
--- zeros behind the words change no bit
-pub zeros_behind : (words : List ℕ) (count : ℕ) → KeepsBits words (words ++ replicate count 0)
-zeros_behind words count at =
-    same_word words (words ++ replicate count 0) at
-    (⊎_elim (λ within. get_or_append_left words (replicate count 0) 0 (word_index at) within)
-    (λ behind.
-    get_or-append_right words (replicate count 0) (length words) (word_index at) 0 refl behind
-    ∙ zero_at count (word_index at - length words)
-    ∙ sym (get_or_past words (word_index at) 0 behind))
-    (cases_lt (word_index at) (length words)))
-
--- words that are as many, or more with zeros behind them, have the same bits
-pub bits_of_more : (old new : List ℕ) (count more : ℕ) (done : Bool) → length old ≤ count
-    → new ≡ (if done then take count old ++ replicate more 0 else old) → KeepsBits old new
-bits_of_more old new count more true less is =
-    subst (λ (words : List ℕ). KeepsBits old words)
-    (sym (is ∙ ap (λ (front : List ℕ). front ++ replicate more 0) (take_all count old less))) (zeros_behind old more)
-bits_of_more old new count more false less is = subst (λ (words : List ℕ). KeepsBits old words) (sym is) (λ at. refl)
 
 -- ---- one more bit
 
@@ -121,27 +96,6 @@ sets_bit words at word low room is =
     (sym is) (with_its_bit words at low room)
 
 -- ---- which addresses the bits list
-
-pub no_bits : AreBitsOf [] []
-no_bits at = behind_words [] at (omega arith)
-
-pub bits_kept : (starts words new : List ℕ) → AreBitsOf starts words → KeepsBits words new → AreBitsOf starts new
-bits_kept starts words new bits kept at = kept at ∙ bits at
-
-or_last : (first rest : Bool) → (first || rest) ≡ (rest || (first || false))
-or_last true true = refl
-or_last true false = refl
-or_last false true = refl
-or_last false false = refl
-
--- one more address is listed
-pub bits_push : (starts words new : List ℕ) (at : ℕ) → AreBitsOf starts words → SetsBit at words new
-    → AreBitsOf (starts ++ at ∷ []) new
-bits_push starts words new at bits sets other =
-    sets other
-    ∙ ap (λ (test : Bool). (at == other) || test) (bits other)
-    ∙ or_last (at == other) (is_listed starts other)
-    ∙ sym (list_any-append (λ start. start == other) starts (at ∷ []))
 
 listed_contained : (starts : List ℕ) (at : ℕ) → is_listed starts at ≡ true → Contains starts at
 listed_contained starts at is =
