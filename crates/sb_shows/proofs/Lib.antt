@@ -38,3 +38,4 @@ pub mod Fetched
 pub mod Refuted
 pub mod Example
 pub mod Dumped
+pub mod SeenPages
