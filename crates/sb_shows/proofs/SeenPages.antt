@@ -1,5 +1,5 @@
 -- Who sees the pages of a process, of a thread and of a binding, by their names.
-use Rattle.std.proofs.Common.{◌≡◌, ℕ, ◌<◌, [], ◌∷◌, List, sym, subst, arith}
+use Rattle.std.proofs.Common.{◌<◌, [], ◌∷◌, sym, subst, arith}
 use Rattle.sb_state.specs.declared.page.PageName.TheVariants.{Text, Area, Data, Heap, Pool, ServerStack, Save, Stack, Buffer, Record, Scratch, HomeTrampoline, ServerTrampoline}
 use Rattle.sb_shows.specs.Calls.{IsSeenIn}
 use Rattle.sb_shows.specs.SeenLaws.{ProcessesSeeTheirPages, HomesSeeSavePages, HomesSeeStacks, HomesAndServersSeeBuffers}
