@@ -39,3 +39,4 @@ pub mod Refuted
 pub mod Example
 pub mod Dumped
 pub mod SeenPages
+pub mod NewPages
