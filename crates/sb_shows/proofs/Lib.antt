@@ -38,3 +38,5 @@ pub mod Fetched
 pub mod Refuted
 pub mod Example
 pub mod Dumped
+pub mod SeenPages
+pub mod NewPages

@@ -1,5 +1,5 @@
 -- A process becomes a server: its pool word is set, and pages of stacks are added.
-use Rattle.std.proofs.Common.{◌≡◌, ◌≢◌, ◌∙◌, sym, ap, subst, ℕ, zero, suc, ◌+◌, ◌-◌, ◌*◌, ◌%◌, ◌^◌, ◌<◌, ◌≤◌, ◌==◌, ◌&&◌, ◌||◌, Bool, true, false, nat_le, nat_lt, List, [], ◌∷◌, ◌++◌, length, refl, lit<, lit≤, arith}
+use Rattle.std.proofs.Common.{◌≡◌, ◌≢◌, ◌∙◌, sym, ap, subst, ℕ, zero, ◌+◌, ◌-◌, ◌*◌, ◌%◌, ◌^◌, ◌<◌, ◌≤◌, ◌==◌, ◌&&◌, ◌||◌, Bool, true, false, nat_le, nat_lt, List, [], ◌∷◌, ◌++◌, length, refl, lit<, lit≤, arith}
 use Rattle.std.specs.Prelude.{Option, Some, None}
 use Rattle.std.proofs.lemmas.Grind.{common_steps}
 use Rattle.std.proofs.lemmas.Bool.{eqb-true, eqb-false}
@@ -34,8 +34,8 @@ use Rattle.sb_shows.specs.InPlace.{StaysInPlace}
 use Rattle.sb_shows.proofs.Numbers.{name_number}
 use Rattle.sb_memory.proofs.Words.{word_held}
 use Rattle.sb_shows.proofs.Putting.{replaced_shapes, keeps_replaced}
-use Rattle.sb_shows.proofs.Adding.{added_other}
 use Rattle.sb_shows.proofs.AddingPages.{pages_added, pages_stay}
+use Rattle.sb_shows.proofs.NewPages.{new_from}
 use Rattle.sb_shows.proofs.InPlace.{kept_in_place, stays_then, stays_moved, stays_shaped}
 use Rattle.sb_shows.proofs.Threads.{keeps_moved}
 use Rattle.sb_trace.proofs.KeptPages.{size_if}
@@ -117,24 +117,19 @@ stack_size page =
 pub stacks_differ : (process page other : ℕ) → page ≢ other → ServerStack process page ≢ ServerStack process other
 stacks_differ process page other differ same = let e : page ≡ other = cc in differ e
 
-new_stacks : (count first : ℕ) (threads : List Thread) (processes : ℕ) (pages : List Page) (process : ℕ) → process < processes
-    → first + count ≤ 512
-    → ((page : ℕ) → first ≤ page → find_page pages (ServerStack process page) ≡ None)
-    → AreNewPages threads processes pages (process ∷ []) (pages_from (server_stack_page process) first count)
+new_stacks : (count : ℕ) (threads : List Thread) (processes : ℕ) (pages : List Page) (process : ℕ) → process < processes
+    → count ≤ 512
+    → ((page : ℕ) → find_page pages (ServerStack process page) ≡ None)
+    → AreNewPages threads processes pages (process ∷ []) (pages_from (server_stack_page process) 0 count)
 unfolding is_own
-new_stacks zero first threads processes pages process there few none = tt
-new_stacks (suc count) first threads processes pages process there few none = (
-  record {
-    absent = none first (omega arith);
-    shared_page = refl;
-    size = stack_size first;
-    seen = stack_seen threads processes process first there (omega arith);
-  },
-  new_stacks count (first + 1) threads processes (pages ++ server_stack_page process first ∷ []) process there (omega arith)
-      (λ page above. added_other pages (server_stack_page process first) (ServerStack process page)
-      (name_other (ServerStack process first) (ServerStack process page) (stacks_differ process first page (omega arith)))
-      ∙ none page (omega arith)),
-)
+new_stacks count threads processes pages process there few none =
+    new_from count 0 (server_stack_page process) threads processes pages (process ∷ []) (stacks_differ process)
+    (λ page above below. record {
+      shared_page = refl;
+      size = stack_size page;
+      seen = stack_seen threads processes process page there (omega arith);
+    })
+    (λ page above. none page)
 
 -- ---- the call
 
@@ -161,9 +156,9 @@ stacks_new : (state : State) (process stacks : ℕ) → process < length state.p
     → AreNewPages state.threads (length state.processes) (pooled state process stacks).pages (process ∷ [])
     (stacked process stacks)
 stacks_new state process stacks there few none =
-    new_stacks (4 * stacks) 0 state.threads (length state.processes) (pooled state process stacks).pages process there
+    new_stacks (4 * stacks) state.threads (length state.processes) (pooled state process stacks).pages process there
     (omega arith)
-    (λ page above. found_other state.pages (Pool process) (ServerStack process page)
+    (λ page. found_other state.pages (Pool process) (ServerStack process page)
     (put_word (contents state (Pool process)) 0 (2 ^ stacks - 1))
     (name_other (Pool process) (ServerStack process page) (pools_differ process page)) ∙ none page)
 

@@ -2,6 +2,7 @@
 
 ghost use Rattle.sb_shows.specs.CallLaws.{BindsKeep, FreeIndicesAgree, MovesKeep, PagesKeep, ProtectsKeep, RegistersKeep, RemovalsKeep, SoundBindsKeep, SoundProtectsKeep, SoundRegistersKeep, ViewRemovalsKeep};
 ghost use Rattle.sb_shows.specs.Fills.{ClearsFill, ImagesFill, PagesFill, WordsFill};
+ghost use Rattle.sb_shows.specs.SeenLaws.{HomesAndServersSeeBuffers, HomesSeeSavePages, HomesSeeStacks, ProcessesSeeTheirPages};
 ghost use Rattle.sb_shows.specs.StartLaws.{FirstKeeps, ListsKeep, ProcessesKeep, ThreadsKeep};
 
 /// What the kernel's calls leave is kept as well: changes that tables do not show, a change of a heap page's mode, new pages,
@@ -21,6 +22,15 @@ pub fn calls_keep()
     ensures sound_protects { SoundProtectsKeep }
     ensures sound_registers { SoundRegistersKeep }
     ensures sound_binds { SoundBindsKeep }
+{}
+
+/// Who sees the pages that are added and taken away: a page of a process that process alone, the save page and the stack of a
+/// thread its home, and the buffer of a binding the thread's home and the server.
+pub fn pages_are_seen()
+    ensures processes { ProcessesSeeTheirPages }
+    ensures saves { HomesSeeSavePages }
+    ensures stacks { HomesSeeStacks }
+    ensures buffers { HomesAndServersSeeBuffers }
 {}
 
 /// The index that the root kernel gives a view is the lowest that the thread has free.
