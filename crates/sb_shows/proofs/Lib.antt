@@ -40,3 +40,4 @@ pub mod Example
 pub mod Dumped
 pub mod SeenPages
 pub mod NewPages
+pub mod WholeProcesses

@@ -1,6 +1,6 @@
 -- The laws of the steps of a start: what is kept before a step is kept after it, and no translation changes.
-use Rattle.std.specs.Prelude.{ℕ, ◌≡◌, ◌<◌, None, [], length}
-use Rattle.sb_abi.specs.declared.space.TheConstants.{MAX_THREADS}
+use Rattle.std.specs.Prelude.{ℕ, ◌≡◌, ◌<◌, ◌≤◌, None, [], ◌∷◌, ◌++◌, length}
+use Rattle.sb_abi.specs.declared.space.TheConstants.{MAX_THREADS, WINDOW_PAGES, AREA_PAGES}
 use Rattle.sb_memory.specs.Physical.{Physical}
 use Rattle.sb_pagewalk.specs.declared.table_set.TableSet.{TableSet}
 use Rattle.sb_root.specs.declared.root_kernel.RootKernel.{RootKernel}
@@ -8,9 +8,11 @@ use Rattle.sb_tramp.specs.declared.record_words.RecordWords.{RecordWords}
 use Rattle.sb_state.specs.declared.page.PageName.TheVariants.{Buffer, Record, Save, Scratch, Stack}
 use Rattle.sb_state.specs.declared.state.Thread.{Thread}
 use Rattle.sb_trace.specs.State.{State, Process, find_page}
+use Rattle.sb_trace.specs.Start.{ProcessImage, page_count, process_pages, start_process}
 use Rattle.sb_shows.specs.Placement.{Placement}
 use Rattle.sb_shows.specs.Keeping.{Keeps}
-use Rattle.sb_shows.specs.InPlace.{KeepsUnseen}
+use Rattle.sb_shows.specs.Calls.{AddsPages, placed_all}
+use Rattle.sb_shows.specs.InPlace.{KeepsInPlace, KeepsUnseen}
 use Rattle.sb_shows.specs.Views.{AddsList, AddsRootView, placed_list, placed_view, with_new_thread}
 use Rattle.sb_shows.specs.Starts.{IsFirst, first_placement, AddsTables, placed_tables, HasNoPages, with_new_process}
 
@@ -27,6 +29,28 @@ ProcessesKeep =
     → (adds : AddsTables placement (length state.processes) memory new)
     → KeepsUnseen placement (placed_tables placement (length state.processes) adds.set) state (with_new_process state process)
     memory new
+
+-- the pages of an image are within their windows
+pub record FitsWindows (image : ProcessImage) : Type 0 where
+  pub text : page_count (length image.text) ≤ WINDOW_PAGES
+  pub area : page_count (length image.area) ≤ AREA_PAGES
+  pub initial : page_count (length image.initial) ≤ WINDOW_PAGES
+  pub heap : image.heap_pages ≤ WINDOW_PAGES
+
+-- A process of an image is added whole: its tables, and then its pages. What was there stays in its place.
+abbrev pub WholeProcessesKeep : Type 0
+WholeProcessesKeep =
+    (placement : Placement) (state : State) (memory mid new : Physical) (image : ProcessImage)
+    → Keeps placement state memory → HasNoPages state.pages (length state.processes) → FitsWindows image
+    → (tables : AddsTables placement (length state.processes) memory mid)
+    → (adds : AddsPages (placed_tables placement (length state.processes) tables.set) (length state.processes ∷ [])
+    (process_pages (length state.processes) image) mid new)
+    → KeepsInPlace placement
+    (placed_all (placed_tables placement (length state.processes) tables.set) (length state.processes ∷ [])
+    (process_pages (length state.processes) image) mid new adds) state
+    (record (with_new_process state (start_process image)) {
+      pages = state.pages ++ process_pages (length state.processes) image;
+    }) memory new
 
 -- a list is added
 abbrev pub ListsKeep : Type 0

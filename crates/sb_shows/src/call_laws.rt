@@ -3,7 +3,7 @@
 ghost use Rattle.sb_shows.specs.CallLaws.{BindsKeep, FreeIndicesAgree, MovesKeep, PagesKeep, ProtectsKeep, RegistersKeep, RemovalsKeep, SoundBindsKeep, SoundProtectsKeep, SoundRegistersKeep, ViewRemovalsKeep};
 ghost use Rattle.sb_shows.specs.Fills.{ClearsFill, ImagesFill, PagesFill, WordsFill};
 ghost use Rattle.sb_shows.specs.SeenLaws.{HomesAndServersSeeBuffers, HomesSeeSavePages, HomesSeeStacks, ProcessesSeeTheirPages};
-ghost use Rattle.sb_shows.specs.StartLaws.{FirstKeeps, ListsKeep, ProcessesKeep, ThreadsKeep};
+ghost use Rattle.sb_shows.specs.StartLaws.{FirstKeeps, ListsKeep, ProcessesKeep, ThreadsKeep, WholeProcessesKeep};
 
 /// What the kernel's calls leave is kept as well: changes that tables do not show, a change of a heap page's mode, new pages,
 /// pages and views that go, a registration, and a binding. Where pages are added, those that were there stay in their frames, and
@@ -43,6 +43,7 @@ pub fn free_indices_agree()
 pub fn start_steps_keep()
     ensures first { FirstKeeps }
     ensures processes { ProcessesKeep }
+    ensures whole_processes { WholeProcessesKeep }
     ensures lists { ListsKeep }
     ensures threads { ThreadsKeep }
 {}

@@ -1,5 +1,6 @@
 use Rattle.sb_shows.proofs.Starting.{first_kept, thread_kept}
 use Rattle.sb_shows.proofs.Processes.{process_kept}
+use Rattle.sb_shows.proofs.WholeProcesses.{whole_kept}
 use Rattle.sb_shows.proofs.Listing.{list_kept}
 use Rattle.sb_shows.proofs.call_laws.start_steps_keep.Goals as goal
 
@@ -8,6 +9,9 @@ returns-clause-first c = first_kept
 
 pub returns-clause-processes : goal.returns-clause-processes
 returns-clause-processes c = process_kept
+
+pub returns-clause-whole_processes : goal.returns-clause-whole_processes
+returns-clause-whole_processes c = whole_kept
 
 pub returns-clause-lists : goal.returns-clause-lists
 returns-clause-lists c = list_kept
