@@ -41,3 +41,4 @@ pub mod Dumped
 pub mod SeenPages
 pub mod NewPages
 pub mod WholeProcesses
+pub mod WholeThreads
