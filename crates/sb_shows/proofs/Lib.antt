@@ -40,3 +40,5 @@ pub mod Example
 pub mod Dumped
 pub mod SeenPages
 pub mod NewPages
+pub mod WholeProcesses
+pub mod WholeThreads

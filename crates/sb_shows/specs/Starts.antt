@@ -2,7 +2,7 @@
 use Rattle.std.specs.Prelude.{ℕ, zero, suc, ◌≡◌, ◌+◌, ◌*◌, ◌<◌, ◌≤◌, ◌==◌, List, [], ◌∷◌, ◌++◌, None, length, if◌then◌else◌}
 use Rattle.sb_abi.specs.declared.frames.TheConstants.{KEPT_FRAMES}
 use Rattle.sb_abi.specs.declared.layout.TheConstants.{HOME_TRAMPOLINE_FRAME, SERVER_TRAMPOLINE_FRAME, FIRST_ROOT, TRAMPOLINE_GUEST_PAGE, RECORD_GUEST_PAGE, SCRATCH_GUEST_PAGE}
-use Rattle.sb_abi.specs.declared.space.TheConstants.{MAX_PROCESSES}
+use Rattle.sb_abi.specs.declared.space.TheConstants.{MAX_PROCESSES, STACK_PAGES}
 use Rattle.sb_abi.specs.declared.trampoline.TheConstants.{TRAMPOLINE_PAGE, RECORD_PAGE, SCRATCH_PAGE}
 use Rattle.sb_memory.specs.declared.page.TheConstants.{PAGE_SIZE}
 use Rattle.sb_memory.specs.Physical.{Physical, HoldsBytes}
@@ -15,17 +15,18 @@ use Rattle.sb_root.specs.declared.root_kernel.RootKernel.{RootKernel}
 use Rattle.sb_root.specs.Root.{no_threads}
 use Rattle.sb_root.specs.Standing.{Stands}
 use Rattle.sb_root.specs.Tables.{base_frames}
-use Rattle.sb_state.specs.declared.page.PageName.TheVariants.{Text, Area, Data, Heap, Pool, ServerStack, HomeTrampoline, ServerTrampoline}
+use Rattle.sb_state.specs.declared.page.PageName.TheVariants.{Text, Area, Data, Heap, Pool, ServerStack, Save, Stack, Buffer, Record, Scratch, HomeTrampoline, ServerTrampoline}
 use Rattle.sb_state.specs.declared.page.Mode.TheVariants.{Fetch, Read, ReadWrite}
 use Rattle.sb_state.specs.declared.page.Page.{Page}
 use Rattle.sb_trace.specs.PageName.{same_name}
-use Rattle.sb_trace.specs.State.{State, Process, find_page}
-use Rattle.sb_trace.specs.Start.{trampoline_pages}
+use Rattle.sb_trace.specs.PageWords.{zeros}
+use Rattle.sb_trace.specs.State.{State, Process, find_page, page_with}
+use Rattle.sb_trace.specs.Start.{ThreadEntry, pages_from, home_words, start_thread, trampoline_pages}
 use Rattle.sb_tramp.specs.Home.{home_page}
 use Rattle.sb_tramp.specs.Server.{server_page}
 use Rattle.sb_shows.specs.Placement.{Placement, Purpose, Unused, BaseTable, GuestTable, Holds, leaf_for}
 use Rattle.sb_shows.specs.Calls.{SetsPage, ExposesFrame}
-use Rattle.sb_shows.specs.Views.{purposes_with}
+use Rattle.sb_shows.specs.Views.{purposes_with, with_new_thread}
 
 -- ---- before there are processes and threads
 
@@ -103,3 +104,29 @@ pub record HasNoPages (pages : List Page) (process : ℕ) : Type 0 where
 -- the state with one process more, and as yet without its pages
 abbrev pub with_new_process : State → Process → State
 with_new_process state process = record state { processes = state.processes ++ process ∷ [] }
+
+-- ---- the pages of a thread
+
+-- none of the pages of a thread is there: those of its views, its buffers, its save page and its stack
+pub record HasNoThreadPages (pages : List Page) (thread : ℕ) : Type 0 where
+  pub words : find_page pages (Record thread 0) ≡ None
+  pub scratch : find_page pages (Scratch thread 0) ≡ None
+  pub buffers : (index page : ℕ) → find_page pages (Buffer thread index page) ≡ None
+  pub save : find_page pages (Save thread) ≡ None
+  pub stack : (page : ℕ) → find_page pages (Stack thread page) ≡ None
+
+-- the save page and the stack of a thread
+abbrev pub stack_page : ℕ → ℕ → Page
+stack_page thread page = page_with (Stack thread page) zeros
+
+abbrev pub save_and_stack : ℕ → List Page
+save_and_stack thread = page_with (Save thread) zeros ∷ pages_from (stack_page thread) 0 STACK_PAGES
+
+-- the state with one thread more, of this entry, and all its pages
+abbrev pub with_whole_thread : State → ThreadEntry → State
+with_whole_thread state entry =
+    record (with_new_thread state (start_thread (length state.threads) entry) (home_words (length state.threads) entry.home)) {
+      pages = (with_new_thread state (start_thread (length state.threads) entry)
+          (home_words (length state.threads) entry.home)).pages
+          ++ save_and_stack (length state.threads);
+    }

@@ -3,7 +3,7 @@
 ghost use Rattle.sb_shows.specs.CallLaws.{BindsKeep, FreeIndicesAgree, MovesKeep, PagesKeep, ProtectsKeep, RegistersKeep, RemovalsKeep, SoundBindsKeep, SoundProtectsKeep, SoundRegistersKeep, ViewRemovalsKeep};
 ghost use Rattle.sb_shows.specs.Fills.{ClearsFill, ImagesFill, PagesFill, WordsFill};
 ghost use Rattle.sb_shows.specs.SeenLaws.{HomesAndServersSeeBuffers, HomesSeeSavePages, HomesSeeStacks, ProcessesSeeTheirPages};
-ghost use Rattle.sb_shows.specs.StartLaws.{FirstKeeps, ListsKeep, ProcessesKeep, ThreadsKeep};
+ghost use Rattle.sb_shows.specs.StartLaws.{FirstKeeps, ListsKeep, ProcessesKeep, ThreadsKeep, WholeProcessesKeep, WholeThreadsKeep};
 
 /// What the kernel's calls leave is kept as well: changes that tables do not show, a change of a heap page's mode, new pages,
 /// pages and views that go, a registration, and a binding. Where pages are added, those that were there stay in their frames, and
@@ -38,13 +38,15 @@ pub fn free_indices_agree()
     ensures { FreeIndicesAgree }
 {}
 
-/// What the steps of a start leave is kept: memory before there are processes and threads, a process with its tables, a list, and
-/// a thread with its home view. No step changes a translation.
+/// What the steps of a start leave is kept: memory before there are processes and threads; the tables of a process, a list, and a
+/// thread with its home view, none of which changes a translation; and a process and a thread as a whole, with their pages.
 pub fn start_steps_keep()
     ensures first { FirstKeeps }
     ensures processes { ProcessesKeep }
+    ensures whole_processes { WholeProcessesKeep }
     ensures lists { ListsKeep }
     ensures threads { ThreadsKeep }
+    ensures whole_threads { WholeThreadsKeep }
 {}
 
 /// What fills a frame that a page is added in: the frame is cleared, a page is put into it, bytes of an image are put over a
