@@ -1,1 +1,2 @@
+pub mod BookLength
 pub mod TableFrames

@@ -6,7 +6,7 @@ ghost use Rattle.sb_memory.specs.Physical.{frame_count};
 ghost use Rattle.sb_pagewalk.specs.Windows.{IsInWindow};
 ghost use Rattle.sb_root.specs.Standing.{IsBooked, Stands};
 
-use crate::rows::{COUNT, ROWS, Seer, VIEWS, ViewRow};
+use crate::rows::{COUNT, ROWS, Row, Seer, VIEWS, ViewRow};
 use sb_frames::{FrameBook, Kind};
 use sb_memory::{Frame, Linear, Memory, Phys, PhysAddr};
 use sb_pagewalk::TableSet;
@@ -114,20 +114,22 @@ fn put_bytes(memory: &mut Memory, frame: u32, bytes: &[u8; 4096])
     }
 }
 
-/// Puts the bytes of all pages but the own ones of views.
-fn put_pages(memory: &mut Memory, frames: &[u32; COUNT])
-    ensures { frame_count memory.new ≡ frame_count memory.old }
+/// The book of that memory, with all its frames free.
+fn some_book(alloc: Global) -> Result<FrameBook, AllocError>
+    ensures { IfOk result (λ book. length book + 512 ≡ FRAMES) }
 {
-    for (row, &frame) in ROWS.iter().zip(frames) {
-        let mut bytes = [row.filler; 4096];
-        bytes[0] = row.first;
-        put_bytes(memory, frame, &bytes);
+    FrameBook::new(alloc, FRAMES)
+}
+
+/// Takes a frame; 0 where none is free.
+#[tactic(auto, using(crate::proofs::BookLength::length_after_take))]
+fn take_frame(book: &mut FrameBook) -> u32
+    ensures { length book.new ≡ length book.old }
+{
+    match book.take(Kind::Writable, 0) {
+        Some(frame) => frame.0,
+        None => 0,
     }
-    let mut bytes = [0; 4096];
-    put_home(&mut bytes);
-    put_bytes(memory, 1, &bytes);
-    put_server(&mut bytes);
-    put_bytes(memory, 4, &bytes);
 }
 
 /// Takes a frame for each page.
@@ -136,17 +138,45 @@ fn take_frames(book: &mut FrameBook) -> [u32; COUNT]
 {
     let mut frames = [0; COUNT];
     for index in 0..COUNT {
-        if let Some(Frame(frame)) = book.take(Kind::Writable, 0) {
-            frames[index] = frame;
-        }
+        frames[index] = take_frame(book);
     }
     frames
 }
 
+/// Puts the bytes of a page of the table into a frame.
+fn put_row(memory: &mut Memory, frame: u32, row: &Row)
+    ensures { frame_count memory.new ≡ frame_count memory.old }
+{
+    let mut bytes = [row.filler; 4096];
+    bytes[0] = row.first;
+    put_bytes(memory, frame, &bytes);
+}
+
+/// Puts the trampoline pages into their frames.
+fn put_trampoline(memory: &mut Memory)
+    ensures { frame_count memory.new ≡ frame_count memory.old }
+{
+    let mut bytes = [0; 4096];
+    put_home(&mut bytes);
+    put_bytes(memory, 1, &bytes);
+    put_server(&mut bytes);
+    put_bytes(memory, 4, &bytes);
+}
+
+/// Puts the bytes of all pages but the own ones of views.
+fn put_pages(memory: &mut Memory, frames: &[u32; COUNT])
+    ensures { frame_count memory.new ≡ frame_count memory.old }
+{
+    for (row, &frame) in ROWS.iter().zip(frames) {
+        put_row(memory, frame, row);
+    }
+    put_trampoline(memory);
+}
+
 /// A root kernel with its memory and book.
 #[derive(Drop)]
-pub struct Machine {
-    pub memory: Memory,
+struct Builder {
+    memory: Memory,
     book: FrameBook,
     root: RootKernel,
 
@@ -154,11 +184,11 @@ pub struct Machine {
     ghost booked: { IsBooked root book memory },
 }
 
-impl Machine {
+impl Builder {
     /// The machine with its pages, tables and views.
-    pub fn new(alloc: Global) -> Result<Machine, AllocError> {
+    fn new(alloc: Global) -> Result<Builder, AllocError> {
         let mut memory = some_memory(alloc)?;
-        let mut book = FrameBook::new(alloc, FRAMES)?;
+        let mut book = some_book(alloc)?;
         let frames = take_frames(&mut book);
         put_tables(
             &mut memory,
@@ -174,21 +204,26 @@ impl Machine {
         );
         put_pages(&mut memory, &frames);
         let root = RootKernel::new(&mut memory);
-        let mut machine = Machine { memory, book, root };
-        for (row, &frame) in ROWS.iter().zip(&frames) {
-            machine.expose(frame, rights(row.mode));
-        }
-        for first in TABLES {
-            for table in 0..11 {
-                machine.expose(first + table, 1);
-            }
-        }
+        let mut machine = Builder { memory, book, root };
+        machine.expose_all(&frames);
         machine.add_list(0);
         machine.add_list(1);
         for view in VIEWS {
             machine.add_view(&view);
         }
         Ok(machine)
+    }
+
+    /// Lets the pages and the tables be reached.
+    fn expose_all(&mut self, frames: &[u32; COUNT]) {
+        for (row, &frame) in ROWS.iter().zip(frames) {
+            self.expose(frame, rights(row.mode));
+        }
+        for first in TABLES {
+            for table in 0..11 {
+                self.expose(first + table, 1);
+            }
+        }
     }
 
     fn expose(&mut self, frame: u32, rights: u8) {
@@ -224,12 +259,37 @@ impl Machine {
         );
     }
 
+    /// The frame of a thread's list; frame 0 where it has none.
+    fn list(&self, thread: u8) -> Frame {
+        if thread >= 32 || !self.root.has_list(thread) {
+            return Frame(0);
+        }
+        self.root.list_frame(thread)
+    }
+}
+
+/// The machine: its memory, and the frames of the lists of its threads.
+#[derive(Drop)]
+pub struct Machine {
+    pub memory: Memory,
+    first: Frame,
+    second: Frame,
+}
+
+impl Machine {
+    /// The machine with its pages, tables and views.
+    pub fn new(alloc: Global) -> Result<Machine, AllocError> {
+        let built = Builder::new(alloc)?;
+        Ok(Machine {
+            first: built.list(0),
+            second: built.list(1),
+            memory: built.memory,
+        })
+    }
+
     /// The entry of a thread's list, as VMFUNC takes it, and 0 where there is none.
     pub fn pointer(&mut self, thread: u8, index: u16) -> u64 {
-        if thread >= 32 || !self.root.has_list(thread) {
-            return 0;
-        }
-        let list = self.root.list_frame(thread);
+        let list = if thread == 0 { self.first } else { self.second };
         if list.0 >= self.memory.frames() {
             return 0;
         }

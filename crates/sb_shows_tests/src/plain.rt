@@ -77,7 +77,10 @@ fn some_threads(alloc: Global) -> Result<Vec<Thread>, AllocError> {
         server: 1,
         key: 0x1122_3344_5566_7788,
     });
-    vec![in alloc; thread(0, bindings), thread(1, Bindings::new())]
+    let mut threads = Vec::new(alloc);
+    threads.push(thread(0, bindings))?;
+    threads.push(thread(1, Bindings::new()))?;
+    Ok(threads)
 }
 
 /// The state with these pages and threads.
