@@ -44,3 +44,4 @@ pub mod WholeProcesses
 pub mod WholeThreads
 pub mod ManyProcesses
 pub mod ManyThreads
+pub mod WholeStart
