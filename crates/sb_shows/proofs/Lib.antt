@@ -42,3 +42,6 @@ pub mod SeenPages
 pub mod NewPages
 pub mod WholeProcesses
 pub mod WholeThreads
+pub mod ManyProcesses
+pub mod ManyThreads
+pub mod WholeStart

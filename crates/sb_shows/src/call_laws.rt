@@ -4,6 +4,7 @@ ghost use Rattle.sb_shows.specs.CallLaws.{BindsKeep, FreeIndicesAgree, MovesKeep
 ghost use Rattle.sb_shows.specs.Fills.{ClearsFill, ImagesFill, PagesFill, WordsFill};
 ghost use Rattle.sb_shows.specs.SeenLaws.{HomesAndServersSeeBuffers, HomesSeeSavePages, HomesSeeStacks, ProcessesSeeTheirPages};
 ghost use Rattle.sb_shows.specs.StartLaws.{FirstKeeps, ListsKeep, ProcessesKeep, ThreadsKeep, WholeProcessesKeep, WholeThreadsKeep};
+ghost use Rattle.sb_shows.specs.WholeStart.{StartsKeep};
 
 /// What the kernel's calls leave is kept as well: changes that tables do not show, a change of a heap page's mode, new pages,
 /// pages and views that go, a registration, and a binding. Where pages are added, those that were there stay in their frames, and
@@ -39,7 +40,8 @@ pub fn free_indices_agree()
 {}
 
 /// What the steps of a start leave is kept: memory before there are processes and threads; the tables of a process, a list, and a
-/// thread with its home view, none of which changes a translation; and a process and a thread as a whole, with their pages.
+/// thread with its home view, none of which changes a translation; a process and a thread as a whole, with their pages; and, all
+/// of them one after another, the first state of images and entries.
 pub fn start_steps_keep()
     ensures first { FirstKeeps }
     ensures processes { ProcessesKeep }
@@ -47,6 +49,7 @@ pub fn start_steps_keep()
     ensures lists { ListsKeep }
     ensures threads { ThreadsKeep }
     ensures whole_threads { WholeThreadsKeep }
+    ensures start { StartsKeep }
 {}
 
 /// What fills a frame that a page is added in: the frame is cleared, a page is put into it, bytes of an image are put over a

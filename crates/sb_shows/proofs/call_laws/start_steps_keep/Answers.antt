@@ -1,6 +1,7 @@
 use Rattle.sb_shows.proofs.Starting.{first_kept, thread_kept}
 use Rattle.sb_shows.proofs.Processes.{process_kept}
 use Rattle.sb_shows.proofs.WholeProcesses.{whole_kept}
+use Rattle.sb_shows.proofs.WholeStart.{start_kept}
 use Rattle.sb_shows.proofs.WholeThreads.{whole_thread_kept}
 use Rattle.sb_shows.proofs.Listing.{list_kept}
 use Rattle.sb_shows.proofs.call_laws.start_steps_keep.Goals as goal
@@ -22,3 +23,6 @@ returns-clause-threads c = thread_kept
 
 pub returns-clause-whole_threads : goal.returns-clause-whole_threads
 returns-clause-whole_threads c = whole_thread_kept
+
+pub returns-clause-start : goal.returns-clause-start
+returns-clause-start c = start_kept
