@@ -120,8 +120,8 @@ threads_kept (entry ∷ entries) placement state memory new thread is keeps none
     let count : length (state.threads ++ start_thread thread entry ∷ []) ≡ thread + 1 =
     length-append state.threads (start_thread thread entry ∷ []) ∙ ap (λ (n : ℕ). n + 1) is in
     let served : thread < 8 = omega (arith, few) in
-    let first = one_kept placement state memory adds.0 entry thread is keeps homes.0 served (none.none thread (omega arith)) adds.1
-    in
+    let gone = none.none thread (omega arith) in
+    let first = one_kept placement state memory adds.0 entry thread is keeps homes.0 served gone adds.1 in
     let rest = threads_kept entries (placed_thread placement thread entry memory adds.0 adds.1)
     (record state {
       threads = state.threads ++ start_thread thread entry ∷ [];
