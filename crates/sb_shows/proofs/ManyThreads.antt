@@ -1,5 +1,5 @@
 -- The threads of a start are added one after another.
-use Rattle.std.proofs.Common.{◌≡◌, ◌≢◌, ◌∙◌, sym, ap, subst, ℕ, ◌+◌, ◌<◌, ◌≤◌, List, [], ◌∷◌, ◌++◌, length, refl, append_assoc, arith}
+use Rattle.std.proofs.Common.{◌≡◌, ◌≢◌, ◌∙◌, sym, ap, subst, ℕ, ◌+◌, ◌<◌, ◌≤◌, List, [], ◌∷◌, ◌++◌, length, append_assoc, arith}
 use Rattle.std.specs.Prelude.{None}
 use Rattle.std.specs.List.{AllByRecursion}
 use Rattle.std.proofs.lemmas.List.{append-nil, length-append}
@@ -8,7 +8,6 @@ use Rattle.sb_memory.specs.Physical.{Physical}
 use Rattle.sb_state.specs.declared.page.PageName.{PageName}
 use Rattle.sb_state.specs.declared.page.PageName.TheVariants.{Save, Stack, Buffer, Record, Scratch}
 use Rattle.sb_state.specs.declared.page.Page.{Page}
-use Rattle.sb_state.specs.declared.state.Thread.{Thread}
 use Rattle.sb_trace.specs.PageWords.{zeros}
 use Rattle.sb_trace.specs.State.{State, find_page, page_with}
 use Rattle.sb_trace.specs.Start.{ThreadEntry, home_words, record_bytes, start_thread, start_threads}
@@ -121,8 +120,8 @@ threads_kept (entry ∷ entries) placement state memory new thread is keeps none
     let count : length (state.threads ++ start_thread thread entry ∷ []) ≡ thread + 1 =
     length-append state.threads (start_thread thread entry ∷ []) ∙ ap (λ (n : ℕ). n + 1) is in
     let served : thread < 8 = omega (arith, few) in
-    let first = one_kept placement state memory adds.0 entry thread is keeps homes.0 served (none.none thread (omega arith)) adds.1
-    in
+    let gone = none.none thread (omega arith) in
+    let first = one_kept placement state memory adds.0 entry thread is keeps homes.0 served gone adds.1 in
     let rest = threads_kept entries (placed_thread placement thread entry memory adds.0 adds.1)
     (record state {
       threads = state.threads ++ start_thread thread entry ∷ [];

@@ -1,5 +1,5 @@
 -- A process of an image is added whole: its tables, and its pages.
-use Rattle.std.proofs.Common.{◌≡◌, ◌≢◌, ◌∙◌, sym, subst, ℕ, ◌+◌, ◌-◌, ◌*◌, ◌<◌, ◌≤◌, false, List, [], ◌∷◌, ◌++◌, length, take, drop, refl, arith}
+use Rattle.std.proofs.Common.{◌≡◌, ◌≢◌, sym, subst, ℕ, ◌+◌, ◌-◌, ◌*◌, ◌<◌, ◌≤◌, false, List, [], ◌∷◌, ◌++◌, length, take, drop, refl, arith}
 use Rattle.std.specs.Prelude.{None, replicate}
 use Rattle.std.proofs.lemmas.List.{length-append, length-replicate, length-take}
 use Rattle.sb_state.specs.declared.page.PageName.{PageName}
@@ -7,8 +7,8 @@ use Rattle.sb_state.specs.declared.page.PageName.TheVariants.{Text, Area, Data, 
 use Rattle.sb_state.specs.declared.page.Page.{Page}
 use Rattle.sb_state.specs.declared.state.Thread.{Thread}
 use Rattle.sb_trace.specs.PageWords.{zeros}
-use Rattle.sb_trace.specs.State.{State, find_page, page_with}
-use Rattle.sb_trace.specs.Start.{ProcessImage, page_padded, page_of, pages_from, padded_page, padded_pages, page_count, heap_page, heap_pages, process_pages, start_process}
+use Rattle.sb_trace.specs.State.{find_page, page_with}
+use Rattle.sb_trace.specs.Start.{ProcessImage, page_padded, page_of, padded_page, padded_pages, page_count, heap_page, heap_pages, process_pages, start_process}
 use Rattle.sb_state.proofs.Start.{zeros_size}
 use Rattle.sb_shows.specs.Placement.{is_own}
 use Rattle.sb_shows.specs.Calls.{IsSeenIn, AreNewPages, placed_all}

@@ -1,7 +1,7 @@
--- A start as a whole keeps the first state: processes and threads are added one after another, and the pages are those of the first
--- state in another order.
+-- A start as a whole keeps the first state: processes and threads are added one after another, and the pages are those of the
+-- first state in another order.
 use Rattle.std.proofs.Common.{◌≡◌, ◌≢◌, ◌∙◌, sym, ap, subst, ℕ, ◌+◌, ◌<◌, ◌≤◌, ◌==◌, Bool, true, false, List, [], ◌∷◌, ◌++◌, length, refl, arith}
-use Rattle.std.specs.Prelude.{Option, Some, None, map, if◌then◌else◌}
+use Rattle.std.specs.Prelude.{Option, Some, None, if◌then◌else◌}
 use Rattle.std.specs.List.{AllByRecursion}
 use Rattle.std.proofs.lemmas.List.{length-map}
 use Rattle.std.proofs.lemmas.Bool.{eqb-true, eqb-false}
@@ -9,14 +9,14 @@ use Rattle.sb_state.specs.declared.page.PageName.{PageName}
 use Rattle.sb_state.specs.declared.page.PageName.TheVariants.{Text, Area, Data, Heap, Pool, ServerStack, Save, Stack, Buffer, Record, Scratch, HomeTrampoline, ServerTrampoline}
 use Rattle.sb_state.specs.declared.page.Page.{Page}
 use Rattle.sb_trace.specs.PageWords.{zeros}
-use Rattle.sb_trace.specs.State.{State, find_page, page_with, thread_at}
+use Rattle.sb_trace.specs.State.{find_page, page_with, thread_at}
 use Rattle.sb_trace.specs.Start.{ProcessImage, ThreadEntry, padded_page, padded_pages, page_count, heap_page, heap_pages, process_pages, home_words, record_bytes, thread_pages, trampoline_pages, images_pages, threads_pages, start_process, start_state}
 use Rattle.sb_state.proofs.Names.{name_other}
 use Rattle.sb_state.proofs.PageLists.{either, found_added}
 use Rattle.sb_state.proofs.Start.{EachPage, each_both, each_from}
 use Rattle.sb_shows.specs.Placement.{is_own}
 use Rattle.sb_shows.specs.Threads.{SameSight}
-use Rattle.sb_shows.specs.Starts.{HasNoPages, HasNoThreadPages, first_placement, save_and_stack}
+use Rattle.sb_shows.specs.Starts.{first_placement, save_and_stack}
 use Rattle.sb_shows.specs.WholeStart.{first_state, placed_processes, StartsKeep}
 use Rattle.sb_shows.proofs.Adding.{last_by}
 use Rattle.sb_shows.proofs.ManyProcesses.{HasNoPagesFrom, with_images, processes_kept}
@@ -226,12 +226,12 @@ start_sight images entries free keys = record {
 pub start_kept : StartsKeep
 start_kept sets memory mid new images entries free keys is fits homes few processes threads =
     let begun = first_kept sets (first_state free keys) memory is in
-    let with_all = processes_kept images (first_placement sets) (first_state free keys) memory mid 0 refl begun no_process_yet fits
-    processes in
+    let with_all = processes_kept images (first_placement sets) (first_state free keys) memory mid 0 refl begun no_process_yet
+    fits processes in
     let at_home = subst (λ n. AllByRecursion (λ entry. entry.home < n) entries) (sym (length-map images start_process)) homes in
     let small : length entries ≤ 8 = few in
     let joined = threads_kept entries (placed_processes (first_placement sets) 0 images memory mid processes)
     (with_images (first_state free keys) 0 images) mid new 0 refl with_all (no_thread_yet images) at_home (omega (arith, small))
     threads in
-    keeps_moved _ (with_entries (with_images (first_state free keys) 0 images) 0 entries) (start_state images entries free keys) new
-    (start_sight images entries free keys) joined
+    keeps_moved _ (with_entries (with_images (first_state free keys) 0 images) 0 entries)
+    (start_state images entries free keys) new (start_sight images entries free keys) joined

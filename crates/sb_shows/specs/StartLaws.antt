@@ -71,7 +71,8 @@ ThreadsKeep =
 -- A thread of an entry is added whole: its list, its home view, its save page and its stack. What was there stays in its place.
 abbrev pub WholeThreadsKeep : Type 0
 WholeThreadsKeep =
-    (placement : Placement) (state : State) (memory listed viewed new : Physical) (first second : RootKernel) (entry : ThreadEntry)
+    (placement : Placement) (state : State) (memory listed viewed new : Physical) (first second : RootKernel)
+    (entry : ThreadEntry)
     → Keeps placement state memory → entry.home < length state.processes → length state.threads < MAX_THREADS
     → HasNoThreadPages state.pages (length state.threads)
     → (list : AddsList placement first (length state.threads) memory listed)
