@@ -14,7 +14,7 @@ use Rattle.sb_state.proofs.Names.{name_other}
 use Rattle.sb_shows.specs.Placement.{Placement}
 use Rattle.sb_shows.specs.Keeping.{Keeps}
 use Rattle.sb_shows.specs.Starts.{HasNoPages}
-use Rattle.sb_shows.specs.StartLaws.{FitsWindows}
+use Rattle.sb_shows.specs.StartLaws.{ImageFitsWindows}
 use Rattle.sb_shows.specs.WholeStart.{AddsWholeProcess, placed_process, AddsProcesses, placed_processes}
 use Rattle.sb_shows.proofs.Adding.{added_other}
 use Rattle.sb_shows.proofs.NewPages.{absent_after}
@@ -82,7 +82,7 @@ with_images state process images = record state {
 }
 
 one_kept : (placement : Placement) (state : State) (memory new : Physical) (image : ProcessImage) (process : ℕ)
-    → length state.processes ≡ process → Keeps placement state memory → HasNoPages state.pages process → FitsWindows image
+    → length state.processes ≡ process → Keeps placement state memory → HasNoPages state.pages process → ImageFitsWindows image
     → (adds : AddsWholeProcess placement process image memory new)
     → Keeps (placed_process placement process image memory new adds)
     (record state {
@@ -100,7 +100,7 @@ one_kept placement state memory new image process is keeps none fits =
 
 pub processes_kept : (images : List ProcessImage) (placement : Placement) (state : State) (memory new : Physical) (process : ℕ)
     → length state.processes ≡ process → Keeps placement state memory → HasNoPagesFrom state.pages process
-    → AllByRecursion FitsWindows images → (adds : AddsProcesses placement process images memory new)
+    → AllByRecursion ImageFitsWindows images → (adds : AddsProcesses placement process images memory new)
     → Keeps (placed_processes placement process images memory new adds) (with_images state process images) new
 processes_kept [] placement state memory new process is keeps none fits adds =
     subst (λ processes. Keeps placement (record state { processes = processes; pages = state.pages ++ [] }) new)

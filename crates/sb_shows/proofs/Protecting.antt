@@ -29,7 +29,7 @@ use Rattle.sb_state.proofs.PageLists.{with_executable}
 use Rattle.sb_state.proofs.Modes.{mode_same, mode_other}
 use Rattle.sb_shows.specs.Placement.{Placement, BaseTable, GuestTable, Holds, IsThere, IsOneToOne, is_own, guest_page, leaf_for, leaf_if, rights_for, name_entry, entry_of}
 use Rattle.sb_shows.specs.Keeping.{HasContents, Keeps}
-use Rattle.sb_shows.specs.Windows.{page_number, IsOf}
+use Rattle.sb_shows.specs.Windows.{page_number, NamesNoOtherProcess}
 use Rattle.sb_shows.specs.Calls.{SetsPage, ExposesFrame}
 use Rattle.sb_shows.proofs.Names.{name_self}
 use Rattle.sb_shows.proofs.Numbers.{name_number}
@@ -205,19 +205,19 @@ module _ (placement : Placement) (state : State) (memory mid new : Physical) (pr
       ∙ ap (leaf_if placement.frame name) found_now))
 
   other_entry : (other : ℕ) (seen : ℕ) (test : Bool) (one : PageName) → same_name name one ≡ test
-      → (seen ≡ page_number one) × IsOf other one → (other ≡ process → seen ≡ at / 4096 → ⊥)
+      → (seen ≡ page_number one) × NamesNoOtherProcess other one → (other ≡ process → seen ≡ at / 4096 → ⊥)
       → name_entry placement.frame pages one ≡ name_entry placement.frame state.pages one
   unfolding page_number
   other_entry other seen true one is stands differ =
       let same : name ≡ one = name_same name one is in
-      let here = subst (λ n. (seen ≡ page_number n) × IsOf other n) (sym same) stands in
+      let here = subst (λ n. (seen ≡ page_number n) × NamesNoOtherProcess other n) (sym same) stands in
       absurd (differ (sym here.1) (here.0 ∙ sym page_is))
   other_entry other seen false one is stands differ =
       ap (λ (found : Option Page). if is_own one then leaf_for (guest_page placement.frame one)
       (mode_of one false) else leaf_if placement.frame one found) (mode_other state.pages name one executable is)
 
   entry_option : (other seen : ℕ) (one : Option PageName)
-      → ((n : PageName) → one ≡ Some n → (seen ≡ page_number n) × IsOf other n) → (other ≡ process → seen ≡ at / 4096 → ⊥)
+      → ((n : PageName) → one ≡ Some n → (seen ≡ page_number n) × NamesNoOtherProcess other n) → (other ≡ process → seen ≡ at / 4096 → ⊥)
       → entry_of placement.frame pages one ≡ entry_of placement.frame state.pages one
   entry_option other seen None stands differ = refl
   entry_option other seen (Some one) stands differ = other_entry other seen (same_name name one) one refl (stands one refl) differ

@@ -21,7 +21,7 @@ use Rattle.sb_trace.specs.PageName.{permits}
 use Rattle.sb_trace.specs.State.{State, find_page}
 use Rattle.sb_trace.specs.Windows.{name_at, page_by_name, page_and_mode, process_shown, page_for}
 use Rattle.sb_trace.specs.PlainMemory.{is_canonical, byte_seen, plain_byte, fault_at}
-use Rattle.sb_shows.specs.Windows.{IsOf}
+use Rattle.sb_shows.specs.Windows.{NamesNoOtherProcess}
 use Rattle.sb_shows.specs.Shows.{CoreWords, Shows, IsView, IsEntryFor, LeadsTo, entry_at, name_seen, seen_through}
 use Rattle.sb_shows.specs.Defects.{Reaches, NoSecondPageAtAPlace, NoEntryOfAnUnusedIndex, NoTableInSight, NoDataOfTheClient, NoPageIsWrittenAndFetched, NoCr3OfAnother}
 use Rattle.sb_shows.proofs.Numbers.{name_number}
@@ -124,7 +124,7 @@ no_table_in_sight state memory cores thread index thread' index' address address
 -- a page that is seen by a process's own name is that process's
 own_process : (state : State) (thread index page process : ℕ) (name : PageName)
     → process_shown state.threads thread index ≡ Some process
-    → name_seen (page_for state thread index page) ≡ Some name → IsOf process name
+    → name_seen (page_for state thread index page) ≡ Some name → NamesNoOtherProcess process name
 own_process state thread index page process name shows is =
     (name_number state.threads thread index page process name (seen_name state thread index page process name shows is)).1
 

@@ -13,7 +13,7 @@ use Rattle.sb_state.proofs.Start.{zeros_size}
 use Rattle.sb_shows.specs.Placement.{is_own}
 use Rattle.sb_shows.specs.Calls.{IsSeenIn, AreNewPages, placed_all}
 use Rattle.sb_shows.specs.Starts.{HasNoPages, placed_tables, with_new_process}
-use Rattle.sb_shows.specs.StartLaws.{FitsWindows, WholeProcessesKeep}
+use Rattle.sb_shows.specs.StartLaws.{ImageFitsWindows, WholeProcessesKeep}
 use Rattle.sb_shows.proofs.AddingPages.{pages_kept}
 use Rattle.sb_shows.proofs.InPlace.{kept_in_place, stays_then}
 use Rattle.sb_shows.proofs.NewPages.{absent_after, new_from, new_both}
@@ -52,7 +52,7 @@ new_padded name filler bytes threads count pages process differ own seen none =
 -- ---- the pages of a process
 
 module _ (threads : List Thread) (count : ℕ) (pages : List Page) (process : ℕ) (image : ProcessImage) (there : process < count)
-    (fits : FitsWindows image) (none : HasNoPages pages process) where
+    (fits : ImageFitsWindows image) (none : HasNoPages pages process) where
   abbrev with_text : List Page
   with_text = pages ++ padded_pages (Text process) 0xCC image.text
 

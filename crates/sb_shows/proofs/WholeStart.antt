@@ -17,7 +17,7 @@ use Rattle.sb_state.proofs.Start.{EachPage, each_both, each_from}
 use Rattle.sb_shows.specs.Placement.{is_own}
 use Rattle.sb_shows.specs.Threads.{SameSight}
 use Rattle.sb_shows.specs.Starts.{first_placement, save_and_stack}
-use Rattle.sb_shows.specs.WholeStart.{first_state, placed_processes, StartsKeep}
+use Rattle.sb_shows.specs.WholeStart.{state_before_processes, placed_processes, StartsKeep}
 use Rattle.sb_shows.proofs.Adding.{last_by}
 use Rattle.sb_shows.proofs.ManyProcesses.{HasNoPagesFrom, with_images, processes_kept}
 use Rattle.sb_shows.proofs.ManyThreads.{HasNoThreadsFrom, pages_of_thread, pages_of_threads, with_entries, threads_kept}
@@ -213,7 +213,7 @@ no_thread_yet images = record {
 -- ---- the start
 
 start_sight : (images : List ProcessImage) (entries : List ThreadEntry) (free : ℕ) (keys : List ℕ)
-    → SameSight (with_entries (with_images (first_state free keys) 0 images) 0 entries) (start_state images entries free keys)
+    → SameSight (with_entries (with_images (state_before_processes free keys) 0 images) 0 entries) (start_state images entries free keys)
 unfolding thread_at
 start_sight images entries free keys = record {
   pages = λ name. pages_same images entries name;
@@ -225,13 +225,13 @@ start_sight images entries free keys = record {
 -- the first state is kept
 pub start_kept : StartsKeep
 start_kept sets memory mid new images entries free keys is fits homes few processes threads =
-    let begun = first_kept sets (first_state free keys) memory is in
-    let with_all = processes_kept images (first_placement sets) (first_state free keys) memory mid 0 refl begun no_process_yet
+    let begun = first_kept sets (state_before_processes free keys) memory is in
+    let with_all = processes_kept images (first_placement sets) (state_before_processes free keys) memory mid 0 refl begun no_process_yet
     fits processes in
     let at_home = subst (λ n. AllByRecursion (λ entry. entry.home < n) entries) (sym (length-map images start_process)) homes in
     let small : length entries ≤ 8 = few in
     let joined = threads_kept entries (placed_processes (first_placement sets) 0 images memory mid processes)
-    (with_images (first_state free keys) 0 images) mid new 0 refl with_all (no_thread_yet images) at_home (omega (arith, small))
+    (with_images (state_before_processes free keys) 0 images) mid new 0 refl with_all (no_thread_yet images) at_home (omega (arith, small))
     threads in
-    keeps_moved _ (with_entries (with_images (first_state free keys) 0 images) 0 entries)
+    keeps_moved _ (with_entries (with_images (state_before_processes free keys) 0 images) 0 entries)
     (start_state images entries free keys) new (start_sight images entries free keys) joined

@@ -19,20 +19,20 @@ ClearsFill =
     (memory : Physical) (frame : ℕ) → HasSize memory → frame < frame_count memory
     → FillsFrame frame zeros memory (with_bytes memory (clear_frame memory.bytes frame))
 
--- one into which the bytes of a page are put, with these
+-- a frame into which the bytes of a page are put is filled with them
 abbrev pub PagesFill : Type 0
 PagesFill =
     (memory : Physical) (frame : ℕ) (page : List ℕ) → HasSize memory → frame < frame_count memory → length page ≡ PAGE_SIZE
     → FillsFrame frame page memory (with_bytes memory (put_bytes memory.bytes (PAGE_SIZE * frame) page))
 
--- one of a filler, into which fewer bytes are put, with these bytes, filled up
+-- a frame full of a filler, into which at most a page of bytes is put, is filled with these bytes and the filler behind them
 abbrev pub ImagesFill : Type 0
 ImagesFill =
     (old memory : Physical) (frame filler : ℕ) (bytes : List ℕ) → HasSize memory → frame < frame_count memory
     → length bytes ≤ PAGE_SIZE → FillsFrame frame (replicate PAGE_SIZE filler) old memory
     → FillsFrame frame (page_padded filler bytes) old (with_bytes memory (put_bytes memory.bytes (PAGE_SIZE * frame) bytes))
 
--- one that is filled, into which a word is put, with the page in which the word is put
+-- a frame that is filled with a page, into which a word is put, is filled with the page with that word in it
 abbrev pub WordsFill : Type 0
 WordsFill =
     (old memory : Physical) (frame at word : ℕ) (page : List ℕ) → HasSize memory → frame < frame_count memory

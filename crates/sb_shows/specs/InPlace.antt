@@ -79,7 +79,8 @@ pub record KeepsInPlace (old new : Placement) (state state' : State) (memory mem
   pub stays : StaysInPlace old new state state'
   pub addresses : SameAddresses old state memory memory'
 
--- So does one that adds nothing that a view shows, and each translation is the same, of each view that was there.
+-- A call that adds nothing which a view shows keeps all in place too: each view that was there shows the same pages, and each of
+-- its translations is the same, a refusal too.
 pub record KeepsUnseen (old new : Placement) (state state' : State) (memory memory' : Physical) : Type 0 where
   pub in_place : KeepsInPlace old new state state' memory memory'
   pub pages : SamePages state state'

@@ -1,4 +1,5 @@
--- The laws of the steps of a start: what is kept before a step is kept after it, and no translation changes.
+-- The laws of the steps of a start: what is kept before a step is kept after it, and each translation that gave an address stays.
+-- The tables of a process, a list, and a thread's home view change none.
 use Rattle.std.specs.Prelude.{ℕ, ◌≡◌, ◌<◌, ◌≤◌, [], ◌∷◌, ◌++◌, length}
 use Rattle.sb_abi.specs.declared.space.TheConstants.{MAX_THREADS, WINDOW_PAGES, AREA_PAGES}
 use Rattle.sb_memory.specs.Physical.{Physical}
@@ -30,7 +31,7 @@ ProcessesKeep =
     memory new
 
 -- the pages of an image are within their windows
-pub record FitsWindows (image : ProcessImage) : Type 0 where
+pub record ImageFitsWindows (image : ProcessImage) : Type 0 where
   pub text : page_count (length image.text) ≤ WINDOW_PAGES
   pub area : page_count (length image.area) ≤ AREA_PAGES
   pub initial : page_count (length image.initial) ≤ WINDOW_PAGES
@@ -40,7 +41,7 @@ pub record FitsWindows (image : ProcessImage) : Type 0 where
 abbrev pub WholeProcessesKeep : Type 0
 WholeProcessesKeep =
     (placement : Placement) (state : State) (memory mid new : Physical) (image : ProcessImage)
-    → Keeps placement state memory → HasNoPages state.pages (length state.processes) → FitsWindows image
+    → Keeps placement state memory → HasNoPages state.pages (length state.processes) → ImageFitsWindows image
     → (tables : AddsTables placement (length state.processes) memory mid)
     → (adds : AddsPages (placed_tables placement (length state.processes) tables.set) (length state.processes ∷ [])
     (process_pages (length state.processes) image) mid new)

@@ -1,4 +1,5 @@
--- What a start leaves, step by step: memory before there are processes and threads, and the tables of a process.
+-- What a start leaves, step by step: memory before there are processes and threads, the tables of a process, and the pages of a
+-- thread.
 use Rattle.std.specs.Prelude.{ℕ, zero, suc, ◌≡◌, ◌+◌, ◌*◌, ◌<◌, ◌≤◌, ◌==◌, List, [], ◌∷◌, ◌++◌, None, length, if◌then◌else◌}
 use Rattle.sb_abi.specs.declared.frames.TheConstants.{KEPT_FRAMES}
 use Rattle.sb_abi.specs.declared.layout.TheConstants.{HOME_TRAMPOLINE_FRAME, SERVER_TRAMPOLINE_FRAME, FIRST_ROOT, TRAMPOLINE_GUEST_PAGE, RECORD_GUEST_PAGE, SCRATCH_GUEST_PAGE}
@@ -65,7 +66,7 @@ ExposesTables root set table (suc count) old new =
     × ExposesTables root set (table + 1) count mid new
 
 -- The tables of a process are built in frames that were not used; the entries of the three pages that each view has of its own
--- are set; and the tables below the root are exposed, for walks behind an EPT to read.
+-- are set, the scratch page's first; and the tables below the root are exposed, for walks behind an EPT to read.
 pub record AddsTables (placement : Placement) (process : ℕ) (old new : Physical) : Type 0 where
   pub set : TableSet
   pub eleven : length set.tables ≡ 11

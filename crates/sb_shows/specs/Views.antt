@@ -1,4 +1,5 @@
--- What calls of the root kernel that add lists and views leave, and the placement with what they take.
+-- What calls of the root kernel that add lists and views, and clear entries of lists, leave; the placement with what they take;
+-- and the state with a view or a thread more, or a view less.
 use Rattle.std.specs.Prelude.{ℕ, ◌≡◌, ◌+◌, ◌<◌, ◌==◌, not, List, [], ◌∷◌, ◌++◌, length, slice_set, Some, if◌then◌else◌}
 use Rattle.std.specs.List.{Contains}
 use Rattle.sb_abi.specs.declared.layout.TheConstants.{FIRST_ROOT}

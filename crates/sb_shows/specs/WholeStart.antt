@@ -1,4 +1,4 @@
--- A start as a whole: from memory before there are processes and threads to that which keeps the first state of a bundle.
+-- A start as a whole: from memory before there are processes and threads to that which keeps the state at the start of a bundle.
 use Rattle.std.specs.Prelude.{ℕ, ◌≡◌, ◌+◌, ◌<◌, ◌≤◌, List, [], ◌∷◌, length}
 use Rattle.std.specs.List.{AllByRecursion}
 use Rattle.sb_abi.specs.declared.space.TheConstants.{MAX_THREADS}
@@ -12,11 +12,11 @@ use Rattle.sb_shows.specs.Keeping.{Keeps}
 use Rattle.sb_shows.specs.Calls.{AddsPages, placed_all}
 use Rattle.sb_shows.specs.Views.{AddsList, AddsRootView, placed_list, placed_view}
 use Rattle.sb_shows.specs.Starts.{IsFirst, first_placement, AddsTables, placed_tables, save_and_stack}
-use Rattle.sb_shows.specs.StartLaws.{FitsWindows}
+use Rattle.sb_shows.specs.StartLaws.{ImageFitsWindows}
 
 -- the plain state before there are processes and threads
-abbrev pub first_state : ℕ → List ℕ → State
-first_state free keys = record {
+abbrev pub state_before_processes : ℕ → List ℕ → State
+state_before_processes free keys = record {
   pages = trampoline_pages;
   processes = [];
   threads = [];
@@ -91,13 +91,13 @@ placed_threads placement thread (entry ∷ entries) old new adds =
 
 -- ---- the law
 
--- From memory before there are processes and threads, where all processes and then all threads are added whole, the first state
+-- From memory before there are processes and threads, where all processes and then all threads are added whole, the state at the start
 -- of images and entries is kept.
 abbrev pub StartsKeep : Type 0
 StartsKeep =
     (sets : ℕ → TableSet) (memory mid new : Physical) (images : List ProcessImage) (entries : List ThreadEntry) (free : ℕ)
     (keys : List ℕ)
-    → IsFirst (first_state free keys) memory → AllByRecursion FitsWindows images
+    → IsFirst (state_before_processes free keys) memory → AllByRecursion ImageFitsWindows images
     → AllByRecursion (λ entry. entry.home < length images) entries → length entries ≤ MAX_THREADS
     → (processes : AddsProcesses (first_placement sets) 0 images memory mid)
     → (threads : AddsThreads (placed_processes (first_placement sets) 0 images memory mid processes) 0 entries mid new)

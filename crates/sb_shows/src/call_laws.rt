@@ -8,7 +8,8 @@ ghost use Rattle.sb_shows.specs.WholeStart.{StartsKeep};
 
 /// What the kernel's calls leave is kept as well: changes that tables do not show, a change of a heap page's mode, new pages,
 /// pages and views that go, a registration, and a binding. Where pages are added, those that were there stay in their frames, and
-/// each translation that gave an address gives the same; where pages or views go, so do those that are left.
+/// each translation that gave an address gives the same; where pages or views go, so do those that are left. The six frames of a
+/// view that goes stay taken.
 ///
 /// `sound_protects`, `sound_registers` and `sound_binds` say it where the state is sound: the pages that they ask for are there,
 /// and those that are added are not.
@@ -41,7 +42,7 @@ pub fn free_indices_agree()
 
 /// What the steps of a start leave is kept: memory before there are processes and threads; the tables of a process, a list, and a
 /// thread with its home view, none of which changes a translation; a process and a thread as a whole, with their pages; and, all
-/// of them one after another, the first state of images and entries.
+/// of them one after another, the state at the start of images and entries.
 pub fn start_steps_keep()
     ensures first { FirstKeeps }
     ensures processes { ProcessesKeep }
