@@ -10,6 +10,7 @@ use Rattle.sb_memory.specs.Physical.{Physical, HasSize, frame_count}
 use Rattle.sb_memory.specs.Words.{word_at, put_word, zeros as so_many_zeros}
 use Rattle.sb_memory.specs.declared.address.Frame.{Frame}
 use Rattle.sb_memory.proofs.Words.{word_read_back, byte_in_word, word_of_same_bytes, zero_in_zeros}
+use Rattle.sb_exec.proofs.RowWords.{either_number}
 use Rattle.sb_walks.specs.Entry.{entry_in}
 use Rattle.sb_pagewalk.specs.declared.table_set.TableSet.{TableSet}
 use Rattle.sb_pagewalk.specs.Windows.{IsInWindow, region_of, page_table_of, next_table}
@@ -149,10 +150,6 @@ byte_at place = word_byte (place / 4096) (place % 4096)
 
 -- ---- the words fit
 
-small_if : (test : Bool) (one other : ℕ) → one < 2 ^ 64 → other < 2 ^ 64 → (if test then one else other) < 2 ^ 64
-small_if true one other first second = first
-small_if false one other first second = second
-
 table_small : (table : ℕ) → table_frame set table < 523
 table_small zero = omega arith
 table_small (suc zero) = omega arith
@@ -169,32 +166,32 @@ table_small (suc (suc (suc (suc (suc (suc (suc (suc (suc (suc (suc zero)))))))))
 table_small (suc (suc (suc (suc (suc (suc (suc (suc (suc (suc (suc (suc table)))))))))))) = omega arith
 
 link_small : (table : ℕ) → entry_to set table < 2 ^ 64
-link_small table = let few = table_small table in small_if (table == 0) 0 _ (omega arith) (omega arith)
+link_small table = let few = table_small table in either_number (table == 0) 0 _ (omega arith) (omega arith)
 
 upper_small : (next index : ℕ) → next < 1000 → upper_entries next index < 2 ^ 64
-upper_small next index few = small_if (index == 0) _ _ (omega arith) (omega arith)
+upper_small next index few = either_number (index == 0) _ _ (omega arith) (omega arith)
 
 directory_small : (first index : ℕ) → first < 1000 → index < 512 → directory_entries first index < 2 ^ 64
 directory_small first index few within =
-    small_if (index == 0) _ _ (omega arith) (small_if (nat_lt index 16) _ _ (omega arith) (omega arith))
+    either_number (index == 0) _ _ (omega arith) (either_number (nat_lt index 16) _ _ (omega arith) (omega arith))
 
 base_small : (index : ℕ) → index < 512 → base_entries index < 2 ^ 64
 unfolding base_entries
 base_small index within =
-    small_if (index == 1) _ _ (omega arith) (small_if (is_root_frame index) (leaf_to index 1) 0 (omega arith) (omega arith))
+    either_number (index == 1) _ _ (omega arith) (either_number (is_root_frame index) (leaf_to index 1) 0 (omega arith) (omega arith))
 
 view_small : (index : ℕ) → index < 512 → view_entries kept index < 2 ^ 64
 unfolding view_entries
 view_small index within =
-    small_if (index == 16) _ _ (omega arith)
-    (small_if (index == 1) _ _ (omega arith)
-    (small_if (index == 2) _ _ (omega arith) (small_if (index == 3) _ _ (omega arith) (base_small index within))))
+    either_number (index == 16) _ _ (omega arith)
+    (either_number (index == 1) _ _ (omega arith)
+    (either_number (index == 2) _ _ (omega arith) (either_number (index == 3) _ _ (omega arith) (base_small index within))))
 
 own_small : (page : ℕ) → own_entries page < 2 ^ 64
 unfolding leaf_for
 own_small page =
-    small_if (page == 0x70000) _ _ (omega arith)
-    (small_if (page == 0x70002) _ _ (omega arith) (small_if (page == 0x70004) _ _ (omega arith) (omega arith)))
+    either_number (page == 0x70000) _ _ (omega arith)
+    (either_number (page == 0x70002) _ _ (omega arith) (either_number (page == 0x70004) _ _ (omega arith) (omega arith)))
 
 list_small : (index : ℕ) → list_entry root 0 index < 2 ^ 64
 list_small zero = omega arith
@@ -203,22 +200,22 @@ list_small (suc index) = rw (repeated 15 index nothing) (omega arith)
 word_small : (frame index : ℕ) → index < 512 → word frame index < 2 ^ 64
 unfolding word low_word high_word
 word_small frame index within =
-    small_if (nat_lt frame 512) _ _
-    (small_if (frame == 5) _ _ (upper_small 6 index (omega arith))
-    (small_if (frame == 6) _ _ (upper_small 7 index (omega arith))
-    (small_if (frame == 7) _ _ (directory_small 32 index (omega arith) within)
-    (small_if (frame == 16) _ _ (link_small (next_table 0 index))
-    (small_if (frame == 32) _ _ (base_small index within)
-    (small_if (frame == 33) _ _ (small_if (nat_lt index 11) _ _ (omega arith) (omega arith)) (omega arith)))))))
-    (small_if (frame == 512) _ _ (link_small (next_table 1 index))
-    (small_if (frame == 513) _ _ (link_small (next_table 2 index))
-    (small_if (frame == 514) _ _ (link_small (next_table 3 index))
-    (small_if (frame == 522) _ _ (own_small (0x70000 + index))
-    (small_if (frame == 523) _ _ (list_small index)
-    (small_if (frame == 524) _ _ (upper_small 525 index (omega arith))
-    (small_if (frame == 525) _ _ (upper_small 526 index (omega arith))
-    (small_if (frame == 526) _ _ (directory_small 527 index (omega arith) within)
-    (small_if (frame == 527) _ _ (view_small index within) (omega arith))))))))))
+    either_number (nat_lt frame 512) _ _
+    (either_number (frame == 5) _ _ (upper_small 6 index (omega arith))
+    (either_number (frame == 6) _ _ (upper_small 7 index (omega arith))
+    (either_number (frame == 7) _ _ (directory_small 32 index (omega arith) within)
+    (either_number (frame == 16) _ _ (link_small (next_table 0 index))
+    (either_number (frame == 32) _ _ (base_small index within)
+    (either_number (frame == 33) _ _ (either_number (nat_lt index 11) _ _ (omega arith) (omega arith)) (omega arith)))))))
+    (either_number (frame == 512) _ _ (link_small (next_table 1 index))
+    (either_number (frame == 513) _ _ (link_small (next_table 2 index))
+    (either_number (frame == 514) _ _ (link_small (next_table 3 index))
+    (either_number (frame == 522) _ _ (own_small (0x70000 + index))
+    (either_number (frame == 523) _ _ (list_small index)
+    (either_number (frame == 524) _ _ (upper_small 525 index (omega arith))
+    (either_number (frame == 525) _ _ (upper_small 526 index (omega arith))
+    (either_number (frame == 526) _ _ (directory_small 527 index (omega arith) within)
+    (either_number (frame == 527) _ _ (view_small index within) (omega arith))))))))))
 
 -- ---- the root kernel's lists and views
 
@@ -775,23 +772,22 @@ module _ (frames : ℕ) (enough : 530 ≤ frames) (most : frames ≤ 8192) where
   last_region : (page : ℕ) → (page / 512 == 896) ≡ true → 0x70000 + page % 512 ≡ page
   last_region page is = let same = eqb-true (page / 512) 896 is in omega arith
 
+  -- a page below the last window has no entry
+  low_entered : (page region table : ℕ) → (page / 512 == region) ≡ true → region < 896 → table < 12
+      → word (table_frame set table) (page % 512) ≡ 0 → IsEntered page table
+  low_entered page region table is low few none =
+      record { is = λ some. (few, none ∙ sym (low_entries page (low_region page region is low))) }
+
   entered : (page : ℕ) → IsEntered page (page_table_of (page / 512))
   unfolding page_table_of word high_word
   entered page =
-      entered_if (page / 512 == 0) page _ _
-      (λ is. record { is = λ some. (omega arith, sym (low_entries page (low_region page 0 is (omega arith)))) })
-      (λ _. entered_if (page / 512 == 2) page _ _
-      (λ is. record { is = λ some. (omega arith, sym (low_entries page (low_region page 2 is (omega arith)))) })
-      (λ _. entered_if (page / 512 == 4) page _ _
-      (λ is. record { is = λ some. (omega arith, sym (low_entries page (low_region page 4 is (omega arith)))) })
-      (λ _. entered_if (page / 512 == 6) page _ _
-      (λ is. record { is = λ some. (omega arith, sym (low_entries page (low_region page 6 is (omega arith)))) })
-      (λ _. entered_if (page / 512 == 16) page _ _
-      (λ is. record { is = λ some. (omega arith, sym (low_entries page (low_region page 16 is (omega arith)))) })
-      (λ _. entered_if (page / 512 == 24) page _ _
-      (λ is. record { is = λ some. (omega arith, sym (low_entries page (low_region page 24 is (omega arith)))) })
-      (λ _. entered_if (page / 512 == 32) page _ _
-      (λ is. record { is = λ some. (omega arith, sym (low_entries page (low_region page 32 is (omega arith)))) })
+      entered_if (page / 512 == 0) page _ _ (λ is. low_entered page 0 4 is (omega arith) (omega arith) refl)
+      (λ _. entered_if (page / 512 == 2) page _ _ (λ is. low_entered page 2 5 is (omega arith) (omega arith) refl)
+      (λ _. entered_if (page / 512 == 4) page _ _ (λ is. low_entered page 4 6 is (omega arith) (omega arith) refl)
+      (λ _. entered_if (page / 512 == 6) page _ _ (λ is. low_entered page 6 7 is (omega arith) (omega arith) refl)
+      (λ _. entered_if (page / 512 == 16) page _ _ (λ is. low_entered page 16 8 is (omega arith) (omega arith) refl)
+      (λ _. entered_if (page / 512 == 24) page _ _ (λ is. low_entered page 24 9 is (omega arith) (omega arith) refl)
+      (λ _. entered_if (page / 512 == 32) page _ _ (λ is. low_entered page 32 10 is (omega arith) (omega arith) refl)
       (λ _. entered_if (page / 512 == 896) page _ _
       (λ is. record { is = λ some. (omega arith, ap own_entries (last_region page is)) })
       (λ _. record { is = λ some. absurd (some refl) }))))))))
