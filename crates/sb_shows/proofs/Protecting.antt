@@ -217,7 +217,8 @@ module _ (placement : Placement) (state : State) (memory mid new : Physical) (pr
       (mode_of one false) else leaf_if placement.frame one found) (mode_other state.pages name one executable is)
 
   entry_option : (other seen : ℕ) (one : Option PageName)
-      → ((n : PageName) → one ≡ Some n → (seen ≡ page_number n) × NamesNoOtherProcess other n) → (other ≡ process → seen ≡ at / 4096 → ⊥)
+      → ((n : PageName) → one ≡ Some n → (seen ≡ page_number n) × NamesNoOtherProcess other n)
+      → (other ≡ process → seen ≡ at / 4096 → ⊥)
       → entry_of placement.frame pages one ≡ entry_of placement.frame state.pages one
   entry_option other seen None stands differ = refl
   entry_option other seen (Some one) stands differ = other_entry other seen (same_name name one) one refl (stands one refl) differ

@@ -213,7 +213,8 @@ no_thread_yet images = record {
 -- ---- the start
 
 start_sight : (images : List ProcessImage) (entries : List ThreadEntry) (free : ℕ) (keys : List ℕ)
-    → SameSight (with_entries (with_images (state_before_processes free keys) 0 images) 0 entries) (start_state images entries free keys)
+    → SameSight (with_entries (with_images (state_before_processes free keys) 0 images) 0 entries)
+    (start_state images entries free keys)
 unfolding thread_at
 start_sight images entries free keys = record {
   pages = λ name. pages_same images entries name;
@@ -222,16 +223,17 @@ start_sight images entries free keys = record {
   home = λ thread. refl;
 }
 
--- the first state is kept
+-- the state at the start is kept
 pub start_kept : StartsKeep
 start_kept sets memory mid new images entries free keys is fits homes few processes threads =
     let begun = first_kept sets (state_before_processes free keys) memory is in
-    let with_all = processes_kept images (first_placement sets) (state_before_processes free keys) memory mid 0 refl begun no_process_yet
-    fits processes in
+    let with_all =
+    processes_kept images (first_placement sets) (state_before_processes free keys) memory mid 0 refl begun no_process_yet fits
+    processes in
     let at_home = subst (λ n. AllByRecursion (λ entry. entry.home < n) entries) (sym (length-map images start_process)) homes in
     let small : length entries ≤ 8 = few in
     let joined = threads_kept entries (placed_processes (first_placement sets) 0 images memory mid processes)
-    (with_images (state_before_processes free keys) 0 images) mid new 0 refl with_all (no_thread_yet images) at_home (omega (arith, small))
-    threads in
+    (with_images (state_before_processes free keys) 0 images) mid new 0 refl with_all (no_thread_yet images) at_home
+    (omega (arith, small)) threads in
     keeps_moved _ (with_entries (with_images (state_before_processes free keys) 0 images) 0 entries)
     (start_state images entries free keys) new (start_sight images entries free keys) joined

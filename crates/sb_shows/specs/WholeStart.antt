@@ -91,8 +91,8 @@ placed_threads placement thread (entry ∷ entries) old new adds =
 
 -- ---- the law
 
--- From memory before there are processes and threads, where all processes and then all threads are added whole, the state at the start
--- of images and entries is kept.
+-- From memory before there are processes and threads, where all processes and then all threads are added whole, the state at the
+-- start of images and entries is kept.
 abbrev pub StartsKeep : Type 0
 StartsKeep =
     (sets : ℕ → TableSet) (memory mid new : Physical) (images : List ProcessImage) (entries : List ThreadEntry) (free : ℕ)
