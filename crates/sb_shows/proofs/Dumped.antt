@@ -95,7 +95,8 @@ word_record list cr3 eptp list' cr3' eptp' first second third = cc
 
 words_joined : (words : CoreWords) (rest : List ℕ)
     → (words_text words ++ line_feed) ++ rest
-    ≡ codes " eptp " ++ (hex words.eptp ++ (codes " list " ++ (hex words.list ++ (codes " cr3 " ++ (hex words.cr3 ++ 10 ∷ rest)))))
+    ≡ codes " eptp "
+    ++ (hex words.eptp ++ (codes " list " ++ (hex words.list ++ (codes " cr3 " ++ (hex words.cr3 ++ 10 ∷ rest)))))
 words_joined words rest =
     joined (words_text words) line_feed rest
     ∙ ap (λ text. codes " eptp " ++ text)
@@ -344,7 +345,8 @@ stands_first memory first count is =
     (flat_map (frame_text memory) (filter (has_bytes memory) (range_with_len (first + 1) count))) (codes "end\n")
 
 begins_by : (memory : Physical) (first count : ℕ) (test : Bool) → has_bytes memory first ≡ test
-    → Begins (frames_text memory (first + 1) count) (first + 1) count → Begins (frames_text memory first (suc count)) first (suc count)
+    → Begins (frames_text memory (first + 1) count) (first + 1) count
+    → Begins (frames_text memory first (suc count)) first (suc count)
 begins_by memory first count true is later =
     begins first _ (omega arith) (omega arith) (stands_first memory first count is)
 begins_by memory first count false is (ends text) = ends (skips memory first count is ∙ text)

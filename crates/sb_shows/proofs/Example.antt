@@ -178,7 +178,8 @@ directory_small first index few within =
 base_small : (index : ℕ) → index < 512 → base_entries index < 2 ^ 64
 unfolding base_entries
 base_small index within =
-    either_number (index == 1) _ _ (omega arith) (either_number (is_root_frame index) (leaf_to index 1) 0 (omega arith) (omega arith))
+    either_number (index == 1) _ _ (omega arith)
+    (either_number (is_root_frame index) (leaf_to index 1) 0 (omega arith) (omega arith))
 
 view_small : (index : ℕ) → index < 512 → view_entries kept index < 2 ^ 64
 unfolding view_entries
@@ -329,7 +330,14 @@ one_process = record { starts = []; heap_pages = 0; registration = None }
 
 abbrev state : State
 state =
-    record { pages = own_pages; processes = one_process ∷ []; threads = home_thread ∷ []; flights = None ∷ []; free = 0; keys = [] }
+    record {
+      pages = own_pages;
+      processes = one_process ∷ [];
+      threads = home_thread ∷ [];
+      flights = None ∷ [];
+      free = 0;
+      keys = [];
+    }
 
 -- the frame of each page
 frame_for : PageName → ℕ
@@ -453,7 +461,8 @@ own_number _ own page first second third is = absurd cc
 
 other_by : (own : Bool) (name : PageName) (page : ℕ) → is_own name ≡ own → page ≢ 0x70000 → page ≢ 0x70002 → page ≢ 0x70004
     → page ≡ page_number name
-    → (if own then leaf_for (guest_page frame_for name) (mode_of name false) else leaf_if frame_for name (find_page own_pages name))
+    → (if own then leaf_for (guest_page frame_for name) (mode_of name false) else
+    leaf_if frame_for name (find_page own_pages name))
     ≡ 0
 other_by true name page own first second third is = absurd (own_number name own page first second third is)
 other_by false name page own first second third is = absent name (find_page own_pages name) refl own

@@ -13,7 +13,9 @@ numbered number = record { 0 = number }
 abbrev pub set_from : ℕ → ℕ → TableSet
 set_from root first = record {
   root = numbered root;
-  tables = numbered first ∷ numbered (first + 1) ∷ numbered (first + 2) ∷ numbered (first + 3) ∷ numbered (first + 4) ∷ numbered (first + 5) ∷ numbered (first + 6) ∷ numbered (first + 7) ∷ numbered (first + 8) ∷ numbered (first + 9) ∷ numbered (first + 10) ∷ [];
+  tables = numbered first ∷ numbered (first + 1) ∷ numbered (first + 2) ∷ numbered (first + 3) ∷ numbered (first + 4)
+      ∷ numbered (first + 5) ∷ numbered (first + 6) ∷ numbered (first + 7) ∷ numbered (first + 8) ∷ numbered (first + 9)
+      ∷ numbered (first + 10) ∷ [];
 }
 
 -- the frames of the tables are one above the other

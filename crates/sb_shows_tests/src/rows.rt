@@ -65,7 +65,16 @@ pub struct ViewRow {
 /// The three views: at home in the client, in the server by the binding, and at home in the server.
 #[rattlefmt::skip]
 pub const VIEWS: [ViewRow; 3] = [
-    ViewRow { thread: 0, index: 0, home: 0, target: 0, words: RecordWords { key: 0, base: 0, handler: 0, thread: 0, save: 0x300_0000, home: 0 } },
-    ViewRow { thread: 0, index: 1, home: 0, target: 1, words: RecordWords { key: 0x1122_3344_5566_7788, base: 0x400_3FF8, handler: 0x40_0017, thread: 0, save: 0, home: 0 } },
-    ViewRow { thread: 1, index: 0, home: 1, target: 1, words: RecordWords { key: 0, base: 0, handler: 0, thread: 1, save: 0x300_8000, home: 1 } },
+    ViewRow {
+        thread: 0, index: 0, home: 0, target: 0,
+        words: RecordWords { key: 0, base: 0, handler: 0, thread: 0, save: 0x300_0000, home: 0 },
+    },
+    ViewRow {
+        thread: 0, index: 1, home: 0, target: 1,
+        words: RecordWords { key: 0x1122_3344_5566_7788, base: 0x400_3FF8, handler: 0x40_0017, thread: 0, save: 0, home: 0 },
+    },
+    ViewRow {
+        thread: 1, index: 0, home: 1, target: 1,
+        words: RecordWords { key: 0, base: 0, handler: 0, thread: 1, save: 0x300_8000, home: 1 },
+    },
 ];
