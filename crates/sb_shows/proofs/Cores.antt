@@ -22,7 +22,7 @@ use Rattle.sb_shows.proofs.Shown.{core_sees}
 
 -- where views stay and each thread is in the view in which it was, the words of the cores stay
 pub cores_stay : CoresStay
-cores_stay old new state state' cores stays count same has =
+cores_stay old new state state' cores views count same has =
     let was : (thread : ℕ) → thread < length state'.threads → thread < length state.threads =
     λ thread there. subst (λ n. thread < n) count there in
     let view : (thread : ℕ) → thread < length state'.threads → IsView state thread (present_index state thread) =
@@ -30,20 +30,20 @@ cores_stay old new state state' cores stays count same has =
     record {
       list = λ thread there.
           let list = has.list thread (was thread there) in
-          (list.0, stays.views.lists thread (present_index state thread) (view thread there) ∙ list.1, list.2);
+          (list.0, views.lists thread (present_index state thread) (view thread there) ∙ list.1, list.2);
       cr3 = λ thread there.
           has.cr3 thread (was thread there)
           ∙ ap (λ (home : ℕ). 4096 * (16 + home))
-          (sym (stays.views.homes thread (present_index state thread) (view thread there)));
+          (sym (views.homes thread (present_index state thread) (view thread there)));
       eptp = λ thread there.
           has.eptp thread (was thread there)
-          ∙ (sym (stays.views.entries thread (present_index state thread) (view thread there))
+          ∙ (sym (views.entries thread (present_index state thread) (view thread there))
           ∙ ap (list_entry new.root thread) (sym (same thread (was thread there))));
       present = λ thread there.
           let there_is = view thread there in (
             there_is.0,
             ap (process_shown state'.threads thread) (same thread (was thread there))
-                ∙ stays.views.shown thread (present_index state thread) there_is.0 there_is.1,
+                ∙ views.shown thread (present_index state thread) there_is.0 there_is.1,
           );
     }
 

@@ -4,8 +4,8 @@ ghost use Rattle.sb_shows.specs.Laws.{AddressesStay, CoresAreThere, CoresSee, Co
 
 use sb_memory::Phys;
 
-/// Memory in which a machine keeps a state shows that state, and each core sees it; there are such words of the cores where each
-/// thread is in a view.
+/// Memory in which a machine keeps a state shows that state, and each core sees it. Where each thread is in a view, there are
+/// words for the cores.
 pub fn what_is_kept_is_shown()
     ensures shows { KeepsShows }
     ensures sees { CoresSee }
@@ -22,8 +22,8 @@ pub fn instructions_are_alike<P: Phys>()
 
 /// Between two memories in which states are kept, where each page and each view that was there is where it was, each translation
 /// that gave an address gives the same; and each translation is the same, a refusal too, where the page that is seen is the same.
-/// Where each thread is in its view still, the words of the cores stay; and by them and the lists in memory, each address that led
-/// to a place leads there still.
+/// Where views stay and each thread is in the view in which it was, the words of the cores stay; and by them, through the lists as
+/// they stand in memory, each address that led to a place leads there still.
 pub fn what_stays_is_reached_as_before()
     ensures addresses { AddressesStay }
     ensures translations { TranslationsStayWhereSeen }
