@@ -11,7 +11,7 @@ use Rattle.sb_pagewalk.specs.Standing.{IsApart as IsSetApart}
 use Rattle.sb_pagewalk.proofs.OnePage.{set_walked_same}
 use Rattle.sb_pagewalk.proofs.Untouched.{tables_stay, walks_stay}
 use Rattle.sb_root.specs.declared.root_kernel.RootKernel.{RootKernel}
-use Rattle.sb_root.specs.Root.{Use, ListOf, IsSet, is_listed, view_of, without_listing, used_frame, entry_of_index}
+use Rattle.sb_root.specs.Root.{Use, ListOf, IsSet, is_listed, view_of, without_listing, used_frame, entry_of_index, eptp_list_frame}
 use Rattle.sb_root.proofs.ClearingEntry.{set_few}
 use Rattle.sb_root.proofs.Frames.{only_one}
 use Rattle.sb_root.proofs.Uses.{Place, here, elsewhere, place_of_index, view_same, view_other, used_list, unlisted_uses}
@@ -349,6 +349,7 @@ module _ (placement : Placement) (state : State) (memory new : Physical) (root :
       entries = λ other second shows.
           sym (ap entry_of_index (view_is other second (not_shown other second shows.0 shows.1)));
       homes = λ other second shows. sym (home_left state number index thread there away other);
+      lists = λ other second shows. sym (ap (λ one. eptp_list_frame one other) clears.cleared);
     };
   }
 

@@ -262,6 +262,7 @@ views_same placement state = record {
   shown = λ thread index process shows. shows;
   entries = λ thread index shows. refl;
   homes = λ thread index shows. refl;
+  lists = λ thread index shows. refl;
 }
 
 pub stays_same : (placement : Placement) (state : State) → StaysInPlace placement placement state state
@@ -281,6 +282,9 @@ views_then old mid new state between state' one two = record {
   homes =
       λ thread index shows. two.homes thread index (shows.0, one.shown thread index shows.0 shows.1)
       ∙ one.homes thread index shows;
+  lists =
+      λ thread index shows. two.lists thread index (shows.0, one.shown thread index shows.0 shows.1)
+      ∙ one.lists thread index shows;
 }
 
 pub stays_then : (old mid new : Placement) (state between state' : State) → StaysInPlace old mid state between
@@ -303,6 +307,7 @@ stays_moved placement old new same = record {
     shown = λ thread index process shows. same.shows thread index ∙ shows;
     entries = λ thread index shows. refl;
     homes = λ thread index shows. same.home thread;
+    lists = λ thread index shows. refl;
   };
 }
 
@@ -314,6 +319,7 @@ views_paged placement state pages = record {
   shown = λ thread index process shows. shows;
   entries = λ thread index shows. refl;
   homes = λ thread index shows. refl;
+  lists = λ thread index shows. refl;
 }
 
 -- a state whose pages keep their modes

@@ -7,6 +7,7 @@ pub mod Putting
 pub mod Storing
 pub mod TableReads
 pub mod Shown
+pub mod Cores
 pub mod Steps
 pub mod Numbers
 pub mod Changing

@@ -5,7 +5,7 @@ use Rattle.std.specs.List.{Contains}
 use Rattle.std.proofs.lemmas.Bool.{ne_eqb}
 use Rattle.sb_memory.specs.Physical.{Physical}
 use Rattle.sb_memory.specs.Changes.{SameOutside}
-use Rattle.sb_root.specs.Root.{list_entry}
+use Rattle.sb_root.specs.Root.{eptp_list_frame, list_entry}
 use Rattle.sb_root.specs.Tables.{base_frames, shared_table}
 use Rattle.sb_root.proofs.Frames.{shared_in_base}
 use Rattle.sb_state.specs.declared.page.PageName.{PageName}
@@ -284,6 +284,7 @@ left_stays old new state pages frames root among = record {
     shown = λ thread index process shows. shows;
     entries = λ thread index shows. sym (ap (λ one. list_entry one thread index) root);
     homes = λ thread index shows. refl;
+    lists = λ thread index shows. sym (ap (λ one. eptp_list_frame one thread) root);
   };
 }
 

@@ -5,7 +5,7 @@ use Rattle.sb_memory.specs.declared.page.TheConstants.{PAGE_SIZE}
 use Rattle.sb_memory.specs.declared.address.Access.{Access}
 use Rattle.sb_memory.specs.declared.address.PhysAddr.{PhysAddr}
 use Rattle.sb_walks.specs.Nested.{memory_behind, translation}
-use Rattle.sb_root.specs.Root.{list_entry}
+use Rattle.sb_root.specs.Root.{eptp_list_frame, list_entry}
 use Rattle.sb_state.specs.declared.page.PageName.{PageName}
 use Rattle.sb_state.specs.declared.page.Page.{Page}
 use Rattle.sb_trace.specs.State.{State, find_page, thread_at}
@@ -26,13 +26,15 @@ abbrev pub IsThereAs : List Page → PageName → Bool → Type 0
 IsThereAs pages name executable = (page : Page) × (find_page pages name ≡ Some page) × (page.executable ≡ executable)
 
 -- Each view that was there stays: it shows the same process, behind the same entry of its list, and its thread has the same
--- home.
+-- home, and its list in the same frame.
 pub record ViewsStay (old new : Placement) (state state' : State) : Type 0 where
   pub shown : (thread index process : ℕ) → process_shown state.threads thread index ≡ Some process
       → process_shown state'.threads thread index ≡ Some process
   pub entries : (thread index : ℕ) → IsView state thread index
       → list_entry new.root thread index ≡ list_entry old.root thread index
   pub homes : (thread index : ℕ) → IsView state thread index → (thread_at state' thread).home ≡ (thread_at state thread).home
+  pub lists : (thread index : ℕ) → IsView state thread index
+      → eptp_list_frame new.root thread ≡ eptp_list_frame old.root thread
 
 -- All that was there stays in its place: each page in its frame and its mode, and each view.
 pub record StaysInPlace (old new : Placement) (state state' : State) : Type 0 where
