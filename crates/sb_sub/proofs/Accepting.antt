@@ -1,6 +1,6 @@
 -- Register by its refusal: who is accepted, and what stands afterwards.
-use Rattle.std.proofs.Common.{◌≡◌, ◌∙◌, sym, ap, subst, ℕ, ◌+◌, ◌*◌, ◌<◌, ◌≤◌, ◌==◌, ◌||◌, Bool, true, false, not, nat_lt, List, refl}
-use Rattle.std.specs.Prelude.{Option, Some, None, IfSome, if◌then◌else◌, slice_get, slice_set}
+use Rattle.std.proofs.Common.{◌≡◌, ◌∙◌, sym, ap, subst, ℕ, ◌+◌, ◌*◌, ◌≤◌, ◌==◌, ◌||◌, Bool, true, false, not, nat_lt, List, refl}
+use Rattle.std.specs.Prelude.{Option, Some, None, IfSome, if◌then◌else◌, slice_get}
 use Rattle.std.specs.Option.{option_map}
 use Rattle.std.proofs.lemmas.Option.{slice_get-map}
 use Rattle.sb_abi.specs.declared.call.CallRefusal.{CallRefusal}
@@ -24,7 +24,7 @@ use Rattle.sb_sub.specs.Carries.{Carries}
 use Rattle.sb_sub.specs.Kernel.{Entry, Kernel, process_of}
 use Rattle.sb_sub.specs.Outcomes.{RegistersBy}
 use Rattle.sb_sub.specs.Refusals.{process_in, server_refusal}
-use Rattle.sb_sub.specs.Registering.{FindsPool, RegistersPages, with_entry, with_server_entry}
+use Rattle.sb_sub.specs.Registering.{FindsPool, RegistersPages, with_server_entry}
 use Rattle.sb_sub.specs.StandsFor.{StandsFor}
 use Rattle.sb_sub.specs.Taking.{CanTake}
 use Rattle.sb_sub.specs.Translations.{PlacesStay}
