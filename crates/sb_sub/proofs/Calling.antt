@@ -25,11 +25,12 @@ use Rattle.sb_calls.specs.Refusals.{protect_refusal}
 use Rattle.sb_calls.specs.SyscallRegisters.{regs_with_answer}
 use Rattle.sb_trace.specs.SyscallAnswer.{state_after_call, syscall_refusal, syscall_acceptance}
 use Rattle.sb_trace.specs.SyscallProtect.{heap_count, with_heap_mode, execute_mode_outcome, protect_outcome_by, protect_outcome}
+use Rattle.sb_trace.specs.SyscallRegister.{refusal_of_register, register_of_thread, register_outcome, with_server}
 use Rattle.sb_trace.specs.Syscall.{exit_outcome, outcome_by_number, syscall_outcome}
 use Rattle.sb_state.proofs.Threads.{regs_set, set_within}
 use Rattle.sb_sub.specs.Kernel.{Kernel, Seat, seat_of, shown_in, process_from}
-use Rattle.sb_sub.specs.Refusals.{with_pattern, page_refusal, answer_by}
-use Rattle.sb_sub.specs.Outcomes.{ProtectsBy, after_protect, protect_by}
+use Rattle.sb_sub.specs.Refusals.{with_pattern, page_refusal, answer_by, number_by}
+use Rattle.sb_sub.specs.Outcomes.{ProtectsBy, RegistersBy, after_protect, after_register, protect_by}
 use Rattle.sb_sub.specs.StandsFor.{StandsFor}
 use Rattle.sb_sub.specs.Serving.{Serves, exit_answer, exit_regs, entered, line_of}
 use Rattle.sb_sub.specs.declared.answer.Answer.{Answer}
@@ -179,6 +180,57 @@ protect_served refusal kernel root book memory state thread old new process by i
     subst (Serves kernel root book memory thread (Back (rax old) (answer_by refusal).0) new) outcome
     (protect_served_by refusal kernel root book memory state thread (entered old) new (rax old) process (rdi old)
     (rsi old) by.stands inside (rax_entered old) now)
+
+-- ---- register
+
+pub called_register : (state : State) (number : ℕ) (next : Regs) → rax next ≡ 2
+    → syscall_outcome state number next ≡ register_of_thread state number (thread_at state number) next
+unfolding syscall_outcome
+called_register state number next is = ap (λ (call : ℕ). outcome_by_number state number (thread_at state number) next call) is
+
+register_served_by : (refusal : Option CallRefusal) (kernel : Kernel) (root : RootKernel) (book : Book) (memory : Physical)
+    (state : State) (thread : ℕ) (next new : Regs) (number process : ℕ)
+    → StandsFor kernel root book memory (after_register state process (rdi next) (rsi next) refusal)
+    → thread < length kernel.seats → rax next ≡ number → new ≡ regs_with_answer next (number_by refusal) 0
+    → Serves kernel root book memory thread (Back number (number_by refusal)) new
+    (register_outcome state thread next process refusal)
+register_served_by None kernel root book memory state thread next new number process stands inside same now =
+    goes_on kernel root book memory (with_server state process (rdi next) (rsi next)) thread next new 0 0 stands inside now
+    (Back number 0) _
+    (ap (λ (call : ℕ). event.Sys call 0) (sym same))
+register_served_by (Some refusal) kernel root book memory state thread next new number process stands inside same now =
+    goes_on kernel root book memory state thread next new (refusal_number refusal) 0 stands inside now
+    (Back number (refusal_number refusal)) _
+    (ap (λ (call : ℕ). event.Sys call (refusal_number refusal)) (sym same))
+
+-- register, by its refusal
+pub register_served : (refusal : Option CallRefusal) (kernel : Kernel) (root : RootKernel) (book : Book) (memory : Physical)
+    (state : State) (thread : ℕ) (old new : Regs) (view process : ℕ)
+    → RegistersBy kernel root book memory state view process (rdi old) (rsi old) refusal → thread < length kernel.seats
+    → (thread_at state thread).view ≡ view → process ≡ process_now (thread_at state thread)
+    → rax old ≡ 2 → new ≡ regs_with_answer (entered old) (number_by refusal) 0
+    → Serves kernel root book memory thread (Back (rax old) (number_by refusal)) new
+    (syscall_outcome state thread (entered old))
+register_served refusal kernel root book memory state thread old new view process by inside is shows number now =
+    let act : ℕ → ℕ → ℕ → ℕ → Outcome =
+    λ view process handler stacks. register_outcome state thread (entered old) process
+    (refusal_of_register state view process handler stacks) in
+    let at = thread_at state thread in
+    let outcome : register_outcome state thread (entered old) process refusal ≡ syscall_outcome state thread (entered old) =
+    ap (register_outcome state thread (entered old) process) by.is
+    ∙ (ap (λ (one : ℕ). act one process (rdi old) (rsi old)) (sym is)
+    ∙ (ap (λ (one : ℕ). act at.view one (rdi old) (rsi old)) shows
+    ∙ (ap (λ (one : ℕ). act at.view (process_now at) one (rsi old)) (sym (rdi_entered old))
+    ∙ (ap (λ (one : ℕ). act at.view (process_now at) (rdi (entered old)) one) (sym (rsi_entered old))
+    ∙ sym (called_register state thread (entered old) (rax_entered old ∙ number)))))) in
+    let stands =
+    subst (λ (one : ℕ). StandsFor kernel root book memory (after_register state process one (rsi (entered old)) refusal))
+    (sym (rdi_entered old))
+    (subst (λ (one : ℕ). StandsFor kernel root book memory (after_register state process (rdi old) one refusal))
+    (sym (rsi_entered old)) by.stands) in
+    subst (Serves kernel root book memory thread (Back (rax old) (number_by refusal)) new) outcome
+    (register_served_by refusal kernel root book memory state thread (entered old) new (rax old) process stands inside
+    (rax_entered old) now)
 
 -- ---- exit
 

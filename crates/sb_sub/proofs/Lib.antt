@@ -14,3 +14,4 @@ pub mod Translated
 pub mod SeenAfter
 pub mod Servable
 pub mod Registered
+pub mod Accepting

@@ -54,7 +54,7 @@ module _ (kernel : Kernel) (root : RootKernel) (book : Book) (memory : Physical)
   carries : Carries stands.placement root book memory state
   carries = record { keeps = stands.keeps; rooted = stands.rooted; booked = stands.booked; unused = stands.unused }
 
-  done : Registered stands.placement root book' new state process handler stacks
+  pub done : Registered stands.placement root book' new state process handler stacks
   done = registered_carried stands.placement root book memory state carries process pool.0 there pool.1 handler stacks book' new
       few no_stack
       (subst (λ (set : TableSet). RegistersPages set root book book' memory new process stacks) (sym set_same) registers)

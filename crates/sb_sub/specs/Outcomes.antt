@@ -11,6 +11,7 @@ use Rattle.sb_trace.specs.Home.{Outcome}
 use Rattle.sb_trace.specs.Pattern.{heap_pattern}
 use Rattle.sb_trace.specs.SyscallAnswer.{syscall_refusal, syscall_acceptance}
 use Rattle.sb_trace.specs.SyscallProtect.{heap_count, with_heap_mode}
+use Rattle.sb_trace.specs.SyscallRegister.{refusal_of_register, with_server}
 use Rattle.sb_sub.specs.Kernel.{Kernel}
 use Rattle.sb_sub.specs.Refusals.{page_refusal}
 use Rattle.sb_sub.specs.StandsFor.{StandsFor}
@@ -31,3 +32,14 @@ pub record ProtectsBy (kernel : Kernel) (root : RootKernel) (book : Book) (memor
     (process page mode : ℕ) (refusal : Option (CallRefusal × ℕ)) : Type 0 where
   pub is : refusal ≡ page_refusal (heap_count (process_at state process)) page mode (heap_pattern state process page)
   pub stands : StandsFor kernel root book memory (after_protect state process page mode refusal)
+
+-- the state after register, but for the thread's registers
+abbrev pub after_register : State → ℕ → ℕ → ℕ → Option CallRefusal → State
+after_register state process handler stacks None = with_server state process handler stacks
+after_register state process handler stacks (Some refusal) = state
+
+-- what register answers and leaves
+pub record RegistersBy (kernel : Kernel) (root : RootKernel) (book : Book) (memory : Physical) (state : State)
+    (view process handler stacks : ℕ) (refusal : Option CallRefusal) : Type 0 where
+  pub is : refusal ≡ refusal_of_register state view process handler stacks
+  pub stands : StandsFor kernel root book memory (after_register state process handler stacks refusal)

@@ -1,5 +1,5 @@
 -- What register does to bytes: the pool word is put, and the pages of the stacks are added.
-use Rattle.std.specs.Prelude.{ℕ, ◌≡◌, ◌-◌, ◌*◌, ◌/◌, ◌^◌, ◌<◌, [], ◌∷◌, Option, Some, IfOk}
+use Rattle.std.specs.Prelude.{ℕ, ◌≡◌, ◌-◌, ◌*◌, ◌/◌, ◌^◌, ◌<◌, List, [], ◌∷◌, Option, Some, None, IfOk, slice_set}
 use Rattle.sb_abi.specs.declared.space.TheConstants.{STACK_PAGES}
 use Rattle.sb_abi.specs.declared.trampoline.TheConstants.{POOL_ADDRESS}
 use Rattle.sb_memory.specs.Physical.{Physical, frame_count}
@@ -53,3 +53,8 @@ pub record Registered (placement : Placement) (root : RootKernel) (book : Book) 
 abbrev pub with_entry : Entry → ℕ → ℕ → Entry
 with_entry entry handler stacks =
     record entry { process = record entry.process { registration = Some (record { handler = handler; stacks = stacks }) } }
+
+-- the processes with the one of this number, which is there, as a server
+abbrev pub with_server_entry : Option Entry → List Entry → ℕ → ℕ → ℕ → List Entry
+with_server_entry None entries process handler stacks = entries
+with_server_entry (Some entry) entries process handler stacks = slice_set entries process (with_entry entry handler stacks)

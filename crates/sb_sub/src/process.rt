@@ -1,16 +1,16 @@
 //! What the Subkernel keeps of a process.
 
+ghost use Rattle.std.specs.Prelude.{◌≡◌};
+ghost use Rattle.sb_sub.specs.Registering.{with_entry};
+
 use sb_pagewalk::TableSet;
-use sb_trace::Registration;
+use sb_state::Registration;
 use std::marker::Model;
 
-/// A process: where the instructions of its text start, the number of its heap pages, what it told as a server, and its page
-/// tables.
+/// A process: what the plain machine keeps of it, and its page tables.
 #[derive(Debug, Drop)]
 pub struct Process {
-    pub(crate) starts: Vec<u64>,
-    pub(crate) heap_pages: u32,
-    pub(crate) registration: Option<Registration>,
+    pub(crate) plain: sb_state::Process,
     pub(crate) set: TableSet,
 }
 
@@ -19,12 +19,14 @@ impl Model for Process {
 
     ghost Value = { Entry };
 
-    ghost view = { λ process. record {
-      process = record {
-        starts = process.starts.items;
-        heap_pages = process.heap_pages;
-        registration = process.registration;
-      };
-      set = process.set;
-    } };
+    ghost view = { λ process. record { process = process.plain; set = process.set } };
+}
+
+impl Process {
+    /// Notes the handler of a server, and the number of its stacks.
+    pub(crate) fn note_server(&mut self, handler: u64, stacks: u32)
+        ensures { self.new ≡ with_entry self.old handler stacks }
+    {
+        self.plain.registration = Some(Registration { handler, stacks });
+    }
 }

@@ -33,7 +33,7 @@ fn refusal(
     ensures refusal { result ≡ heap_page_refusal memory.old process.now page mode }
     ensures within { IfNone result (page < process.now.process.heap_pages) }
 {
-    if let Some(refusal) = protect_refusal(process.heap_pages, page, mode) {
+    if let Some(refusal) = protect_refusal(process.plain.heap_pages, page, mode) {
         return Some((refusal, 0));
     }
     if mode == EXECUTE_MODE {
@@ -50,7 +50,7 @@ fn pattern_refusal(process: &Process, memory: &mut Memory, page: u32) -> Option<
     ensures same { memory.new ≡ memory.old }
     ensures refusal { result ≡ pattern_refusal (pattern_at memory.old process.now.set page process.now.process.heap_pages) }
 {
-    let address = heap_pattern(memory, &process.set, page, process.heap_pages)?;
+    let address = heap_pattern(memory, &process.set, page, process.plain.heap_pages)?;
     Some((CallRefusal::Pattern, address))
 }
 
@@ -94,7 +94,7 @@ fn set_mode(
     ensures root { root.new ≡ root.old }
     ensures sets { SetsMode process.now.set root.old memory.old memory.new page executable }
 {
-    let frame = page_frame(memory, &process.set, page, process.heap_pages);
+    let frame = page_frame(memory, &process.set, page, process.plain.heap_pages);
     process
         .set
         .set_page(memory, heap_address(page), heap_entry(frame, executable));

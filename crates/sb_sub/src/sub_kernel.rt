@@ -1,24 +1,28 @@
 //! The Subkernel.
 
-ghost use Rattle.std.specs.Prelude.{◌≡◌, ◌≢◌, ◌<◌, IfSome, Some, length, nat_lt, slice_get};
+ghost use Rattle.std.specs.Prelude.{◌≡◌, ◌≢◌, ◌+◌, ◌*◌, ◌<◌, ◌≤◌, IfSome, None, Some, length, nat_lt, slice_get};
+ghost use Rattle.sb_abi.specs.declared.space.TheConstants.{MAX_STACKS, STACK_PAGES};
 ghost use Rattle.sb_abi.specs.Numbers.{call_number};
-ghost use Rattle.sb_abi.specs.declared.call.Call.TheVariants.{Register, Bind, Protect};
+ghost use Rattle.sb_abi.specs.declared.call.Call.TheVariants.{Bind, Protect};
 ghost use Rattle.sb_trace.specs.State.{State};
 ghost use Rattle.sb_trace.specs.Registers.{rax, rdi};
 ghost use Rattle.sb_trace.specs.Syscall.{syscall_outcome};
-ghost use Rattle.sb_frames.specs.Book.{Book};
+ghost use Rattle.sb_frames.specs.Book.{Book, free_count};
 ghost use Rattle.sb_sub.specs.Kernel.{shown_in};
 ghost use Rattle.sb_sub.specs.StandsFor.{StandsFor};
 ghost use Rattle.sb_sub.specs.Serving.{IsRefused, ServesBy, exit_answer, exit_regs};
-ghost use Rattle.sb_sub.specs.Outcomes.{ProtectsBy};
-ghost use Rattle.sb_sub.specs.Refusals.{answer_by};
+ghost use Rattle.sb_sub.specs.Outcomes.{ProtectsBy, RegistersBy};
+ghost use Rattle.sb_sub.specs.Refusals.{answer_by, number_by, server_refusal};
+ghost use Rattle.sb_sub.specs.Registering.{RegistersPages, with_server_entry};
+ghost use Rattle.sb_sub.specs.Translations.{PlacesStay};
 
 use crate::answer::Answer;
 use crate::process::Process;
 use crate::protect::protect;
+use crate::register::register_pages;
 use crate::registers::{entered, go_on};
 use sb_abi::{Call, CallRefusal};
-use sb_calls::server_fault_regs;
+use sb_calls::{register_refusal, server_fault_regs};
 use sb_frames::FrameBook;
 use sb_insn::Regs;
 use sb_insn::registers::{RAX, RDI, RSI};
@@ -65,6 +69,8 @@ const EXIT: u64 = Call::Exit as u64;
 
 const PRINT: u64 = Call::Print as u64;
 
+const REGISTER: u64 = Call::Register as u64;
+
 const PROTECT: u64 = Call::Protect as u64;
 
 // ---- calls
@@ -91,6 +97,25 @@ fn answer_of(refusal: Option<(CallRefusal, u64)>) -> (u64, u64)
         Some((refusal, second)) => (refusal.number(), second),
         None => (0, 0),
     }
+}
+
+/// The answer of a call that has no second value, by its refusal.
+fn number_of(refusal: Option<CallRefusal>) -> u64
+    ensures { result ≡ number_by refusal }
+{
+    match refusal {
+        Some(refusal) => refusal.number(),
+        None => 0,
+    }
+}
+
+/// Notes that the process of a number is a server.
+fn note_server(processes: &mut [Process], process: u32, handler: u64, stacks: u32)
+    requires { process < length processes.old }
+    ensures { processes.new
+        ≡ with_server_entry (slice_get processes.old process) processes.old process handler stacks }
+{
+    processes[process as usize].note_server(handler, stacks);
 }
 
 impl SubKernel {
@@ -122,6 +147,89 @@ impl SubKernel {
         &self.processes[process as usize]
     }
 
+    /// Why the process of a number does not become a server, where so many frames are free.
+    #[tactic(auto, unfolding(sb_calls::specs::Refusals::register_refusal))]
+    fn refusal_of_register(
+        &self,
+        free: u32,
+        view: u16,
+        process: u32,
+        handler: u64,
+        stacks: u64,
+    ) -> Option<CallRefusal>
+        ensures refusal { result ≡ server_refusal self.now free view process handler stacks }
+        ensures stacks { result ≡ None → stacks ≤ MAX_STACKS }
+        ensures frames { result ≡ None → STACK_PAGES * stacks ≤ free }
+        ensures there { result ≡ None → process < length self.now.processes }
+    {
+        if self.has_process(process) {
+            let plain = &self.process(process).plain;
+            let registered = plain.registration.is_some();
+            register_refusal(view, registered, plain.is_start(handler), stacks, free)
+        } else {
+            register_refusal(view, false, false, stacks, free)
+        }
+    }
+
+    /// The pages of so many stacks are there, and the process is a server.
+    fn make_server(
+        &mut self,
+        memory: &mut Memory,
+        book: &mut FrameBook,
+        root: &mut RootKernel,
+        process: u32,
+        handler: u64,
+        stacks: u32,
+    )
+        requires stands { (state : State) × StandsFor self.old root.old book.old memory.old state }
+        requires there { process < length self.old.processes }
+        requires few { stacks ≤ MAX_STACKS }
+        requires some { STACK_PAGES * stacks ≤ free_count book.old }
+        ensures root { root.new ≡ root.old }
+        ensures pages { IfSome (slice_get self.old.processes process)
+            (λ entry. RegistersPages entry.set root.old book.old book.new memory.old memory.new process stacks) }
+        ensures fewer { free_count book.new + STACK_PAGES * stacks ≡ free_count book.old }
+        ensures noted { self.new ≡ record self.old {
+          processes = with_server_entry (slice_get self.old.processes process) self.old.processes process handler stacks;
+        } }
+    {
+        let set = &self.process(process).set;
+        register_pages(set, memory, book, root, process, stacks);
+        note_server(&mut self.processes, process, handler, stacks);
+    }
+
+    /// Call 2: the process that the view shows becomes a server.
+    fn register(
+        &mut self,
+        memory: &mut Memory,
+        book: &mut FrameBook,
+        root: &mut RootKernel,
+        view: u16,
+        process: u32,
+        handler: u64,
+        stacks: u64,
+    ) -> Option<CallRefusal>
+        requires stands { (state : State) × StandsFor self.old root.old book.old memory.old state }
+        ensures root { root.new ≡ root.old }
+        ensures seats { self.new.seats ≡ self.old.seats }
+        ensures refused { IfSome result (λ _. (self.new ≡ self.old) × (book.new ≡ book.old) × (memory.new ≡ memory.old)) }
+        ensures places { PlacesStay self.old root.old book.old memory.old memory.new }
+        ensures served { (state : State) → StandsFor self.old root.old book.old memory.old state
+            → RegistersBy self.new root.old book.new memory.new state view process handler stacks result }
+    {
+        if let Some(refusal) = self.refusal_of_register(
+            book.free(),
+            view,
+            process,
+            handler,
+            stacks,
+        ) {
+            return Some(refusal);
+        }
+        self.make_server(memory, book, root, process, handler, stacks as u32);
+        None
+    }
+
     /// Call 4: a heap page of the process that the view shows gets a mode.
     fn protect_page(
         &self,
@@ -145,7 +253,8 @@ impl SubKernel {
     }
 
     /// A system call of a thread in its present view, with the registers behind SYSCALL. What a refused call leaves differs in
-    /// registers alone.
+    /// registers alone, so every translation is as it was. After a call with another number than protect each address
+    /// that led to a place leads there.
     pub fn serve(
         &mut self,
         memory: &mut Memory,
@@ -157,12 +266,13 @@ impl SubKernel {
     ) -> Answer
         requires stands { (state : State) × StandsFor self.old root.old book.old memory.old state }
         requires thread { thread < length self.old.seats }
-        requires built { (rax regs.old ≢ call_number Register) × (rax regs.old ≢ call_number Bind) }
+        requires built { rax regs.old ≢ call_number Bind }
         ensures served { ServesBy syscall_outcome self.old root.old book.old memory.old self.new root.new book.new memory.new
             thread view result regs.old regs.new }
         ensures refused { IsRefused result
             → (self.new ≡ self.old) × (root.new ≡ root.old) × (book.new ≡ book.old) × (memory.new ≡ memory.old) }
-        ensures tables { rax regs.old ≢ call_number Protect → memory.new ≡ memory.old }
+        ensures places { rax regs.old ≢ call_number Protect
+            → PlacesStay self.old root.old book.old memory.old memory.new }
     {
         let number = regs.general[RAX];
         match number {
@@ -171,6 +281,14 @@ impl SubKernel {
                 let value = regs.general[RDI];
                 go_on(regs, 0, 0);
                 Answer::Printed(value)
+            }
+            REGISTER => {
+                let process = self.shown(thread, view);
+                let (handler, stacks) = (regs.general[RDI], regs.general[RSI]);
+                let refusal = self.register(memory, book, root, view, process, handler, stacks);
+                let answer = number_of(refusal);
+                go_on(regs, answer, 0);
+                Answer::Back { number, answer }
             }
             PROTECT => {
                 let process = self.shown(thread, view);

@@ -14,6 +14,7 @@ expose-requires-clause-stands c =
     let apart =
     subst (λ (entry : Entry). IsApart c.args.root.now (table_frame entry.set 7 ∷ []))
     (sym c.process.view_is) c.requires.apart in
+    let held = rw (← c.process-inside.view_is) at apart in
     let written = rw (c.heap_address.ensures, c.page_frame-frame.ensures.same) at c.set_page.ensures.entry in
     stands_kept c.args.root.now _ c.args.memory.now c.set_page.new.memory c.requires.stands
-    (table_word _ c.args.memory.now c.set_page.new.memory c.args.page _ _ c.requires.page c.requires.finds.few written) apart
+    (table_word _ c.args.memory.now c.set_page.new.memory c.args.page _ _ c.requires.page c.requires.finds.few written) held
