@@ -14,8 +14,9 @@ use Rattle.sb_shows.specs.Keeping.{Keeps}
 use Rattle.sb_shows.specs.Related.{cr3_of, Sees, HasCores}
 use Rattle.sb_shows.specs.Shows.{CoreWords, IsView, present_index, seen_through}
 use Rattle.sb_shows.specs.InPlace.{ViewsStay}
-use Rattle.sb_shows.specs.Laws.{CoresStay, CoresAreThere, PlacesStay}
+use Rattle.sb_shows.specs.Laws.{CoresStay, CoresAreThere, PlacesStay, PlacesStayWhereSeen}
 use Rattle.sb_shows.proofs.InPlace.{addresses_stay}
+use Rattle.sb_shows.proofs.Unseen.{seen_stay}
 use Rattle.sb_shows.proofs.Shown.{core_sees}
 
 -- ---- the words stay
@@ -101,7 +102,8 @@ place_after old new state state' memory' cores keeps' views has' thread index ad
     (core_sees new state' memory' cores keeps' has' thread index (shows.0, views.shown thread index shows.0 shows.1))
     ∙ (ap (λ eptp. translation (memory_behind memory' eptp) (cr3_of state' thread) address access)
     (views.entries thread index shows)
-    ∙ ap (λ (home : ℕ). translation (memory_behind memory' (list_entry old.root thread index)) (4096 * (16 + home)) address access)
+    ∙ ap (λ (home : ℕ). translation (memory_behind memory' (list_entry old.root thread index)) (4096 * (16 + home)) address
+    access)
     (views.homes thread index shows))
 
 -- by the words in memory, an address that led to a place leads there still
@@ -111,3 +113,12 @@ places_stay old new state state' memory memory' cores keeps keeps' stays has has
     ∙ addresses_stay old new state state' memory memory' keeps keeps' stays thread index shows address access place
     (sym (place_by_root old state memory cores thread index address access
     (core_sees old state memory cores keeps has thread index shows)) ∙ leads)
+
+-- and each address leads where it led, or meets the same refusal, where the view shows the page that it showed
+pub places_seen_stay : PlacesStayWhereSeen
+places_seen_stay old new state state' memory memory' cores keeps keeps' frames views has has' thread index address access shows
+    same =
+    place_after old new state state' memory' cores keeps' views has' thread index address access shows
+    ∙ (seen_stay old new state state' memory memory' keeps keeps' frames views thread index shows address access same
+    ∙ sym (place_by_root old state memory cores thread index address access
+    (core_sees old state memory cores keeps has thread index shows)))

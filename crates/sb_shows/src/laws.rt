@@ -1,6 +1,6 @@
 //! What a memory in which a machine keeps a state shows, and what an instruction does there.
 
-ghost use Rattle.sb_shows.specs.Laws.{AddressesStay, CoresAreThere, CoresSee, CoresStay, FetchesAlike, KeepsShows, PlacesStay, StepsAlike, TranslationsStay, TranslationsStayWhereSeen};
+ghost use Rattle.sb_shows.specs.Laws.{AddressesStay, CoresAreThere, CoresSee, CoresStay, FetchesAlike, KeepsShows, PlacesStay, PlacesStayWhereSeen, StepsAlike, TranslationsStay, TranslationsStayWhereSeen};
 
 use sb_memory::Phys;
 
@@ -22,11 +22,13 @@ pub fn instructions_are_alike<P: Phys>()
 
 /// Between two memories in which states are kept, where each page and each view that was there is where it was, each translation
 /// that gave an address gives the same; and each translation is the same, a refusal too, where the page that is seen is the same.
-/// Where views stay and each thread is in the view in which it was, the words of the cores stay; and by them, through the lists as
-/// they stand in memory, each address that led to a place leads there still.
+///
+/// Where views stay and each thread is in the view in which it was, the words of the cores stay. By them, and by the entries of
+/// lists as they stand in memory, both hold too of what each core sees.
 pub fn what_stays_is_reached_as_before()
     ensures addresses { AddressesStay }
     ensures translations { TranslationsStayWhereSeen }
     ensures cores { CoresStay }
     ensures places { PlacesStay }
+    ensures places_seen { PlacesStayWhereSeen }
 {}

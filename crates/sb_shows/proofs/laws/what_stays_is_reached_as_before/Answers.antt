@@ -1,5 +1,5 @@
 use Rattle.sb_shows.proofs.InPlace.{addresses_stay}
-use Rattle.sb_shows.proofs.Cores.{cores_stay, places_stay}
+use Rattle.sb_shows.proofs.Cores.{cores_stay, places_stay, places_seen_stay}
 use Rattle.sb_shows.proofs.Unseen.{seen_stay}
 use Rattle.sb_shows.proofs.laws.what_stays_is_reached_as_before.Goals as goal
 
@@ -14,3 +14,6 @@ returns-clause-cores c = cores_stay
 
 pub returns-clause-places : goal.returns-clause-places
 returns-clause-places c = places_stay
+
+pub returns-clause-places_seen : goal.returns-clause-places_seen
+returns-clause-places_seen c = places_seen_stay
