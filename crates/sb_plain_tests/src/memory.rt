@@ -50,8 +50,8 @@ fn thread(home: u32) -> Thread {
     }
 }
 
-/// Two processes with a page of data each: threads 0 and 1 are at home in the first, thread 2 in the second.
-fn state(alloc: Global) -> Result<PlainState, Fail> {
+/// Two processes with a page of data each.
+fn pages(alloc: Global) -> Result<Pages, Fail> {
     let mut pages = Pages::new(alloc);
     pages.push(page(alloc, PageName::Text(0, 0), &[0x31, 0xC0], 0xCC)?)?;
     pages.push(page(alloc, PageName::Data(0, 0), &[], 0)?)?;
@@ -59,19 +59,35 @@ fn state(alloc: Global) -> Result<PlainState, Fail> {
     pages.push(page(alloc, PageName::Data(1, 0), &[], 0)?)?;
     pages.push(page(alloc, PageName::Stack(0, 0), &[], 0)?)?;
     pages.push(page(alloc, PageName::Stack(0, 1), &[], 0)?)?;
+    Ok(pages)
+}
+
+/// Threads 0 and 1 are at home in the first process, thread 2 in the second.
+fn threads(alloc: Global) -> Result<Vec<Thread>, Fail> {
     let mut threads = Vec::new(alloc);
     threads.push(thread(0))?;
     threads.push(thread(0))?;
     threads.push(thread(1))?;
+    Ok(threads)
+}
+
+/// A machine of these pages and threads.
+fn state_of(alloc: Global, pages: Pages, threads: Vec<Thread>) -> Result<PlainState, Fail> {
+    let flights = vec![in alloc; None; threads.len()]?;
     Ok(PlainState {
         pages,
         processes: Vec::new(alloc),
         threads,
         absent: no_thread(),
-        flights: vec![in alloc; None; 3]?,
+        flights,
         free: 0,
         keys: KeyWords::new(Vec::new(alloc)),
     })
+}
+
+/// The machine of both processes and of the three threads.
+fn state(alloc: Global) -> Result<PlainState, Fail> {
+    state_of(alloc, pages(alloc)?, threads(alloc)?)
 }
 
 /// The answer of a fault.
@@ -144,9 +160,10 @@ fn text_is_fetched_and_not_read(rt: HostRuntime) -> Result<(), Fail> {
 
 #[test]
 fn a_ninth_thread_has_its_buffer(rt: HostRuntime) -> Result<(), Fail> {
-    let mut state = state(rt.alloc())?;
+    let alloc = rt.alloc();
+    let mut threads = threads(alloc)?;
     for _ in 3..8 {
-        state.threads.push(thread(0))?;
+        threads.push(thread(0))?;
     }
     let mut bindings = Bindings::new();
     bindings.push(Binding {
@@ -154,14 +171,16 @@ fn a_ninth_thread_has_its_buffer(rt: HostRuntime) -> Result<(), Fail> {
         server: 1,
         key: 0,
     });
-    state.threads.push(Thread {
+    threads.push(Thread {
         bindings,
         ..thread(0)
     })?;
+    let mut pages = pages(alloc)?;
     for number in 0..4 {
         let name = PageName::Buffer(8, 1, number);
-        state.pages.push(page(rt.alloc(), name, &[], 0)?)?;
+        pages.push(page(alloc, name, &[], 0)?)?;
     }
+    let mut state = state_of(alloc, pages, threads)?;
     // It stores in its home, the last byte of the four pages included, and the server's view has what it stored.
     for (at, value) in [(0x220_4000, 7), (0x220_7FF8, 9)] {
         let stored = PlainBus::new(&mut state, 8, 0).store(Linear(at), 8, value);

@@ -3,7 +3,7 @@
 ghost use Rattle.std.specs.Prelude.{◌≡◌, ◌≢◌, ◌+◌, ◌*◌, ◌<◌, ◌≤◌, IfSome, None, Some, length, nat_lt, slice_get};
 ghost use Rattle.sb_abi.specs.declared.space.TheConstants.{MAX_STACKS, STACK_PAGES};
 ghost use Rattle.sb_abi.specs.Numbers.{call_number};
-ghost use Rattle.sb_abi.specs.declared.call.Call.TheVariants.{Bind, Protect};
+ghost use Rattle.sb_abi.specs.declared.call.Call.TheVariants.{Register, Bind, Protect};
 ghost use Rattle.sb_trace.specs.State.{State};
 ghost use Rattle.sb_trace.specs.Registers.{rax, rdi};
 ghost use Rattle.sb_trace.specs.Syscall.{syscall_outcome};
@@ -254,7 +254,7 @@ impl SubKernel {
 
     /// A system call of a thread in its present view, with the registers behind SYSCALL. What a refused call leaves differs in
     /// registers alone, so every translation is as it was. After a call with another number than protect each address
-    /// that led to a place leads there.
+    /// that led to a place leads there; and exit, print and a number that is no call leave memory as it was.
     pub fn serve(
         &mut self,
         memory: &mut Memory,
@@ -271,6 +271,7 @@ impl SubKernel {
             thread view result regs.old regs.new }
         ensures refused { IsRefused result
             → (self.new ≡ self.old) × (root.new ≡ root.old) × (book.new ≡ book.old) × (memory.new ≡ memory.old) }
+        ensures memory { rax regs.old ≢ call_number Protect → rax regs.old ≢ call_number Register → memory.new ≡ memory.old }
         ensures places { rax regs.old ≢ call_number Protect
             → PlacesStay self.old root.old book.old memory.old memory.new }
     {
