@@ -1,16 +1,18 @@
 -- Each defect of memory beside a clause of what memory shows.
-use Rattle.std.proofs.Common.{◌≡◌, ◌∙◌, sym, ap, subst, ℕ, ◌/◌, Bool, true, false, List, Result, Ok, Err, refl}
+use Rattle.std.proofs.Common.{◌≡◌, ◌∙◌, sym, ap, subst, ℕ, ◌+◌, ◌-◌, ◌*◌, ◌/◌, ◌%◌, Bool, true, false, List, Result, Ok, Err, refl, arith}
 use Rattle.std.specs.Prelude.{Option, Some, None, if◌then◌else◌}
 use Rattle.std.specs.Option.{option_map, option_and_then}
 use Rattle.sb_abi.specs.declared.trampoline.TheConstants.{POOL_ADDRESS}
-use Rattle.sb_memory.specs.Physical.{Physical}
+use Rattle.sb_memory.specs.Physical.{Physical, frame_of}
 use Rattle.sb_memory.specs.Reading.{byte_read}
 use Rattle.sb_memory.specs.declared.address.Access.{Access}
 use Rattle.sb_memory.specs.declared.address.Access.TheVariants.{Write, Fetch}
 use Rattle.sb_memory.specs.declared.address.Missing.{Missing}
 use Rattle.sb_memory.specs.declared.address.PhysAddr.{PhysAddr}
 use Rattle.sb_bus.specs.declared.stop.FaultKind.TheVariants.{Canon, Memory}
-use Rattle.sb_nested.specs.View.{view, view_byte, byte_behind, byte_answer}
+use Rattle.sb_walks.specs.Nested.{memory_behind, translation}
+use Rattle.sb_walks.proofs.Page.{place_offset, translated-page}
+use Rattle.sb_nested.specs.View.{View, place_of, view, view_byte, byte_behind, byte_answer}
 use Rattle.sb_state.specs.declared.page.PageName.{PageName}
 use Rattle.sb_state.specs.declared.page.PageName.TheVariants.{Data, Pool}
 use Rattle.sb_state.specs.declared.page.Page.{Page}
@@ -23,7 +25,7 @@ use Rattle.sb_trace.specs.Windows.{name_at, page_by_name, page_and_mode, process
 use Rattle.sb_trace.specs.PlainMemory.{is_canonical, byte_seen, plain_byte, fault_at}
 use Rattle.sb_shows.specs.Windows.{NamesNoOtherProcess}
 use Rattle.sb_shows.specs.Shows.{CoreWords, Shows, IsView, IsEntryFor, LeadsTo, entry_at, name_seen, seen_through}
-use Rattle.sb_shows.specs.Defects.{Reaches, NoSecondPageAtAPlace, NoEntryOfAnUnusedIndex, NoTableInSight, NoDataOfTheClient, NoPageIsWrittenAndFetched, NoCr3OfAnother}
+use Rattle.sb_shows.specs.Defects.{Reaches, NoSecondPageInAFrame, NoEntryOfAnUnusedIndex, NoTableInSight, NoDataOfTheClient, NoPageIsWrittenAndFetched, NoCr3OfAnother}
 use Rattle.sb_shows.proofs.Numbers.{name_number}
 
 -- ---- what is seen has its name
@@ -79,6 +81,42 @@ is_canon state thread index address access true answer is =
 is_canon state thread index address access false (Ok byte) is = absurd cc
 is_canon state thread index address access false (Err gap) is = absurd cc
 
+-- ---- the end of a page
+
+-- the last address of the page of an address
+abbrev page_end : ℕ → ℕ
+page_end address = 4096 * (address / 4096) + 4095
+
+abbrev place_end : PhysAddr → PhysAddr
+place_end place = record { 0 = page_end place.0 }
+
+-- where an address leads, the end of its page leads to the end of the frame
+end_leads : (core : View) (access : Access) (address : ℕ) (place : PhysAddr) → LeadsTo core access address place
+    → LeadsTo core access (page_end address) (place_end place)
+unfolding place_of
+end_leads core access address place leads =
+    let behind = memory_behind core.physical core.eptp in
+    let offset = place_offset behind core.cr3 address access place leads in
+    let from : address + (4095 - address % 4096) ≡ page_end address = omega arith in
+    let to : place.0 + (4095 - address % 4096) ≡ page_end place.0 = omega arith in
+    ap (λ (n : ℕ). translation behind core.cr3 n access) (sym from)
+    ∙ (translated-page behind core.cr3 address (4095 - address % 4096) access place (omega arith) leads
+    ∙ ap (λ (n : ℕ). Ok (record { 0 = n })) to)
+
+-- and there the same page is seen
+end_reached : (state : State) (memory : Physical) (cores : ℕ → CoreWords) (thread index address : ℕ) (access : Access)
+    (name : PageName) (place : PhysAddr) → Reaches state memory cores thread index address access name place
+    → Reaches state memory cores thread index (page_end address) access name (place_end place)
+end_reached state memory cores thread index address access name place one =
+    let page : page_end address / 4096 ≡ address / 4096 = omega arith in
+    record {
+      shows = one.shows;
+      page = ap (λ (n : ℕ). name_seen (page_for state thread index n)) page ∙ one.page;
+      leads = end_leads (seen_through memory (cores thread) index) access address place one.leads;
+    }
+
+-- ---- of memory that shows a state
+
 module _ (state : State) (memory : Physical) (cores : ℕ → CoreWords) (shows : Shows state memory cores) where
   seen_for : (thread index address : ℕ) (access : Access) (place : PhysAddr) → IsView state thread index
       → LeadsTo (seen_through memory (cores thread) index) access address place
@@ -103,13 +141,27 @@ module _ (state : State) (memory : Physical) (cores : ℕ → CoreWords) (shows 
       let right = same.second in
       cc
 
+  -- what leads to one frame is one page: the ends of both pages lead to one place
+  frame_name : (thread index thread' index' address address' : ℕ) (access access' : Access) (name name' : PageName)
+      (place place' : PhysAddr)
+      → Reaches state memory cores thread index address access name place
+      → Reaches state memory cores thread' index' address' access' name' place'
+      → frame_of place.0 ≡ frame_of place'.0 → name ≡ name'
+  frame_name thread index thread' index' address address' access access' name name' place place' one other frame =
+      one_name thread index thread' index' (page_end address) (page_end address') access access' name name' (place_end place)
+      (end_reached state memory cores thread index address access name place one)
+      (subst (Reaches state memory cores thread' index' (page_end address') access' name')
+      (ap (λ (n : ℕ). record { 0 = 4096 * n + 4095 }) (sym frame))
+      (end_reached state memory cores thread' index' address' access' name' place' other))
+
 -- ---- the defects
 
-pub no_second_page_at_a_place : NoSecondPageAtAPlace
-no_second_page_at_a_place state memory cores thread index thread' index' address address' access access' name name' place one
-    other differ shows =
+pub no_second_page_in_a_frame : NoSecondPageInAFrame
+no_second_page_in_a_frame state memory cores thread index thread' index' address address' access access' name name' place place'
+    one other frame differ shows =
     differ
-    (one_name state memory cores shows thread index thread' index' address address' access access' name name' place one other)
+    (frame_name state memory cores shows thread index thread' index' address address' access access' name name' place place' one
+    other frame)
 
 pub no_entry_of_an_unused_index : NoEntryOfAnUnusedIndex
 no_entry_of_an_unused_index state memory cores thread index there few none set shows =
@@ -143,11 +195,31 @@ not_both mode.Fetch write fetch = cc
 not_both mode.Read write fetch = cc
 not_both mode.ReadWrite write fetch = cc
 
+-- a page that is found by a name is found by its own
+by_own_name : (pages : List Page) (name : Option PageName) (page : SeenPage)
+    → option_and_then (page_by_name pages) name ≡ Some page → page_by_name pages page.name ≡ Some page
+by_own_name pages None page is = absurd cc
+by_own_name pages (Some name) page is =
+    subst (λ one. page_by_name pages one ≡ Some page) (found_name name page.name (find_page pages name) (ap name_seen is)) is
+
+seen_by_name : (state : State) (thread index at : ℕ) (page : SeenPage) → page_for state thread index at ≡ Some page
+    → page_by_name state.pages page.name ≡ Some page
+unfolding page_for
+seen_by_name state thread index at page is = by_own_name state.pages _ page is
+
 pub no_page_is_written_and_fetched : NoPageIsWrittenAndFetched
-no_page_is_written_and_fetched state memory cores thread index address place place' view written fetched shows =
+no_page_is_written_and_fetched state memory cores thread index thread' index' address address' place place' view view' written
+    fetched frame shows =
     let one = seen_for state memory cores shows thread index address Write place view written in
-    let other = seen_for state memory cores shows thread index address Fetch place' view fetched in
-    let same : Some one.page ≡ Some other.page = sym one.seen ∙ other.seen in
+    let other = seen_for state memory cores shows thread' index' address' Fetch place' view' fetched in
+    let name : one.page.name ≡ other.page.name =
+    frame_name state memory cores shows thread index thread' index' address address' Write Fetch one.page.name other.page.name
+    place place' (record { shows = view; page = ap name_seen one.seen; leads = written })
+    (record { shows = view'; page = ap name_seen other.seen; leads = fetched }) frame in
+    let same : Some one.page ≡ Some other.page =
+    sym (seen_by_name state thread index (address / 4096) one.page one.seen)
+    ∙ (ap (page_by_name state.pages) name
+    ∙ seen_by_name state thread' index' (address' / 4096) other.page other.seen) in
     let page : one.page ≡ other.page = cc in
     not_both one.page.mode one.may (subst (λ (seen : SeenPage). permits seen.mode Fetch ≡ true) (sym page) other.may)
 

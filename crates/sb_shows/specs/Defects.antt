@@ -21,14 +21,14 @@ pub record Reaches (state : State) (memory : Physical) (cores : ℕ → CoreWord
   pub page : name_seen (page_for state thread index (address / 4096)) ≡ Some name
   pub leads : LeadsTo (seen_through memory (cores thread) index) access address place
 
--- two pages in one frame: bytes of both are at one place
-abbrev pub NoSecondPageAtAPlace : Type 0
-NoSecondPageAtAPlace =
+-- two pages in one frame: bytes of both are there
+abbrev pub NoSecondPageInAFrame : Type 0
+NoSecondPageInAFrame =
     (state : State) (memory : Physical) (cores : ℕ → CoreWords) (thread index thread' index' address address' : ℕ)
-    (access access' : Access) (name name' : PageName) (place : PhysAddr)
+    (access access' : Access) (name name' : PageName) (place place' : PhysAddr)
     → Reaches state memory cores thread index address access name place
-    → Reaches state memory cores thread' index' address' access' name' place
-    → name ≢ name' → ¬ Shows state memory cores
+    → Reaches state memory cores thread' index' address' access' name' place'
+    → frame_of place.0 ≡ frame_of place'.0 → name ≢ name' → ¬ Shows state memory cores
 
 -- an entry of a list that is set, at an index for which the thread has no view
 abbrev pub NoEntryOfAnUnusedIndex : Type 0
@@ -57,13 +57,16 @@ NoDataOfTheClient =
     → process_shown state.threads thread index ≡ Some server → server ≢ client
     → LeadsTo (seen_through memory (cores thread) index) access' address' place → ¬ Shows state memory cores
 
--- a page, of the heap or another, that may be written and fetched
+-- a page, of the heap or another, that may be written in a view and fetched in this or another one: two addresses lead to its
+-- frame
 abbrev pub NoPageIsWrittenAndFetched : Type 0
 NoPageIsWrittenAndFetched =
-    (state : State) (memory : Physical) (cores : ℕ → CoreWords) (thread index address : ℕ) (place place' : PhysAddr)
-    → IsView state thread index
+    (state : State) (memory : Physical) (cores : ℕ → CoreWords) (thread index thread' index' address address' : ℕ)
+    (place place' : PhysAddr)
+    → IsView state thread index → IsView state thread' index'
     → LeadsTo (seen_through memory (cores thread) index) Write address place
-    → LeadsTo (seen_through memory (cores thread) index) Fetch address place' → ¬ Shows state memory cores
+    → LeadsTo (seen_through memory (cores thread') index') Fetch address' place'
+    → frame_of place.0 ≡ frame_of place'.0 → ¬ Shows state memory cores
 
 -- The CR3 word of another process: it is that of a thread with another home, and the home views of both threads lead from there
 -- to one pool page.

@@ -1,10 +1,10 @@
 //! What memory never has where it shows a state.
 
-ghost use Rattle.sb_shows.specs.Defects.{NoSecondPageAtAPlace, NoEntryOfAnUnusedIndex, NoTableInSight, NoDataOfTheClient, NoPageIsWrittenAndFetched, NoCr3OfAnother};
+ghost use Rattle.sb_shows.specs.Defects.{NoSecondPageInAFrame, NoEntryOfAnUnusedIndex, NoTableInSight, NoDataOfTheClient, NoPageIsWrittenAndFetched, NoCr3OfAnother};
 
-/// No frame holds two pages: bytes of two pages are never at one place.
-pub fn no_second_page_at_a_place()
-    ensures { NoSecondPageAtAPlace }
+/// No frame holds two pages: no two addresses lead to one frame where bytes of two pages are seen.
+pub fn no_second_page_in_a_frame()
+    ensures { NoSecondPageInAFrame }
 {}
 
 /// No entry of a list is set for an index that names no view.
@@ -22,7 +22,7 @@ pub fn no_data_of_the_client()
     ensures { NoDataOfTheClient }
 {}
 
-/// No page may be written and fetched, of the heap or elsewhere.
+/// No page may be written and fetched, of the heap or elsewhere: not in one view, and not in two, at one address or at two.
 pub fn no_page_is_written_and_fetched()
     ensures { NoPageIsWrittenAndFetched }
 {}
