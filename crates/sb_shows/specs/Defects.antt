@@ -68,8 +68,7 @@ NoPageIsWrittenAndFetched =
     → LeadsTo (seen_through memory (cores thread') index') Fetch address' place'
     → frame_of place.0 ≡ frame_of place'.0 → ¬ Shows state memory cores
 
--- The CR3 word of another process: it is that of a thread with another home, and the home views of both threads lead from there
--- to one pool page.
+-- one CR3 word from which two home views of different homes lead to one pool page
 abbrev pub NoCr3OfAnother : Type 0
 NoCr3OfAnother =
     (state : State) (memory : Physical) (cores : ℕ → CoreWords) (thread other home home' : ℕ) (access : Access)

@@ -27,7 +27,7 @@ pub fn no_page_is_written_and_fetched()
     ensures { NoPageIsWrittenAndFetched }
 {}
 
-/// No CR3 word is that of another process.
+/// Two home views of different homes never lead from one CR3 word to one pool page.
 pub fn no_cr3_of_another()
     ensures { NoCr3OfAnother }
 {}
