@@ -1,7 +1,7 @@
 -- What the text of a dump determines.
 use Rattle.std.proofs.Common.{◌≡◌, ◌≢◌, ◌∙◌, sym, ap, subst, ℕ, zero, suc, ◌+◌, ◌-◌, ◌*◌, ◌/◌, ◌%◌, ◌^◌, ◌<◌, ◌≤◌, ◌==◌, ◌||◌, inl, inr, Bool, true, false, cond, List, [], ◌∷◌, ◌++◌, length, get_or, refl, arith}
-use Rattle.std.specs.Prelude.{codes, flat_map, filter, take, drop, not}
-use Rattle.std.specs.List.{list_any, range_with_len, slice_range}
+use Rattle.std.specs.Prelude.{codes, flat_map, filter, take, drop, not, if◌then◌else◌}
+use Rattle.std.specs.List.{Contains, list_any, range_with_len, slice_range}
 use Rattle.std.specs.Fmt.{decimal, digits, digit_glyph}
 use Rattle.std.specs.Str.Parse.{AllDigits, digits_value}
 use Rattle.std.specs.Char.{digit_value}
@@ -9,13 +9,22 @@ use Rattle.std.proofs.lemmas.Bool.{eqb-true, eqb-false, cases_lt}
 use Rattle.std.proofs.lemmas.List.{get_or-drop, get_or-take, length-drop, length-take-le}
 use Rattle.std.proofs.Math.ListN.{get_or-eq_default}
 use Rattle.std.proofs.lemmas.Fmt.{digits_is_IsNumeral, decimal_is_IsNumeral, decimal_injective}
-use Rattle.sb_memory.specs.Physical.{Physical, IsPhysical, frame_count}
+use Rattle.sb_memory.specs.Physical.{Physical, IsPhysical, HasAllFrames, frame_count}
 use Rattle.sb_memory.specs.Frames.{frame_bytes}
 use Rattle.sb_memory.proofs.Frames.{length_frame_bytes, byte_of_frame}
+use Rattle.sb_memory.specs.declared.address.Access.{Access}
+use Rattle.sb_memory.specs.declared.address.Access.TheVariants.{Fetch}
+use Rattle.sb_memory.specs.declared.address.PhysAddr.{PhysAddr}
+use Rattle.sb_walks.specs.Nested.{memory_behind, translation_reads}
+use Rattle.sb_nested.specs.View.{view_byte}
+use Rattle.sb_trace.specs.State.{State}
+use Rattle.sb_trace.specs.Windows.{process_shown}
+use Rattle.sb_trace.specs.PlainMemory.{plain_byte}
 use Rattle.sb_trace.specs.EndText.{hex}
 use Rattle.sb_trace.specs.Report.{line_feed}
-use Rattle.sb_shows.specs.Shows.{CoreWords}
-use Rattle.sb_shows.specs.Dump.{words_text, core_line, byte_text, bytes_line, frame_text, has_bytes, AreCoreWords, DumpsOneMachine}
+use Rattle.sb_shows.specs.Shows.{CoreWords, Shows, IsView, IsEntryFor, LeadsTo, entry_at, present_index, seen_through}
+use Rattle.sb_shows.specs.Dump.{words_text, core_line, byte_text, bytes_line, frame_text, has_nonzero_byte, AreCoreWords, DumpsOneMachine, DumpsShow}
+use Rattle.sb_shows.proofs.Shown.{view_thread}
 
 -- ---- texts side by side
 
@@ -306,7 +315,7 @@ lines_cut bytes bytes' first (suc count) rest rest' fits fits' small small' same
 -- the frames from a first one on, and the end
 abbrev frames_text : Physical → ℕ → ℕ → List ℕ
 frames_text memory first count =
-    flat_map (frame_text memory) (filter (has_bytes memory) (range_with_len first count)) ++ codes "end\n"
+    flat_map (frame_text memory) (filter (has_nonzero_byte memory) (range_with_len first count)) ++ codes "end\n"
 
 -- a frame with others behind it
 frame_joined : (memory : Physical) (frame : ℕ) (lines rest : List ℕ)
@@ -325,26 +334,26 @@ data Begins (text : List ℕ) (first count : ℕ) : Type 0 where
       → text ≡ codes "frame " ++ (hex frame ++ (10 ∷ rest)) → Begins text first count
 
 -- a frame of zeros is left out
-skips : (memory : Physical) (first count : ℕ) → has_bytes memory first ≡ false
+skips : (memory : Physical) (first count : ℕ) → has_nonzero_byte memory first ≡ false
     → frames_text memory first (suc count) ≡ frames_text memory (first + 1) count
 skips memory first count is =
     ap (λ (test : Bool). flat_map (frame_text memory)
-    (cond test (first ∷ filter (has_bytes memory) (range_with_len (first + 1) count))
-    (filter (has_bytes memory) (range_with_len (first + 1) count))) ++ codes "end\n") is
+    (cond test (first ∷ filter (has_nonzero_byte memory) (range_with_len (first + 1) count))
+    (filter (has_nonzero_byte memory) (range_with_len (first + 1) count))) ++ codes "end\n") is
 
 -- and another stands first
-stands_first : (memory : Physical) (first count : ℕ) → has_bytes memory first ≡ true
+stands_first : (memory : Physical) (first count : ℕ) → has_nonzero_byte memory first ≡ true
     → frames_text memory first (suc count)
     ≡ codes "frame " ++ (hex first ++ (10 ∷ (flat_map (bytes_line (frame_bytes memory first)) (range_with_len 0 64)
     ++ frames_text memory (first + 1) count)))
 stands_first memory first count is =
     ap (λ (test : Bool). flat_map (frame_text memory)
-    (cond test (first ∷ filter (has_bytes memory) (range_with_len (first + 1) count))
-    (filter (has_bytes memory) (range_with_len (first + 1) count))) ++ codes "end\n") is
+    (cond test (first ∷ filter (has_nonzero_byte memory) (range_with_len (first + 1) count))
+    (filter (has_nonzero_byte memory) (range_with_len (first + 1) count))) ++ codes "end\n") is
     ∙ frame_joined memory first
-    (flat_map (frame_text memory) (filter (has_bytes memory) (range_with_len (first + 1) count))) (codes "end\n")
+    (flat_map (frame_text memory) (filter (has_nonzero_byte memory) (range_with_len (first + 1) count))) (codes "end\n")
 
-begins_by : (memory : Physical) (first count : ℕ) (test : Bool) → has_bytes memory first ≡ test
+begins_by : (memory : Physical) (first count : ℕ) (test : Bool) → has_nonzero_byte memory first ≡ test
     → Begins (frames_text memory (first + 1) count) (first + 1) count
     → Begins (frames_text memory first (suc count)) first (suc count)
 begins_by memory first count true is later =
@@ -356,7 +365,7 @@ begins_by memory first count false is (begins frame rest from below text) =
 how_begins : (memory : Physical) (first count : ℕ) → Begins (frames_text memory first count) first count
 how_begins memory first zero = ends refl
 how_begins memory first (suc count) =
-    begins_by memory first count (has_bytes memory first) refl (how_begins memory (first + 1) count)
+    begins_by memory first count (has_nonzero_byte memory first) refl (how_begins memory (first + 1) count)
 
 -- texts that begin differently are not the same
 heads_differ : (one other : List ℕ) (first second : ℕ) → get_or one 0 0 ≡ first → get_or other 0 0 ≡ second → first ≢ second
@@ -389,6 +398,21 @@ all_zero (one ∷ ones) none zero = zero_by (one == 0) one _ refl none
 all_zero (one ∷ ones) none (suc place) = all_zero ones (rest_by (not (one == 0)) _ none) place
 
 -- ---- the memories
+
+-- lists of one length whose elements are the same
+same_list : {A : Type 0} (other : A) (ones others : List A) → length ones ≡ length others
+    → ((place : ℕ) → place < length ones → get_or ones place other ≡ get_or others place other) → ones ≡ others
+same_list other [] [] size same = refl
+same_list other [] (second ∷ others) size same = absurd (omega arith)
+same_list other (first ∷ ones) [] size same = absurd (omega arith)
+same_list other (first ∷ ones) (second ∷ others) size same =
+    let rest = same_list other ones others (omega arith) (λ place inside. same (suc place) (omega arith)) in
+    ap (λ one. one ∷ ones) (same 0 (omega arith)) ∙ ap (λ list. second ∷ list) rest
+
+physical_record : (bytes bytes' : List ℕ) (present present' : List Bool) → bytes ≡ bytes' → present ≡ present'
+    → (let one : Physical = record { bytes = bytes; present = present } in one)
+    ≡ record { bytes = bytes'; present = present' }
+physical_record bytes bytes' present present' first second = cc
 
 module _ (memory memory' : Physical) (physical : IsPhysical memory) (physical' : IsPhysical memory')
     (counts : frame_count memory ≡ frame_count memory') where
@@ -432,7 +456,7 @@ module _ (memory memory' : Physical) (physical : IsPhysical memory) (physical' :
   ]
 
   frames_by : (test test' : Bool) (first count : ℕ) → first + suc count ≤ frame_count memory
-      → has_bytes memory first ≡ test → has_bytes memory' first ≡ test'
+      → has_nonzero_byte memory first ≡ test → has_nonzero_byte memory' first ≡ test'
       → (frames_text memory (first + 1) count ≡ frames_text memory' (first + 1) count → AreSameFrom (first + 1) count)
       → frames_text memory first (suc count) ≡ frames_text memory' first (suc count) → AreSameFrom first (suc count)
   frames_by true true first count inside is is' later same =
@@ -463,7 +487,7 @@ module _ (memory memory' : Physical) (physical : IsPhysical memory) (physical' :
       → frames_text memory first count ≡ frames_text memory' first count → AreSameFrom first count
   frames_same first zero inside same frame from below = absurd (omega arith)
   frames_same first (suc count) inside same frame from below =
-      frames_by (has_bytes memory first) (has_bytes memory' first) first count inside refl refl
+      frames_by (has_nonzero_byte memory first) (has_nonzero_byte memory' first) first count inside refl refl
       (λ later. frames_same (first + 1) count (omega arith) later) same frame from below
 
   bytes_same : AreSameFrom 0 (frame_count memory) → (place : ℕ) → get_or memory.bytes place 0 ≡ get_or memory'.bytes place 0
@@ -480,6 +504,21 @@ module _ (memory memory' : Physical) (physical : IsPhysical memory) (physical' :
         let size' = physical'.size.bytes in
         past memory.bytes place (omega arith) ∙ sym (past memory'.bytes place (omega arith))
   ]
+
+  all_there : HasAllFrames memory → HasAllFrames memory' → (frame : ℕ) → frame < length memory.present
+      → get_or memory.present frame false ≡ get_or memory'.present frame false
+  all_there whole whole' frame inside =
+      whole frame inside ∙ sym (whole' frame (subst (λ count. frame < count) counts inside))
+
+  -- with the same bytes, and no frame missing, they are the same
+  memory_same : HasAllFrames memory → HasAllFrames memory'
+      → ((place : ℕ) → get_or memory.bytes place 0 ≡ get_or memory'.bytes place 0) → memory ≡ memory'
+  memory_same whole whole' bytes =
+      let size = physical.size.bytes in
+      let size' = physical'.size.bytes in
+      physical_record memory.bytes memory'.bytes memory.present memory'.present
+      (same_list 0 memory.bytes memory'.bytes (omega arith) (λ place inside. bytes place))
+      (same_list false memory.present memory'.present counts (all_there whole whole'))
 
 no_core : (code : ℕ) → 99 < code → code ≡ 99 → ⊥
 no_core code above here = omega arith
@@ -515,6 +554,66 @@ dumps_one_machine text memory memory' cores cores' core_count core_count' frames
       frames_same = same;
       count_same = words.count_same;
       words = λ core below. words.words core (omega arith) (omega arith);
-      bytes = bytes_same memory memory' one.physical other.physical counts
-          (frames_same memory memory' one.physical other.physical counts 0 (frame_count memory) (omega arith) texts);
+      memory_same = memory_same memory memory' one.physical other.physical counts one.whole other.whole
+          (bytes_same memory memory' one.physical other.physical counts
+          (frames_same memory memory' one.physical other.physical counts 0 (frame_count memory) (omega arith) texts));
     }
+
+-- ---- a dump of a state
+
+module _ (state : State) (memory : Physical) (cores cores' : ℕ → CoreWords)
+    (same : (core : ℕ) → core < length state.threads → cores core ≡ cores' core) (shows : Shows state memory cores) where
+  words_same : (thread index : ℕ) → IsView state thread index → cores thread ≡ cores' thread
+  words_same thread index view = same thread (view_thread state thread index view)
+
+  led_before : (thread index address : ℕ) (access : Access) (place : PhysAddr) → IsView state thread index
+      → LeadsTo (seen_through memory (cores' thread) index) access address place
+      → LeadsTo (seen_through memory (cores thread) index) access address place
+  led_before thread index address access place view leads =
+      subst (λ (core : CoreWords). LeadsTo (seen_through memory core index) access address place)
+      (sym (words_same thread index view)) leads
+
+  -- words of the cores of all threads show what the same words show
+  shows_same : Shows state memory cores'
+  shows_same = record {
+    entries = λ thread index there few.
+        subst (λ (core : CoreWords). IsEntryFor (process_shown state.threads thread index) (entry_at memory core index))
+        (same thread there) (shows.entries thread index there few);
+    bytes = λ thread index address access view.
+        subst
+        (λ (core : CoreWords). view_byte (seen_through memory core index) address access
+        ≡ plain_byte thread index state address access)
+        (words_same thread index view) (shows.bytes thread index address access view);
+    pointers = λ thread there.
+        subst (λ (core : CoreWords). core.eptp ≡ entry_at memory core (present_index state thread)) (same thread there)
+        (shows.pointers thread there);
+    sharing = λ thread index thread' index' address address' access access' place place' view view' leads leads'.
+        shows.sharing thread index thread' index' address address' access access' place place' view view'
+        (led_before thread index address access place view leads)
+        (led_before thread' index' address' access' place' view' leads');
+    lists = λ thread index owner address access place view there leads here.
+        shows.lists thread index owner address access place view there
+        (led_before thread index address access place view leads)
+        (here ∙ ap (λ (core : CoreWords). core.list) (sym (same owner there)));
+    tables = λ thread index thread' index' address address' read access access' place view view' leads among here.
+        shows.tables thread index thread' index' address address' read access access' place view view'
+        (led_before thread index address access place view leads)
+        (subst
+        (λ (core : CoreWords). Contains
+        (translation_reads (memory_behind memory (entry_at memory core index')) core.cr3 address' access') read)
+        (sym (words_same thread' index' view')) among)
+        here;
+    trampoline = λ thread index offset view few.
+        subst
+        (λ (core : CoreWords). LeadsTo (seen_through memory core index) Fetch (0x70000040 + offset)
+        (record { 0 = (if index == 0 then 0x1040 else 0x4040) + offset }))
+        (words_same thread index view) (shows.trampoline thread index offset view few);
+  }
+
+-- whoever reads a dump of a state finds memory and words that show it
+pub dumps_show : DumpsShow
+dumps_show text state memory cores core_count frames frames' one other =
+    let machine = dumps_one_machine text one.memory memory one.cores cores (length state.threads) core_count frames frames' one.is
+    other in
+    shows_same state memory one.cores cores machine.words
+    (subst (λ (found : Physical). Shows state found one.cores) machine.memory_same one.shows)

@@ -37,6 +37,7 @@ pub mod ClearingView
 pub mod FreeIndices
 pub mod Fetched
 pub mod Refuted
+pub mod OtherCr3
 pub mod Example
 pub mod Dumped
 pub mod SeenPages

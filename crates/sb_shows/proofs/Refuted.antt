@@ -1,5 +1,5 @@
 -- Each defect of memory beside a clause of what memory shows.
-use Rattle.std.proofs.Common.{◌≡◌, ◌∙◌, sym, ap, subst, ℕ, ◌+◌, ◌-◌, ◌*◌, ◌/◌, ◌%◌, Bool, true, false, List, Result, Ok, Err, refl, arith}
+use Rattle.std.proofs.Common.{◌≡◌, ◌≢◌, ◌∙◌, sym, ap, subst, ℕ, ◌+◌, ◌-◌, ◌*◌, ◌/◌, ◌%◌, Bool, true, false, List, Result, Ok, Err, refl, arith}
 use Rattle.std.specs.Prelude.{Option, Some, None, if◌then◌else◌}
 use Rattle.std.specs.Option.{option_map, option_and_then}
 use Rattle.sb_abi.specs.declared.trampoline.TheConstants.{POOL_ADDRESS}
@@ -12,7 +12,7 @@ use Rattle.sb_memory.specs.declared.address.PhysAddr.{PhysAddr}
 use Rattle.sb_bus.specs.declared.stop.FaultKind.TheVariants.{Canon, Memory}
 use Rattle.sb_walks.specs.Nested.{memory_behind, translation}
 use Rattle.sb_walks.proofs.Page.{place_offset, translated-page}
-use Rattle.sb_nested.specs.View.{View, place_of, view, view_byte, byte_behind, byte_answer}
+use Rattle.sb_nested.specs.View.{View, place_of, view_byte, byte_behind, byte_answer}
 use Rattle.sb_state.specs.declared.page.PageName.{PageName}
 use Rattle.sb_state.specs.declared.page.PageName.TheVariants.{Data, Pool}
 use Rattle.sb_state.specs.declared.page.Page.{Page}
@@ -25,7 +25,7 @@ use Rattle.sb_trace.specs.Windows.{name_at, page_by_name, page_and_mode, process
 use Rattle.sb_trace.specs.PlainMemory.{is_canonical, byte_seen, plain_byte, fault_at}
 use Rattle.sb_shows.specs.Windows.{NamesNoOtherProcess}
 use Rattle.sb_shows.specs.Shows.{CoreWords, Shows, IsView, IsEntryFor, LeadsTo, entry_at, name_seen, seen_through}
-use Rattle.sb_shows.specs.Defects.{Reaches, NoSecondPageInAFrame, NoEntryOfAnUnusedIndex, NoTableInSight, NoDataOfTheClient, NoPageIsWrittenAndFetched, NoCr3OfAnother}
+use Rattle.sb_shows.specs.Defects.{Reaches, NoSecondPageInAFrame, NoEntryOfAnUnusedIndex, NoTableInSight, NoDataOfTheClient, NoPageIsWrittenAndFetched}
 use Rattle.sb_shows.proofs.Numbers.{name_number}
 
 -- ---- what is seen has its name
@@ -242,11 +242,14 @@ pool_seen state memory cores shows thread home access place shown leads =
       leads = leads;
     }
 
-pub no_cr3_of_another : NoCr3OfAnother
-no_cr3_of_another state memory cores thread other home home' access place shown shown' away same leads leads' shows =
-    let here : LeadsTo (seen_through memory (cores thread) 0) access POOL_ADDRESS place =
-    subst (λ cr3. LeadsTo (view memory (entry_at memory (cores thread) 0) cr3) access POOL_ADDRESS place) (sym same) leads in
-    let one = pool_seen state memory cores shows thread home access place shown here in
+-- the home views of threads of different homes do not lead to one place where the pool pages are seen
+pub no_pool_of_another : (state : State) (memory : Physical) (cores : ℕ → CoreWords) (thread other home home' : ℕ)
+    (access : Access) (place : PhysAddr)
+    → process_shown state.threads thread 0 ≡ Some home → process_shown state.threads other 0 ≡ Some home' → home ≢ home'
+    → LeadsTo (seen_through memory (cores thread) 0) access POOL_ADDRESS place
+    → LeadsTo (seen_through memory (cores other) 0) access POOL_ADDRESS place → ¬ Shows state memory cores
+no_pool_of_another state memory cores thread other home home' access place shown shown' away leads leads' shows =
+    let one = pool_seen state memory cores shows thread home access place shown leads in
     let two = pool_seen state memory cores shows other home' access place shown' leads' in
     let names : Pool home ≡ Pool home' =
     one_name state memory cores shows thread 0 other 0 POOL_ADDRESS POOL_ADDRESS access access (Pool home) (Pool home') place one

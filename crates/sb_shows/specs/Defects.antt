@@ -1,17 +1,18 @@
 -- What memory that shows a state never has: each of these defects, and it shows none.
-use Rattle.std.specs.Prelude.{ℕ, ◌≡◌, ◌≢◌, ◌/◌, ◌<◌, Some, None, length}
+use Rattle.std.specs.Prelude.{ℕ, ◌≡◌, ◌≢◌, ◌/◌, ◌<◌, ◌==◌, Some, None, length, if◌then◌else◌}
 use Rattle.std.specs.List.{Contains}
-use Rattle.sb_abi.specs.declared.trampoline.TheConstants.{POOL_ADDRESS}
 use Rattle.sb_memory.specs.Physical.{Physical, frame_of}
 use Rattle.sb_memory.specs.declared.address.Access.{Access}
 use Rattle.sb_memory.specs.declared.address.Access.TheVariants.{Write, Fetch}
 use Rattle.sb_memory.specs.declared.address.PhysAddr.{PhysAddr}
 use Rattle.sb_walks.specs.Nested.{memory_behind, translation_reads}
-use Rattle.sb_nested.specs.View.{view}
 use Rattle.sb_state.specs.declared.page.PageName.{PageName}
-use Rattle.sb_state.specs.declared.page.PageName.TheVariants.{Data}
+use Rattle.sb_state.specs.declared.page.PageName.TheVariants.{Data, Pool}
 use Rattle.sb_trace.specs.State.{State}
 use Rattle.sb_trace.specs.Windows.{process_shown, page_for}
+use Rattle.sb_shows.specs.Placement.{Placement, IsThere}
+use Rattle.sb_shows.specs.Keeping.{Keeps}
+use Rattle.sb_shows.specs.Related.{cr3_of, HasCores}
 use Rattle.sb_shows.specs.Shows.{CoreWords, Shows, IsView, LeadsTo, entry_at, name_seen, seen_through}
 
 -- A thread in a view sees the page of this name at an address, which leads to this place.
@@ -68,14 +69,15 @@ NoPageIsWrittenAndFetched =
     → LeadsTo (seen_through memory (cores thread') index') Fetch address' place'
     → frame_of place.0 ≡ frame_of place'.0 → ¬ Shows state memory cores
 
--- The CR3 word of another process: it is that of a thread with another home, and the home views of both threads lead from there
--- to one pool page.
+-- the words of the cores, those of one thread with this CR3
+abbrev pub with_cr3 : (ℕ → CoreWords) → ℕ → ℕ → ℕ → CoreWords
+with_cr3 cores thread cr3 core =
+    if core == thread then record { list = (cores core).list; cr3 = cr3; eptp = (cores core).eptp } else cores core
+
+-- The CR3 word of another process: where a machine keeps a state, it is that of a thread with another home, which has a pool page.
 abbrev pub NoCr3OfAnother : Type 0
 NoCr3OfAnother =
-    (state : State) (memory : Physical) (cores : ℕ → CoreWords) (thread other home home' : ℕ) (access : Access)
-    (place : PhysAddr)
+    (placement : Placement) (state : State) (memory : Physical) (cores : ℕ → CoreWords) (thread other home home' : ℕ)
+    → Keeps placement state memory → HasCores placement state cores
     → process_shown state.threads thread 0 ≡ Some home → process_shown state.threads other 0 ≡ Some home' → home ≢ home'
-    → (cores thread).cr3 ≡ (cores other).cr3
-    → LeadsTo (view memory (entry_at memory (cores thread) 0) (cores other).cr3) access POOL_ADDRESS place
-    → LeadsTo (view memory (entry_at memory (cores other) 0) (cores other).cr3) access POOL_ADDRESS place
-    → ¬ Shows state memory cores
+    → IsThere state.pages (Pool home') → ¬ Shows state memory (with_cr3 cores thread (cr3_of state other))

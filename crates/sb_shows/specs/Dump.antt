@@ -1,12 +1,13 @@
 -- The text of a dump (docs/FORMATS.md, "The dump"): the words of each core, and the bytes of each frame in which one is not 0.
-use Rattle.std.specs.Prelude.{ℕ, ◌≡◌, ◌+◌, ◌*◌, ◌/◌, ◌%◌, ◌^◌, ◌<◌, ◌==◌, Bool, not, List, ◌++◌, codes, flat_map, filter, get_or}
+use Rattle.std.specs.Prelude.{ℕ, ◌≡◌, ◌+◌, ◌*◌, ◌/◌, ◌%◌, ◌^◌, ◌<◌, ◌==◌, Bool, not, List, ◌++◌, codes, flat_map, filter, length}
 use Rattle.std.specs.List.{list_any, range_with_len, slice_range}
 use Rattle.std.specs.Fmt.{decimal}
 use Rattle.sb_memory.specs.Physical.{Physical, IsPhysical, HasAllFrames, frame_count}
 use Rattle.sb_memory.specs.Frames.{frame_bytes}
+use Rattle.sb_trace.specs.State.{State}
 use Rattle.sb_trace.specs.EndText.{hex}
 use Rattle.sb_trace.specs.Report.{line_feed}
-use Rattle.sb_shows.specs.Shows.{CoreWords}
+use Rattle.sb_shows.specs.Shows.{CoreWords, Shows}
 
 -- ---- the cores
 
@@ -32,9 +33,9 @@ abbrev pub frame_text : Physical → ℕ → List ℕ
 frame_text memory frame =
     codes "frame " ++ (hex frame ++ (line_feed ++ flat_map (bytes_line (frame_bytes memory frame)) (range_with_len 0 64)))
 
--- whether a byte of a frame is not 0
-abbrev pub has_bytes : Physical → ℕ → Bool
-has_bytes memory frame = list_any (λ byte. not (byte == 0)) (frame_bytes memory frame)
+-- whether a frame has a byte other than 0
+abbrev pub has_nonzero_byte : Physical → ℕ → Bool
+has_nonzero_byte memory frame = list_any (λ byte. not (byte == 0)) (frame_bytes memory frame)
 
 -- ---- the whole
 
@@ -42,7 +43,7 @@ abbrev pub dump_text : Physical → (ℕ → CoreWords) → ℕ → ℕ → List
 dump_text memory cores core_count frames =
     codes "dump " ++ (decimal frames ++ (line_feed
     ++ (flat_map (core_line cores) (range_with_len 0 core_count)
-    ++ (flat_map (frame_text memory) (filter (has_bytes memory) (range_with_len 0 frames)) ++ codes "end\n"))))
+    ++ (flat_map (frame_text memory) (filter (has_nonzero_byte memory) (range_with_len 0 frames)) ++ codes "end\n"))))
 
 -- the words of a core are words of the processor
 pub record AreCoreWords (words : CoreWords) : Type 0 where
@@ -50,7 +51,7 @@ pub record AreCoreWords (words : CoreWords) : Type 0 where
   pub cr3 : words.cr3 < 2 ^ 64
   pub eptp : words.eptp < 2 ^ 64
 
--- A text is the dump of whole memory of so many frames, and of the words of so many cores.
+-- A text is the dump of memory of so many frames, none missing, and of the words of so many cores.
 pub record IsDump (text : List ℕ) (memory : Physical) (cores : ℕ → CoreWords) (core_count frames : ℕ) : Type 0 where
   pub physical : IsPhysical memory
   pub whole : HasAllFrames memory
@@ -60,13 +61,13 @@ pub record IsDump (text : List ℕ) (memory : Physical) (cores : ℕ → CoreWor
 
 -- ---- what it determines
 
--- two memories of so many frames have the same bytes, and so many cores the same words
+-- two memories of so many frames are the same, and so many cores have the same words
 pub record IsSameMachine (memory memory' : Physical) (cores cores' : ℕ → CoreWords) (core_count core_count' frames frames' : ℕ)
     : Type 0 where
   pub frames_same : frames ≡ frames'
   pub count_same : core_count ≡ core_count'
   pub words : (core : ℕ) → core < core_count → cores core ≡ cores' core
-  pub bytes : (place : ℕ) → get_or memory.bytes place 0 ≡ get_or memory'.bytes place 0
+  pub memory_same : memory ≡ memory'
 
 -- A text is the dump of one memory, and of the words of so many cores.
 abbrev pub DumpsOneMachine : Type 0
@@ -74,3 +75,18 @@ DumpsOneMachine =
     (text : List ℕ) (memory memory' : Physical) (cores cores' : ℕ → CoreWords) (core_count core_count' frames frames' : ℕ)
     → IsDump text memory cores core_count frames → IsDump text memory' cores' core_count' frames'
     → IsSameMachine memory memory' cores cores' core_count core_count' frames frames'
+
+-- ---- a dump of a state
+
+-- A text is a dump of so many frames that shows a state: it has a line for the core of each thread.
+pub record IsDumpOf (text : List ℕ) (state : State) (frames : ℕ) : Type 0 where
+  pub memory : Physical
+  pub cores : ℕ → CoreWords
+  pub is : IsDump text memory cores (length state.threads) frames
+  pub shows : Shows state memory cores
+
+-- Whoever reads such a text finds memory and words that show the state.
+abbrev pub DumpsShow : Type 0
+DumpsShow =
+    (text : List ℕ) (state : State) (memory : Physical) (cores : ℕ → CoreWords) (core_count frames frames' : ℕ)
+    → IsDumpOf text state frames → IsDump text memory cores core_count frames' → Shows state memory cores

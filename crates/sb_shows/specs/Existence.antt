@@ -4,7 +4,8 @@ use Rattle.sb_memory.specs.Physical.{Physical, frame_count}
 use Rattle.sb_trace.specs.State.{State}
 use Rattle.sb_shows.specs.Shows.{CoreWords, Shows}
 
--- Memory of each size that has room for it shows a state with a process and a thread at home there.
+-- Memory of each size that has room for it shows a state of one process and one thread, though not a sound one: its trampoline
+-- pages are zeros, and it has no text, pool or stack page.
 abbrev pub SomeMemoryShows : Type 0
 SomeMemoryShows =
     (frames : ℕ) → 530 ≤ frames → frames ≤ 8192

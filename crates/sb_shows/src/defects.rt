@@ -27,7 +27,7 @@ pub fn no_page_is_written_and_fetched()
     ensures { NoPageIsWrittenAndFetched }
 {}
 
-/// No CR3 word is that of another process.
+/// No CR3 word is that of a thread with another home, where a machine keeps the state and that home has a pool page.
 pub fn no_cr3_of_another()
     ensures { NoCr3OfAnother }
 {}
