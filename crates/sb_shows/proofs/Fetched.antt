@@ -9,8 +9,8 @@ use Rattle.sb_trace.specs.State.{State}
 use Rattle.sb_trace.specs.PlainMemory.{plain}
 use Rattle.sb_trace.proofs.Fetchable.{one_pattern}
 use Rattle.sb_trace.proofs.Trampoline.{switch_stands}
-use Rattle.sb_shows.specs.Shows.{CoreWords, Shows, IsView, LeadsTo, seen_through}
-use Rattle.sb_shows.specs.Pattern.{FetchesPattern, pattern_place, LeadsToPattern, PatternIsAtTwoPlaces, PatternIsFetched}
+use Rattle.sb_shows.specs.Shows.{CoreWords, Shows, IsView, LeadsTo, seen_through, pattern_place}
+use Rattle.sb_shows.specs.Pattern.{FetchesPattern, LeadsToPattern, PatternIsAtTwoPlaces, PatternIsFetched}
 
 module _ (state : State) (memory : Physical) (cores : ℕ → CoreWords) (shows : Shows state memory cores)
     (thread index : ℕ) (view : IsView state thread index) where

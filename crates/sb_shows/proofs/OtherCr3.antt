@@ -192,12 +192,13 @@ no_cr3_of_another placement state memory cores thread other home home' keeps has
     let led = pool_led placement state memory keeps thread home home' shown view'.process_there away found in
     let here : LeadsTo (view memory (entry_at memory (cores thread) 0) (cr3_of state other)) Read POOL_ADDRESS place =
     ap (λ (eptp : ℕ). translation (memory_behind memory eptp) (cr3_of state other) POOL_ADDRESS Read) pointer
-    ∙ (ap (λ (n : ℕ). translation (memory_behind memory (eptp_of_view (keeps.leads.views thread 0 home shown).kept)) n POOL_ADDRESS
-    Read) cr3 ∙ led) in
+    ∙ (ap (λ (n : ℕ). translation (memory_behind memory (eptp_of_view (keeps.leads.views thread 0 home shown).kept)) n
+    POOL_ADDRESS Read) cr3 ∙ led) in
     let seen = (place_led placement other 0 state (seen_through memory (cores other) 0)
     (core_sees placement state memory cores keeps has_cores other 0 (home', shown')) POOL_ADDRESS Read).led refl in
     let there : LeadsTo (seen_through memory (cores other) 0) Read POOL_ADDRESS place =
-    subst (λ page. IsSeenLed placement.frame page POOL_ADDRESS Read (place_of (seen_through memory (cores other) 0) Read POOL_ADDRESS))
+    subst (λ page. IsSeenLed placement.frame page POOL_ADDRESS Read
+    (place_of (seen_through memory (cores other) 0) Read POOL_ADDRESS))
     (pool_shown state other home' shown' found) seen in
     no_pool_of_another state memory words thread other home home' Read place shown shown' away
     (subst (λ core. LeadsTo (seen_through memory core 0) Read POOL_ADDRESS place)

@@ -74,7 +74,8 @@ abbrev pub with_cr3 : (ℕ → CoreWords) → ℕ → ℕ → ℕ → CoreWords
 with_cr3 cores thread cr3 core =
     if core == thread then record { list = (cores core).list; cr3 = cr3; eptp = (cores core).eptp } else cores core
 
--- The CR3 word of another process: where a machine keeps a state, it is that of a thread with another home, which has a pool page.
+-- The CR3 word of another process: where a machine keeps a state, it is that of a thread with another home, which has a pool
+-- page.
 abbrev pub NoCr3OfAnother : Type 0
 NoCr3OfAnother =
     (placement : Placement) (state : State) (memory : Physical) (cores : ℕ → CoreWords) (thread other home home' : ℕ)

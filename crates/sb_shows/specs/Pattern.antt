@@ -1,6 +1,5 @@
 -- Where the walks of the cores lead to VMFUNC's bytes.
-use Rattle.std.specs.Prelude.{ℕ, ◌≡◌, ◌+◌, ◌%◌, ◌^◌, ◌<◌, ◌==◌, if◌then◌else◌}
-use Rattle.sb_abi.specs.declared.layout.TheConstants.{HOME_TRAMPOLINE_FRAME, SERVER_TRAMPOLINE_FRAME}
+use Rattle.std.specs.Prelude.{ℕ, ◌≡◌, ◌+◌, ◌%◌, ◌^◌, ◌<◌}
 use Rattle.sb_abi.specs.declared.trampoline.TheConstants.{VMFUNC_ADDRESS}
 use Rattle.sb_memory.specs.Physical.{Physical}
 use Rattle.sb_memory.specs.declared.address.Access.TheVariants.{Fetch}
@@ -9,15 +8,11 @@ use Rattle.sb_scan.specs.Pattern.{pattern}
 use Rattle.sb_nested.specs.View.{View, view_byte}
 use Rattle.sb_trace.specs.State.{State}
 use Rattle.sb_trace.specs.Sound.{IsSound}
-use Rattle.sb_shows.specs.Shows.{CoreWords, Shows, IsView, LeadsTo, seen_through, vmfunc_place}
+use Rattle.sb_shows.specs.Shows.{CoreWords, Shows, IsView, LeadsTo, seen_through, pattern_place}
 
 -- VMFUNC's bytes stand at three consecutive addresses, each of which a core may fetch
 abbrev pub FetchesPattern : View → ℕ → Type 0
 FetchesPattern core address = Stands (λ at. view_byte core at Fetch) address pattern
-
--- the physical place of VMFUNC in a view: in the home trampoline page, or in that of the servers
-abbrev pub pattern_place : ℕ → ℕ
-pattern_place index = if index == 0 then vmfunc_place HOME_TRAMPOLINE_FRAME else vmfunc_place SERVER_TRAMPOLINE_FRAME
 
 -- three consecutive addresses lead there for fetch
 abbrev pub LeadsToPattern : View → ℕ → ℕ → Type 0

@@ -38,7 +38,8 @@ use Rattle.sb_sub.proofs.Translated.{translations_kept}
 -- ---- who is accepted
 
 accepted_by : (home registered start : Bool) (rest : Option CallRefusal)
-    → (if not home then Some InServer else if registered then Some Already else if not start then Some BadHandler else rest) ≡ None
+    → (if not home then Some InServer else if registered then Some Already else if not start then Some BadHandler else rest)
+    ≡ None
     → (registered ≡ false) × (start ≡ true)
 accepted_by true false true rest is = (refl, refl)
 accepted_by true false false rest is = absurd (let e = is in cc)

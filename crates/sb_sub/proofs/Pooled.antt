@@ -83,8 +83,8 @@ module _ (placement : Placement) (root : RootKernel) (book : Book) (memory : Phy
   pool_small = let most = carries.keeps.leads.stands.whole.most in let within = pool_inside in omega arith
 
   walked_is : walked_in memory (placement.sets process) POOL_ADDRESS access.Read
-      ≡ (if guest_permits (mode_of name one.executable) access.Read then Ok (address_in POOL_ADDRESS (placement.frame name)) else Err
-      (Denied 1))
+      ≡ (if guest_permits (mode_of name one.executable) access.Read then Ok (address_in POOL_ADDRESS (placement.frame name))
+      else Err (Denied 1))
   walked_is =
       (carries.keeps.leads.guests process there).maps 0 0 POOL_ADDRESS access.Read
       ∙ (set_walked_window (entries_of placement.frame state 0 0 process) POOL_ADDRESS access.Read pool_window
