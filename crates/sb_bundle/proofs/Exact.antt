@@ -95,7 +95,8 @@ guard_ok : {A : Type 0} (b : Bool) (refusal : BundleRefusal) (x y : A) → cond 
 guard_ok true refusal x y e = absurd cc
 guard_ok false refusal x y e = (refl, cc)
 
-AllBelow-parts : (bound : ℕ) (prefix rest : List ℕ) → AllBelow bound (prefix ++ rest) → AllBelow bound prefix × AllBelow bound rest
+AllBelow-parts : (bound : ℕ) (prefix rest : List ℕ) → AllBelow bound (prefix ++ rest)
+    → AllBelow bound prefix × AllBelow bound rest
 AllBelow-parts bound [] rest fits = (tt, fits)
 AllBelow-parts bound (x ∷ prefix) rest fits = let parts = AllBelow-parts bound prefix rest fits.1 in ((fits.0, parts.0), parts.1)
 

@@ -41,7 +41,8 @@ small_area text made (of_text, are, fits, is, free) =
     subst (λ (list : List Placement). NoneOf EndsBehindArea list) are.places_are fits.1 in
     let within = slots_within text text_address area_address are.insns (omega arith) none in
     let size : length made.area ≡ length (flat_map area_bytes (places text are.insns)) =
-    ap (λ (one : RewrittenText). length one.area) is ∙ ap (λ (list : List Placement). length (flat_map area_bytes list)) are.places_are in
+    ap (λ (one : RewrittenText). length one.area) is ∙ ap (λ (list : List Placement). length (flat_map area_bytes list))
+    are.places_are in
     omega arith
 
 pub small_areas : (images : List Image) (rewritten : List RewrittenText) → AreRewritten images rewritten → AllSmallAreas rewritten

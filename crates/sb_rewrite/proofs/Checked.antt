@@ -81,7 +81,8 @@ no_target_checked text starts (insns, valid, whole, starts_are) = record {
   none = tt;
 }
 
-pub bad_target_here : (text rest starts : List ℕ) (text_insn : TextInsn) → TargetsChecked text rest starts → IsFirstInsn text rest text_insn
+pub bad_target_here : (text rest starts : List ℕ) (text_insn : TextInsn) → TargetsChecked text rest starts
+    → IsFirstInsn text rest text_insn
     → IsBadTarget starts (direct_target text_insn.insn text_insn.at)
     → IsFirstOf (λ of_text. HasBadTarget (starts_of of_text)) text text_insn.at
 bad_target_here text rest starts text_insn checked is bad =
@@ -95,7 +96,8 @@ bad_target_here text rest starts text_insn checked is bad =
           checked.starts_are first,
     )
 
-pub good_target_here : (text rest starts : List ℕ) (text_insn : TextInsn) → TargetsChecked text rest starts → IsFirstInsn text rest text_insn
+pub good_target_here : (text rest starts : List ℕ) (text_insn : TextInsn) → TargetsChecked text rest starts
+    → IsFirstInsn text rest text_insn
     → ¬ IsBadTarget starts (direct_target text_insn.insn text_insn.at)
     → TargetsChecked text text_insn.rest.now starts
 good_target_here text rest starts text_insn checked is good =
@@ -152,7 +154,8 @@ form_asks law text rest done more text_insn reads known is some =
     subst (λ (at : ℕ). ¬ IsBadTarget starts (direct_target text_insn.insn at)) (sym turned.here) good in
     let low : 0x400000 ≤ text_insn.at = omega (arith, is.here) in
     let high : text_insn.at < 0x600000 = omega (arith, is.here, known.size) in
-    jump_free law text_insn.insn text_insn.at starts is.valid low high (in_text text (done ++ more) known.size known.whole) good_here
+    jump_free law text_insn.insn text_insn.at starts is.valid low high (in_text text (done ++ more) known.size known.whole)
+    good_here
 
 -- ---- what can be moved
 
@@ -178,14 +181,18 @@ nothing_checked text size well =
     record { done = []; more = known.0; reads = known.1; known = known.2; none = tt }
 
 -- a form with another slot says whether it can be moved
-pub unmovable_here : (text rest : List ℕ) (done more : List Insn) (text_insn : TextInsn) (slot : ℕ) → Turn text rest done more text_insn
-    → form_of text_insn.insn text_insn.at slot (is_after_0f text text_insn.at) ≡ form.Unmovable → IsUnmovable (here text done text_insn.insn)
+pub unmovable_here : (text rest : List ℕ) (done more : List Insn) (text_insn : TextInsn) (slot : ℕ)
+    → Turn text rest done more text_insn
+    → form_of text_insn.insn text_insn.at slot (is_after_0f text text_insn.at) ≡ form.Unmovable
+    → IsUnmovable (here text done text_insn.insn)
 unmovable_here text rest done more text_insn slot turned is =
     subst (λ (at : ℕ). form_of text_insn.insn at (area_address + slots_size (places text done)) (is_after_0f text at)
     ≡ form.Unmovable) turned.here
-    (unmovable_anywhere text_insn.insn text_insn.at slot (area_address + slots_size (places text done)) (is_after_0f text text_insn.at) is)
+    (unmovable_anywhere text_insn.insn text_insn.at slot (area_address + slots_size (places text done))
+    (is_after_0f text text_insn.at) is)
 
-pub movable_here : (text rest : List ℕ) (done more : List Insn) (text_insn : TextInsn) (slot : ℕ) → Turn text rest done more text_insn
+pub movable_here : (text rest : List ℕ) (done more : List Insn) (text_insn : TextInsn) (slot : ℕ)
+    → Turn text rest done more text_insn
     → ¬ (form_of text_insn.insn text_insn.at slot (is_after_0f text text_insn.at) ≡ form.Unmovable)
     → ¬ IsUnmovable (here text done text_insn.insn)
 movable_here text rest done more text_insn slot turned can is =
@@ -196,7 +203,8 @@ movable_here text rest done more text_insn slot turned can is =
     can (unmovable_anywhere text_insn.insn text_insn.at (area_address + slots_size (places text done)) slot
     (is_after_0f text text_insn.at) back)
 
-pub first_unmovable : (text rest : List ℕ) (text_insn : TextInsn) (slot : ℕ) → MovableChecked text rest → IsFirstInsn text rest text_insn
+pub first_unmovable : (text rest : List ℕ) (text_insn : TextInsn) (slot : ℕ) → MovableChecked text rest
+    → IsFirstInsn text rest text_insn
     → form_of text_insn.insn text_insn.at slot (is_after_0f text text_insn.at) ≡ form.Unmovable
     → IsFirstOf (λ of_text. IsUnmovable) text text_insn.at
 first_unmovable text rest text_insn slot checked is cannot =
@@ -207,8 +215,10 @@ first_unmovable text rest text_insn slot checked is cannot =
           (unmovable_here text rest checked.done checked.more text_insn slot turned cannot),
     )
 
-pub one_movable : (text rest : List ℕ) (text_insn : TextInsn) (slot : ℕ) → MovableChecked text rest → IsFirstInsn text rest text_insn
-    → ¬ (form_of text_insn.insn text_insn.at slot (is_after_0f text text_insn.at) ≡ form.Unmovable) → MovableChecked text text_insn.rest.now
+pub one_movable : (text rest : List ℕ) (text_insn : TextInsn) (slot : ℕ) → MovableChecked text rest
+    → IsFirstInsn text rest text_insn
+    → ¬ (form_of text_insn.insn text_insn.at slot (is_after_0f text text_insn.at) ≡ form.Unmovable)
+    → MovableChecked text text_insn.rest.now
 one_movable text rest text_insn slot checked is can =
     let turned = turn text rest checked.done checked.more text_insn checked.reads is in
     record {

@@ -15,13 +15,15 @@ pub none_among : (Holds : Placement → Type 0) (before : List Placement) (place
 none_among Holds [] place behind none = none.0
 none_among Holds (first ∷ before) place behind none = none_among Holds before place behind none.1
 
-pub not_first : (Holds : Placement → Type 0) (places : List Placement) (at : ℕ) → NoneOf Holds places → IsFirstAt Holds places at → ⊥
+pub not_first : (Holds : Placement → Type 0) (places : List Placement) (at : ℕ) → NoneOf Holds places → IsFirstAt Holds places at
+    → ⊥
 not_first Holds places at none first =
     none_among Holds first.before first.first first.behind
     (subst (λ (list : List Placement). NoneOf Holds list) first.parts none) first.holds
 
 -- behind those of which it does not hold, the first of which it holds is one
-same_first : (Holds : Placement → Type 0) (before before' : List Placement) (place place' : Placement) (behind behind' : List Placement)
+same_first : (Holds : Placement → Type 0) (before before' : List Placement) (place place' : Placement)
+    (behind behind' : List Placement)
     → NoneOf Holds before → NoneOf Holds before'
     → Holds place → Holds place' → before ++ place ∷ behind ≡ before' ++ place' ∷ behind' → place ≡ place'
 same_first Holds [] [] place place' behind behind' none none' holds holds' same = cc same

@@ -22,18 +22,20 @@ one_places text first second one other =
 
 -- ---- one answer behind another
 
+-- what is said of an answer
+abbrev Claim : Type 1
+Claim = Result RewrittenText RewriteRefusal → Type 0
+
 -- a claim of which one answer is true at most
-abbrev IsOne : (Result RewrittenText RewriteRefusal → Type 0) → Type 0
+abbrev IsOne : Claim → Type 0
 IsOne Answers = (first second : Result RewrittenText RewriteRefusal) → Answers first → Answers second → first ≡ second
 
 -- a refusal at the first place of which something holds, and where there is none another answer
-abbrev Unless : (Placement → Type 0) → List Placement → (ℕ → RewriteRefusal) → (Result RewrittenText RewriteRefusal → Type 0)
-    → Result RewrittenText RewriteRefusal → Type 0
+abbrev Unless : (Placement → Type 0) → List Placement → (ℕ → RewriteRefusal) → Claim → Claim
 Unless Holds of_text refusal Next answer =
     ((at : ℕ) × IsFirstAt Holds of_text at × (answer ≡ Err (refusal at))) ⊎ (NoneOf Holds of_text × Next answer)
 
-one_unless : (Holds : Placement → Type 0) (of_text : List Placement) (refusal : ℕ → RewriteRefusal) (Next : Result RewrittenText RewriteRefusal
-    → Type 0)
+one_unless : (Holds : Placement → Type 0) (of_text : List Placement) (refusal : ℕ → RewriteRefusal) (Next : Claim)
     → IsOne Next → IsOne (Unless Holds of_text refusal Next)
 one_unless Holds of_text refusal Next one_next first second (inl (at, here, is)) (inl (at', here', is')) =
     is ∙ ap (λ (place : ℕ). Err (refusal place)) (one_first Holds of_text at at' here here') ∙ sym is'
@@ -46,7 +48,7 @@ one_unless Holds of_text refusal Next one_next first second (inr (none, next)) (
 
 -- ---- what is left at last
 
-Last : List Placement → Result RewrittenText RewriteRefusal → Type 0
+Last : List Placement → Claim
 Last of_text answer =
     ((at : ℕ) × IsLeftAt (rewritten_text of_text) at × (answer ≡ Err (Left at)))
     ⊎ (IsFree (rewritten_text of_text) × (answer ≡ Ok (rewritten_text of_text)))
@@ -81,7 +83,7 @@ one_last of_text first second (inr (free, made)) (inr (free', made')) = made ∙
 -- ---- the whole
 
 -- jumps first, then what can be moved, then room, then the pattern
-Answer : List Placement → Result RewrittenText RewriteRefusal → Type 0
+Answer : List Placement → Claim
 Answer of_text =
     Unless (HasBadTarget (starts_of of_text)) of_text (λ at. BadTarget at)
     (Unless IsUnmovable of_text (λ at. Unmovable at) (Unless EndsBehindArea of_text (λ at. AreaFull at) (Last of_text)))
@@ -94,7 +96,7 @@ one_of_places of_text =
     (one_unless EndsBehindArea of_text (λ at. AreaFull at) _ (one_last of_text)))
 
 -- an answer is for want of a listing, or about the places of the text
-Told : List ℕ → Result RewrittenText RewriteRefusal → Type 0
+Told : List ℕ → Claim
 Told text answer =
     ((at : ℕ) × IsUndecodedAt text at × (answer ≡ Err (Undecoded at)))
     ⊎ ((of_text : List Placement) × ArePlaces text of_text × Answer of_text answer)

@@ -55,7 +55,8 @@ nothing_put text jumps none = record {
 -- ---- one more instruction
 
 -- an instruction that does not lead far away has a form
-pub form_asks_here : NotInJumps → (text rest : List ℕ) (text_insn : TextInsn) → length text ≤ 2097152 → IsFirstInsn text rest text_insn
+pub form_asks_here : NotInJumps → (text rest : List ℕ) (text_insn : TextInsn) → length text ≤ 2097152
+    → IsFirstInsn text rest text_insn
     → 0 < length rest
     → ¬ IsFar (direct_target text_insn.insn text_insn.at) → HasForm text_insn.insn
 form_asks_here law text rest text_insn size is some near =
@@ -63,7 +64,8 @@ form_asks_here law text rest text_insn size is some near =
     let high : text_insn.at < 0x600000 = omega (arith, is.here) in
     near_free law text_insn.insn text_insn.at is.valid low high near
 
-module _ (text rest starts : List ℕ) (partway : Partway text rest starts) (text_insn : TextInsn) (is : IsFirstInsn text rest text_insn) where
+module _ (text rest starts : List ℕ) (partway : Partway text rest starts) (text_insn : TextInsn)
+    (is : IsFirstInsn text rest text_insn) where
   pub stands_here : text_insn.at ≡ text_address + length (spelled_bytes partway.insns)
   stands_here = is.here ∙ ap (λ (size : ℕ). text_address + size) (place_of text rest partway.insns partway.whole)
 
@@ -83,10 +85,12 @@ module _ (text rest starts : List ℕ) (partway : Partway text rest starts) (tex
   not_so_far Holds of_text are none =
       let read = read_so_far text rest partway.insns of_text partway.valid partway.whole are in
       let turned = turn text rest partway.insns read.0 text_insn read.1 is in
-      not_here Holds text rest partway.insns read.0 text_insn turned (subst (λ (list : List Placement). NoneOf Holds list) read.2 none)
+      not_here Holds text rest partway.insns read.0 text_insn turned
+      (subst (λ (list : List Placement). NoneOf Holds list) read.2 none)
 
 -- what is put is the instruction's place
-pub next_is : (text rest : List ℕ) (draft : RewrittenText) (jumps : List Jump) (text_insn : TextInsn) (so_far : PutSoFar text rest draft jumps)
+pub next_is : (text rest : List ℕ) (draft : RewrittenText) (jumps : List Jump) (text_insn : TextInsn)
+    (so_far : PutSoFar text rest draft jumps)
     → IsFirstInsn text rest text_insn
     → place text text_insn.at (area_address + length draft.area) text_insn.insn ≡ here text so_far.partway.insns text_insn.insn
 next_is text rest draft jumps text_insn so_far is i =
@@ -108,7 +112,8 @@ made_more draft at of_text one made = record {
 
 pub one_put : (text rest : List ℕ) (draft new : RewrittenText) (jumps more_jumps : List Jump) (text_insn : TextInsn)
     → PutSoFar text rest draft jumps → IsFirstInsn text rest text_insn
-    → ¬ IsFar (direct_target text_insn.insn text_insn.at) → more_jumps ≡ jumps ++ jumps_to text_insn.at (direct_target text_insn.insn text_insn.at)
+    → ¬ IsFar (direct_target text_insn.insn text_insn.at)
+    → more_jumps ≡ jumps ++ jumps_to text_insn.at (direct_target text_insn.insn text_insn.at)
     → Puts (with_start draft text_insn.at) new (place text text_insn.at (area_address + length draft.area) text_insn.insn) (Ok tt)
     → PutSoFar text text_insn.rest.now new more_jumps
 unfolding more_of
@@ -146,8 +151,10 @@ one_put text rest draft new jumps more_jumps text_insn so_far is near more_are (
       near = none_read HasFarTarget text done text_insn.insn so_far.near
           (subst (λ (place : ℕ). ¬ IsFar (direct_target text_insn.insn place)) at near);
       movable =
-          none_read IsUnmovable text done text_insn.insn so_far.movable (subst (λ (put : Placement). ¬ IsUnmovable put) next movable);
-      fits = none_read EndsBehindArea text done text_insn.insn so_far.fits (subst (λ (put : Placement). ¬ EndsBehindArea put) next fits);
+          none_read IsUnmovable text done text_insn.insn so_far.movable
+          (subst (λ (put : Placement). ¬ IsUnmovable put) next movable);
+      fits = none_read EndsBehindArea text done text_insn.insn so_far.fits
+          (subst (λ (put : Placement). ¬ EndsBehindArea put) next fits);
     }
 
 -- ---- all instructions

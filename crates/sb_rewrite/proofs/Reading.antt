@@ -64,7 +64,8 @@ next_read text rest behind done insn others reads parts =
       rest_is = append_cancel_left (spelling insn) behind (spelled_bytes others) (sym parts ∙ reads.rest_is);
     }
 
-pub turn : (text rest : List ℕ) (done more : List Insn) (text_insn : TextInsn) → Reads text rest done more → IsFirstInsn text rest text_insn
+pub turn : (text rest : List ℕ) (done more : List Insn) (text_insn : TextInsn) → Reads text rest done more
+    → IsFirstInsn text rest text_insn
     → Turn text rest done more text_insn
 turn text rest done [] text_insn reads is =
     absurd (omega (
@@ -76,7 +77,8 @@ turn text rest done [] text_insn reads is =
 turn text rest done (first ∷ others) text_insn reads is =
     let valid : IsValid first = valid_first done first others reads.valid in
     let same : first ≡ text_insn.insn =
-    one_begins rest first text_insn.insn (valid, (spelled_bytes others, reads.rest_is)) (is.valid, (text_insn.rest.now, is.parts)) in
+    one_begins rest first text_insn.insn (valid, (spelled_bytes others, reads.rest_is))
+    (is.valid, (text_insn.rest.now, is.parts)) in
     let reads_it : Reads text rest done (text_insn.insn ∷ others) =
     subst (λ (insn : Insn). Reads text rest done (insn ∷ others)) same reads in
     record {

@@ -33,7 +33,8 @@ far_refused text rest draft jumps text_insn so_far is size far (of_text, are, we
     far_is_bad (starts_of (places text are.insns)) (direct_target text_insn.insn text_insn.at)
     (in_text text are.insns size are.whole) far in
     let bad_here : HasBadTarget (starts_of of_text) (here text so_far.partway.insns text_insn.insn) =
-    subst (λ (list : List Placement). HasBadTarget (starts_of list) (here text so_far.partway.insns text_insn.insn)) (sym are.places_are)
+    subst (λ (list : List Placement). HasBadTarget (starts_of list) (here text so_far.partway.insns text_insn.insn))
+    (sym are.places_are)
     (subst (λ (place : ℕ). IsBadTarget (starts_of (places text are.insns)) (direct_target text_insn.insn place)) at bad) in
     not_so_far text rest draft.starts so_far.partway text_insn is (HasBadTarget (starts_of of_text)) of_text are well bad_here
 
@@ -61,7 +62,8 @@ front_refused text rest draft jumps refusal so_far some (is, none) =
 pub put_refused : (text rest : List ℕ) (draft new : RewrittenText) (jumps : List Jump)
     (text_insn : TextInsn) (refusal : RewriteRefusal)
     → PutSoFar text rest draft jumps → IsFirstInsn text rest text_insn
-    → Puts (with_start draft text_insn.at) new (place text text_insn.at (area_address + length draft.area) text_insn.insn) (Err refusal)
+    → Puts (with_start draft text_insn.at) new (place text text_insn.at (area_address + length draft.area) text_insn.insn)
+    (Err refusal)
     → IsPutRefusal text refusal
 put_refused text rest draft new jumps text_insn (Undecoded at) so_far is puts = absurd puts
 put_refused text rest draft new jumps text_insn (BadTarget at) so_far is puts = absurd puts
@@ -69,8 +71,10 @@ put_refused text rest draft new jumps text_insn (Unmovable at) so_far is puts = 
     let cannot = subst (λ (one : Placement). IsUnmovable one) (next_is text rest draft jumps text_insn so_far is) puts.1 in
     not_so_far text rest draft.starts so_far.partway text_insn is IsUnmovable movable.0 movable.1 movable.2 cannot
 put_refused text rest draft new jumps text_insn (AreaFull at) so_far is puts = λ of_text are.
-    let ends_behind = subst (λ (one : Placement). EndsBehindArea one) (next_is text rest draft jumps text_insn so_far is) puts.2 in
-    let first = first_so_far text rest draft.starts so_far.partway text_insn is EndsBehindArea so_far.fits ends_behind of_text are in
+    let ends_behind =
+    subst (λ (one : Placement). EndsBehindArea one) (next_is text rest draft jumps text_insn so_far is) puts.2 in
+    let first =
+    first_so_far text rest draft.starts so_far.partway text_insn is EndsBehindArea so_far.fits ends_behind of_text are in
     subst (λ (address : ℕ). IsFirstAt EndsBehindArea of_text address) (sym puts.0) first
 put_refused text rest draft new jumps text_insn (Left at) so_far is puts = absurd puts
 put_refused text rest draft new jumps text_insn Memory so_far is puts = tt

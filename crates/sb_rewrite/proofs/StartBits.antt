@@ -4,11 +4,11 @@ use Rattle.std.specs.Prelude.{◌==◌, nat_le}
 use Rattle.std.specs.List.{Contains}
 use Rattle.std.specs.Int.{bit_at, w64}
 use Rattle.std.specs.Int.RustNames.{bit_or}
-use Rattle.std.proofs.lemmas.Bool.{eqb-true, eq-eqb, ne_eqb, le-leb, lt-leb, and_left, and_right, or_left, cases_eq, cases_lt}
-use Rattle.std.proofs.lemmas.List.{get_or-set_same, get_or-set_other, get_or_past, get_or_default}
-use Rattle.std.proofs.lemmas.List.Folds.{Any-from_list_any, list_any_at}
+use Rattle.std.proofs.lemmas.Bool.{eq-eqb, ne_eqb, le-leb, lt-leb, and_left, and_right, or_left, cases_eq, cases_lt}
+use Rattle.std.proofs.lemmas.List.{get_or-set_same, get_or-set_other, get_or_past}
 use Rattle.std.proofs.lemmas.Nat.Bits.{bit_at-zero, bit_at_set_same, bit_at_set_other}
-use Rattle.sb_rewrite.specs.StartBits.{word_index, bit_index, has_bit, is_listed, AreBitsOf, SetsBit}
+use Rattle.sb_list.proofs.Membership.{listed_contained, contained_listed}
+use Rattle.sb_rewrite.specs.StartBits.{word_index, bit_index, has_bit, AreBitsOf, SetsBit}
 
 -- ---- a bit
 
@@ -96,15 +96,6 @@ sets_bit words at word low room is =
     (sym is) (with_its_bit words at low room)
 
 -- ---- which addresses the bits list
-
-listed_contained : (starts : List ℕ) (at : ℕ) → is_listed starts at ≡ true → Contains starts at
-listed_contained starts at is =
-    let any = Any-from_list_any (λ start. start == at) starts is in
-    (any.0, any.2, get_or_default starts any.0 at any.1 any.2 ∙ any.3 ∙ eqb-true any.1 at any.4)
-
-contained_listed : (starts : List ℕ) (at : ℕ) → Contains starts at → is_listed starts at ≡ true
-contained_listed starts at held =
-    list_any_at (λ start. start == at) starts held.0 at held.1 (eq-eqb (get_or starts held.0 at) at held.2)
 
 -- a bit tells whether its address is listed
 pub bit_tells : (test : Bool) (starts words : List ℕ) (at : ℕ) → AreBitsOf starts words → test ≡ has_bit words at

@@ -1,7 +1,7 @@
 -- A bit for each address of a text, in words of 64 bits.
 use Rattle.std.specs.Prelude.{◌≡◌, ℕ, ◌-◌, ◌/◌, ◌%◌, Bool, ◌&&◌, ◌||◌, ◌==◌, nat_le, List, slice_index}
-use Rattle.std.specs.List.{list_any}
 use Rattle.std.specs.Int.{bit_at}
+use Rattle.sb_list.specs.Lists.{is_listed}
 use Rattle.sb_abi.specs.declared.space.TheConstants.{TEXT_ADDRESS}
 
 -- which word has the bit of an address
@@ -15,10 +15,6 @@ bit_index at = (at - TEXT_ADDRESS) % 64
 -- the bit of the address is set; an address before the text has none, nor has one behind the words
 abbrev pub has_bit : List ℕ → ℕ → Bool
 has_bit words at = nat_le TEXT_ADDRESS at && (bit_at (slice_index words (word_index at)) (bit_index at) == 1)
-
--- the address is one of these
-abbrev pub is_listed : List ℕ → ℕ → Bool
-is_listed starts at = list_any (λ start. start == at) starts
 
 -- the bits of these addresses are set, and no others
 abbrev pub AreBitsOf : List ℕ → List ℕ → Type 0

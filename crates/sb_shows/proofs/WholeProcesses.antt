@@ -1,14 +1,15 @@
 -- A process of an image is added whole: its tables, and its pages.
-use Rattle.std.proofs.Common.{◌≡◌, ◌≢◌, sym, subst, ℕ, ◌+◌, ◌-◌, ◌*◌, ◌<◌, ◌≤◌, false, List, [], ◌∷◌, ◌++◌, length, take, drop, refl, arith}
-use Rattle.std.specs.Prelude.{None, replicate}
-use Rattle.std.proofs.lemmas.List.{length-append, length-replicate, length-take}
+use Rattle.std.proofs.Common.{◌≡◌, ◌≢◌, sym, subst, ℕ, ◌+◌, ◌<◌, false, List, [], ◌∷◌, ◌++◌, length, refl, arith}
+use Rattle.std.specs.Prelude.{None}
+use Rattle.std.proofs.lemmas.List.{length-append}
 use Rattle.sb_state.specs.declared.page.PageName.{PageName}
 use Rattle.sb_state.specs.declared.page.PageName.TheVariants.{Text, Area, Data, Heap, Pool}
 use Rattle.sb_state.specs.declared.page.Page.{Page}
 use Rattle.sb_state.specs.declared.state.Thread.{Thread}
 use Rattle.sb_trace.specs.PageWords.{zeros}
 use Rattle.sb_trace.specs.State.{find_page, page_with}
-use Rattle.sb_trace.specs.Start.{ProcessImage, page_padded, page_of, padded_page, padded_pages, page_count, heap_page, heap_pages, process_pages, start_process}
+use Rattle.sb_trace.specs.Start.{ProcessImage, padded_page, padded_pages, page_count, heap_page, heap_pages, process_pages, start_process}
+use Rattle.sb_state.proofs.Filling.{page_size}
 use Rattle.sb_state.proofs.Start.{zeros_size}
 use Rattle.sb_shows.specs.Placement.{is_own}
 use Rattle.sb_shows.specs.Calls.{IsSeenIn, AreNewPages, placed_all}
@@ -21,17 +22,6 @@ use Rattle.sb_shows.proofs.Processes.{process_kept}
 use Rattle.sb_shows.proofs.Seen.{area_seen, text_seen, data_seen, heap_seen, pool_seen}
 
 -- ---- pages of bytes
-
-padded_size : (filler : ℕ) (bytes : List ℕ) → length bytes ≤ 4096 → length (page_padded filler bytes) ≡ 4096
-padded_size filler bytes within =
-    let sum = length-append bytes (replicate (4096 - length bytes) filler) in
-    let rest = length-replicate {A = ℕ} (4096 - length bytes) filler in omega (arith, sum, rest)
-
-part_size : (bytes : List ℕ) → length (take 4096 bytes) ≤ 4096
-part_size bytes = let size = length-take 4096 bytes in omega (arith, size)
-
-page_size : (filler : ℕ) (bytes : List ℕ) (page : ℕ) → length (page_of filler bytes page) ≡ 4096
-page_size filler bytes page = padded_size filler (take 4096 (drop (4096 * page) bytes)) (part_size (drop (4096 * page) bytes))
 
 -- bytes that go over several pages
 new_padded : (name : ℕ → PageName) (filler : ℕ) (bytes : List ℕ) (threads : List Thread) (count : ℕ) (pages : List Page)

@@ -1,2 +1,1 @@
-pub mod BookLength
 pub mod TableFrames

@@ -122,7 +122,7 @@ fn some_book(alloc: Global) -> Result<FrameBook, AllocError>
 }
 
 /// Takes a frame; 0 where none is free.
-#[tactic(auto, using(crate::proofs::BookLength::length_after_take))]
+#[tactic(auto, using(sb_frames::proofs::Lengths::length_after_take))]
 fn take_frame(book: &mut FrameBook) -> u32
     ensures { length book.new ≡ length book.old }
 {

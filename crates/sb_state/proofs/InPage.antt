@@ -3,14 +3,15 @@ use Rattle.std.proofs.Common.{◌≡◌, ℕ, zero, suc, ◌+◌, ◌/◌, ◌%�
 use Rattle.std.specs.Prelude.{Option, Some, None, if◌then◌else◌, slice_index}
 use Rattle.sb_memory.specs.declared.address.Access.{Access}
 use Rattle.sb_bus.specs.declared.stop.BusStop.{BusStop}
-use Rattle.sb_state.specs.declared.page.PageName.{PageName}
-use Rattle.sb_state.specs.declared.page.Page.{Page}
-use Rattle.sb_state.specs.declared.page.SeenPage.{SeenPage}
-use Rattle.sb_state.specs.PageName.{permits}
-use Rattle.sb_state.specs.State.{State, find_page}
+use Rattle.sb_pages.specs.declared.page.PageName.{PageName}
+use Rattle.sb_pages.specs.declared.page.Page.{Page}
+use Rattle.sb_pages.specs.declared.page.SeenPage.{SeenPage}
+use Rattle.sb_pages.specs.PageName.{permits}
+use Rattle.sb_pages.specs.PageLists.{find_page}
+use Rattle.sb_state.specs.State.{State}
 use Rattle.sb_state.specs.Windows.{page_for}
 use Rattle.sb_state.specs.PlainMemory.{plain_byte, is_canonical}
-use Rattle.sb_state.specs.PageWords.{number_at}
+use Rattle.sb_pages.specs.PageWords.{number_at}
 use Rattle.sb_state.specs.NameForAccess.{name_for_access, name_if_permitted}
 use Rattle.sb_state.proofs.NameForAccess.{byte_reached, byte_refused}
 use Rattle.sb_bus.specs.Access.{byte_for, loaded_from}
@@ -90,7 +91,8 @@ loaded_on (suc size) thread view state address index how name page fits inside i
 -- the number of some bytes at an address, if they end in the page
 pub number_in_page : (thread view : ℕ) (state : State) (address size : ℕ) (how : Access) (name : PageName) (page : Page)
     → address < 2 ^ 64
-    → address % 4096 + size ≤ 4096 → name_for_access thread view state address how ≡ Ok name → find_page state.pages name ≡ Some page
+    → address % 4096 + size ≤ 4096 → name_for_access thread view state address how ≡ Ok name
+    → find_page state.pages name ≡ Some page
     → loaded_from (byte_for (plain_byte thread view state) how) address size ≡ Ok (number_at page.bytes (address % 4096) size)
 unfolding number_at
 number_in_page thread view state address size how name page fits inside is found =

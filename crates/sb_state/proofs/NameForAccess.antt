@@ -4,11 +4,12 @@ use Rattle.std.specs.Prelude.{Option, Some, None, if◌then◌else◌, slice_ind
 use Rattle.sb_memory.specs.declared.address.Access.{Access}
 use Rattle.sb_memory.specs.Outcome.{and_then}
 use Rattle.sb_bus.specs.declared.stop.BusStop.{BusStop}
-use Rattle.sb_state.specs.declared.page.PageName.{PageName}
-use Rattle.sb_state.specs.declared.page.Page.{Page}
-use Rattle.sb_state.specs.declared.page.SeenPage.{SeenPage}
-use Rattle.sb_state.specs.PageName.{permits}
-use Rattle.sb_state.specs.State.{State, find_page, contents}
+use Rattle.sb_pages.specs.declared.page.PageName.{PageName}
+use Rattle.sb_pages.specs.declared.page.Page.{Page}
+use Rattle.sb_pages.specs.declared.page.SeenPage.{SeenPage}
+use Rattle.sb_pages.specs.PageName.{permits}
+use Rattle.sb_pages.specs.PageLists.{find_page}
+use Rattle.sb_state.specs.State.{State, contents}
 use Rattle.sb_state.specs.Windows.{page_for}
 use Rattle.sb_state.specs.PlainMemory.{plain_byte, byte_seen, byte_in, is_canonical}
 use Rattle.sb_state.specs.NameForAccess.{name_for_access, name_if_permitted}

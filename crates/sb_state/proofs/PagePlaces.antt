@@ -5,9 +5,9 @@ use Rattle.sb_memory.specs.declared.address.Access.TheVariants.{Write}
 use Rattle.sb_memory.specs.Outcome.{and_then, done}
 use Rattle.sb_bus.specs.declared.stop.BusStop.{BusStop}
 use Rattle.sb_bus.specs.Access.{bytes_from, byte_for, store_answer}
-use Rattle.sb_state.specs.declared.page.PageName.{PageName}
-use Rattle.sb_state.specs.declared.page.SeenPage.{SeenPage}
-use Rattle.sb_state.specs.PageName.{permits}
+use Rattle.sb_pages.specs.declared.page.PageName.{PageName}
+use Rattle.sb_pages.specs.declared.page.SeenPage.{SeenPage}
+use Rattle.sb_pages.specs.PageName.{permits}
 use Rattle.sb_state.specs.State.{State}
 use Rattle.sb_state.specs.Windows.{page_for}
 use Rattle.sb_state.specs.PlainMemory.{ByteToPut, plain_byte, byte_in, bytes_to_put, with_byte_to_put, put_all, plain_stored, is_canonical}

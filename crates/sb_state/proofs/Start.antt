@@ -1,24 +1,19 @@
 -- Pages of the start: their sizes, and what is said of each page of a list; and how many threads there are.
 use Rattle.std.proofs.Common.{◌≡◌, ◌∙◌, ap, subst, ℕ, zero, suc, ◌+◌, Bool, true, false, List, [], ◌∷◌, ◌++◌, length, refl}
 use Rattle.std.specs.Prelude.{Option, Some, if◌then◌else◌}
-use Rattle.std.proofs.lemmas.List.{length-replicate}
 use Rattle.sb_memory.specs.Words.{put_words, zeros as so_many_zeros}
 use Rattle.sb_memory.proofs.Pages.{length_put_words}
 use Rattle.sb_tramp.specs.declared.record_words.RecordWords.{RecordWords}
 use Rattle.sb_tramp.specs.Record.{words_of}
-use Rattle.sb_state.specs.declared.page.PageName.{PageName}
-use Rattle.sb_state.specs.declared.page.Page.{Page}
-use Rattle.sb_state.specs.PageName.{same_name}
-use Rattle.sb_state.specs.State.{find_page}
-use Rattle.sb_state.specs.PageWords.{zeros}
+use Rattle.sb_pages.specs.declared.page.PageName.{PageName}
+use Rattle.sb_pages.specs.declared.page.Page.{Page}
+use Rattle.sb_pages.specs.PageName.{same_name}
+use Rattle.sb_pages.specs.PageLists.{find_page}
+use Rattle.sb_pages.specs.PageWords.{zeros}
+pub use Rattle.sb_pages.proofs.Places.{zeros_size}
 use Rattle.sb_state.specs.Start.{ThreadEntry, record_bytes, pages_from, start_threads}
 
 -- ---- sizes
-
--- a page of zeros has the size of a page
-pub zeros_size : length zeros ≡ 4096
-unfolding zeros
-zeros_size = length-replicate {A = ℕ} 4096 0
 
 -- a record page is a page of zeros in which words were put
 pub record_page : (words : RecordWords) → record_bytes words ≡ put_words zeros 0 (words_of words)

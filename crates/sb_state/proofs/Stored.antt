@@ -1,18 +1,19 @@
 -- A store puts its bytes where its addresses lead, and changes no others.
-use Rattle.std.proofs.Common.{◌≡◌, ◌≢◌, ◌∙◌, sym, ap, subst, ℕ, zero, suc, ◌+◌, ◌/◌, ◌%◌, ◌^◌, ◌*◌, ◌<◌, Bool, true, false, List, [], ◌∷◌, length, length-set, refl, arith}
+use Rattle.std.proofs.Common.{◌≡◌, ◌≢◌, ◌∙◌, sym, ap, subst, ℕ, zero, suc, ◌+◌, ◌/◌, ◌%◌, ◌^◌, ◌<◌, Bool, true, false, List, [], ◌∷◌, length, length-set, refl, arith}
 use Rattle.std.specs.Prelude.{Option, Some, None, slice_index, slice_set}
 use Rattle.std.specs.Option.{option_map}
 use Rattle.std.proofs.Math.Nat.{pow-suc, div-div-eq-div-mul, mul_comm}
 use Rattle.std.proofs.lemmas.List.{get_or-set_same, get_or-set_other}
-use Rattle.sb_state.specs.declared.page.PageName.{PageName}
-use Rattle.sb_state.specs.declared.page.Page.{Page}
-use Rattle.sb_state.specs.declared.page.SeenPage.{SeenPage}
-use Rattle.sb_state.specs.PageName.{same_name}
+use Rattle.sb_pages.specs.declared.page.PageName.{PageName}
+use Rattle.sb_pages.specs.declared.page.Page.{Page}
+use Rattle.sb_pages.specs.declared.page.SeenPage.{SeenPage}
+use Rattle.sb_pages.specs.PageName.{same_name}
 use Rattle.sb_state.specs.PlainMemory.{ByteToPut, byte_in, put_byte, put_all, with_byte_to_put, bytes_to_put, plain_stored}
-use Rattle.sb_state.specs.State.{State, find_page, bytes_of, contents, with_contents}
+use Rattle.sb_pages.specs.PageLists.{find_page, bytes_of}
+use Rattle.sb_state.specs.State.{State, contents, with_contents}
 use Rattle.sb_state.specs.Windows.{page_for}
-use Rattle.sb_state.proofs.Names.{name_same}
-use Rattle.sb_state.proofs.PageLists.{with_bytes, found_other, found_same}
+use Rattle.sb_pages.proofs.Names.{name_same}
+use Rattle.sb_pages.proofs.PageLists.{with_bytes, found_other, found_same}
 
 -- ---- one byte
 

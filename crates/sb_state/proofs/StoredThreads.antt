@@ -1,6 +1,6 @@
 -- A store changes no thread.
 use Rattle.std.proofs.Common.{◌≡◌, ◌∙◌, ℕ, List, [], ◌∷◌, refl}
-use Rattle.sb_state.specs.declared.page.PageName.{PageName}
+use Rattle.sb_pages.specs.declared.page.PageName.{PageName}
 use Rattle.sb_state.specs.State.{State, with_contents}
 use Rattle.sb_state.specs.PlainMemory.{ByteToPut, bytes_to_put, put_byte, put_all, plain_stored}
 

@@ -8,12 +8,14 @@ use Rattle.sb_memory.specs.declared.address.Access.TheVariants.{Write}
 use Rattle.sb_bus.specs.declared.stop.BusStop.{BusStop}
 use Rattle.sb_bus.specs.Access.{byte_for, store_answer}
 use Rattle.sb_bus.proofs.Loads.{stored_where_loaded, stops_where_loaded}
-use Rattle.sb_state.specs.declared.page.PageName.{PageName}
-use Rattle.sb_state.specs.declared.page.Page.{Page}
-use Rattle.sb_state.specs.State.{State, find_page, contents, with_contents}
+use Rattle.sb_pages.specs.declared.page.PageName.{PageName}
+use Rattle.sb_pages.specs.declared.page.Page.{Page}
+use Rattle.sb_pages.specs.PageLists.{find_page}
+use Rattle.sb_state.specs.State.{State, contents, with_contents}
 use Rattle.sb_state.specs.PlainMemory.{plain_byte, ByteToPut, put_byte, bytes_to_put, put_all, plain_stored}
-use Rattle.sb_state.proofs.PageLists.{found_same, contents_own, contents_there, contents_twice}
-use Rattle.sb_state.specs.PageWords.{put_number}
+use Rattle.sb_pages.proofs.PageLists.{found_same}
+use Rattle.sb_state.proofs.Contents.{contents_own, contents_there, contents_twice}
+use Rattle.sb_pages.specs.PageWords.{put_number}
 use Rattle.sb_state.specs.NameForAccess.{name_for_access}
 use Rattle.sb_state.specs.PagePlaces.{page_place_at}
 use Rattle.sb_state.proofs.InPage.{further, reached_again, number_in_page, number_refused}
@@ -33,7 +35,8 @@ unfolding with_contents
 found_given state name page bytes found = rw (found_same state.pages name bytes, found) refl
 
 -- byte by byte, or all at once
-pub puts_sets : (bytes : List ℕ) (state : State) (name : PageName) (page : Page) (offset : ℕ) → find_page state.pages name ≡ Some page
+pub puts_sets : (bytes : List ℕ) (state : State) (name : PageName) (page : Page) (offset : ℕ)
+    → find_page state.pages name ≡ Some page
     → put_all state (placed_from name offset bytes) ≡ with_contents state name (sets (contents state name) offset bytes)
 unfolding put_byte
 puts_sets [] state name page offset found = sym (contents_own state name)
@@ -94,7 +97,8 @@ placed_on (suc size) thread view state address index value name fits inside is =
 
 -- a number whose bytes end in the page in which they begin
 pub number_stored : (thread view : ℕ) (state : State) (address size value : ℕ) (name : PageName) (page : Page) → address < 2 ^ 64
-    → address % 4096 + size ≤ 4096 → name_for_access thread view state address Write ≡ Ok name → find_page state.pages name ≡ Some page
+    → address % 4096 + size ≤ 4096 → name_for_access thread view state address Write ≡ Ok name
+    → find_page state.pages name ≡ Some page
     → plain_stored thread view state address size value
     ≡ with_contents state name (put_number (contents state name) (address % 4096) size value)
 unfolding plain_stored put_number
@@ -115,7 +119,8 @@ number_stored thread view state address size value name page fits inside is foun
 
 pub number_may_be_stored : (thread view : ℕ) (state : State) (address size : ℕ) (name : PageName) (page : Page)
     → address < 2 ^ 64
-    → address % 4096 + size ≤ 4096 → name_for_access thread view state address Write ≡ Ok name → find_page state.pages name ≡ Some page
+    → address % 4096 + size ≤ 4096 → name_for_access thread view state address Write ≡ Ok name
+    → find_page state.pages name ≡ Some page
     → store_answer (byte_for (plain_byte thread view state) Write) address size ≡ Ok tt
 number_may_be_stored thread view state address size name page fits inside is found =
     stored_where_loaded (byte_for (plain_byte thread view state) Write) address size _

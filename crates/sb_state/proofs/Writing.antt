@@ -5,10 +5,10 @@ use Rattle.sb_memory.specs.declared.address.Access.TheVariants.{Read, Write}
 use Rattle.sb_memory.specs.Outcome.{and_then}
 use Rattle.sb_bus.specs.declared.stop.BusStop.{BusStop}
 use Rattle.sb_bus.specs.Access.{byte_for, byte_for_write, loaded_from}
-use Rattle.sb_state.specs.declared.page.PageName.{PageName}
-use Rattle.sb_state.specs.declared.page.SeenPage.{SeenPage}
-use Rattle.sb_state.specs.declared.page.Mode.{Mode}
-use Rattle.sb_state.specs.declared.page.Mode.TheVariants as mode
+use Rattle.sb_pages.specs.declared.page.PageName.{PageName}
+use Rattle.sb_pages.specs.declared.page.SeenPage.{SeenPage}
+use Rattle.sb_pages.specs.declared.page.Mode.{Mode}
+use Rattle.sb_pages.specs.declared.page.Mode.TheVariants as mode
 use Rattle.sb_state.specs.State.{State}
 use Rattle.sb_state.specs.Windows.{page_for}
 use Rattle.sb_state.specs.PlainMemory.{plain_byte, byte_seen, is_canonical}

@@ -1,7 +1,7 @@
 -- The laws of stores: what a store does to the pages of a state.
 use Rattle.std.specs.Prelude.{ℕ, ◌≡◌, ◌≢◌, ◌+◌, ◌/◌, ◌%◌, ◌^◌, ◌<◌, Some, length}
-use Rattle.sb_state.specs.declared.page.PageName.{PageName}
-use Rattle.sb_state.specs.declared.page.SeenPage.{SeenPage}
+use Rattle.sb_pages.specs.declared.page.PageName.{PageName}
+use Rattle.sb_pages.specs.declared.page.SeenPage.{SeenPage}
 use Rattle.sb_state.specs.PlainMemory.{byte_in, plain_stored}
 use Rattle.sb_state.specs.State.{State, contents}
 use Rattle.sb_state.specs.Windows.{page_for}

@@ -1,5 +1,5 @@
 pub mod EndText
-pub mod PageName
+pub use Rattle.sb_pages.specs.PageName
 pub mod State
 pub mod PageWords
 pub mod Bindings
@@ -7,8 +7,8 @@ pub mod Windows
 pub mod PlainMemory
 pub mod Registers
 pub mod Pattern
-pub mod Store
-pub mod Places
+pub use Rattle.sb_pages.specs.Store
+pub use Rattle.sb_pages.specs.Places
 pub mod NameForAccess
 pub mod PagePlaces
 pub mod ThreadMemory

@@ -3,12 +3,12 @@ use Rattle.std.specs.Prelude.{ℕ, ◌/◌, Option, Some, None, Result, Ok, Err,
 use Rattle.sb_memory.specs.declared.address.Access.{Access}
 use Rattle.sb_bus.specs.declared.stop.BusStop.{BusStop}
 use Rattle.sb_bus.specs.declared.stop.FaultKind.TheVariants.{Canon, Memory}
-use Rattle.sb_state.specs.declared.page.PageName.{PageName}
+use Rattle.sb_pages.specs.declared.page.PageName.{PageName}
 use Rattle.std.specs.Borrow.{Bor}
-use Rattle.sb_state.specs.declared.page.Page.{Page}
-use Rattle.sb_state.specs.declared.pages.Known.{Known}
-use Rattle.sb_state.specs.declared.page.SeenPage.{SeenPage}
-use Rattle.sb_state.specs.PageName.{permits}
+use Rattle.sb_pages.specs.declared.page.Page.{Page}
+use Rattle.sb_pages.specs.declared.pages.Known.{Known}
+use Rattle.sb_pages.specs.declared.page.SeenPage.{SeenPage}
+use Rattle.sb_pages.specs.PageName.{permits}
 use Rattle.sb_state.specs.State.{State}
 use Rattle.sb_state.specs.Windows.{page_for}
 use Rattle.sb_state.specs.PlainMemory.{is_canonical, fault_at}
@@ -22,11 +22,6 @@ unfoldable pub name_for_access : ℕ → ℕ → State → ℕ → Access → Re
 name_for_access thread view state address how =
     if is_canonical address then name_if_permitted (page_for state thread view (address / 4096)) address how
     else Err (fault_at Canon address)
-
--- a page that is found, without its place
-abbrev pub page_only : Option (ℕ × Bor Page) → Option Page
-page_only None = None
-page_only (Some found) = Some found.1.now
 
 -- the name of a page that is reached by its place
 abbrev pub known_name : Result (Known × Bor Page) BusStop → Result PageName BusStop

@@ -3,7 +3,7 @@ use Rattle.std.specs.Prelude.{ℕ, ◌/◌, ◌%◌, List, [], ◌∷◌, Result
 use Rattle.sb_memory.specs.declared.address.Access.TheVariants.{Write}
 use Rattle.sb_memory.specs.Outcome.{and_then}
 use Rattle.sb_bus.specs.declared.stop.BusStop.{BusStop}
-use Rattle.sb_state.specs.declared.page.PageName.{PageName}
+use Rattle.sb_pages.specs.declared.page.PageName.{PageName}
 use Rattle.sb_state.specs.State.{State}
 use Rattle.sb_state.specs.PlainMemory.{ByteToPut}
 use Rattle.sb_state.specs.declared.write.PagePlace.{PagePlace}

@@ -3,9 +3,10 @@ use Rattle.std.specs.Prelude.{ℕ, suc, ◌+◌, ◌-◌, ◌*◌, ◌==◌, ◌
 use Rattle.std.specs.Option.{option_map}
 use Rattle.sb_abi.specs.declared.space.TheConstants.{HEAP_ADDRESS}
 use Rattle.sb_memory.specs.declared.page.TheConstants.{PAGE_SIZE}
-use Rattle.sb_state.specs.declared.page.Page.{Page}
-use Rattle.sb_state.specs.declared.page.PageName.TheVariants.{Heap}
-use Rattle.sb_state.specs.State.{State, find_page}
+use Rattle.sb_pages.specs.declared.page.Page.{Page}
+use Rattle.sb_pages.specs.declared.page.PageName.TheVariants.{Heap}
+use Rattle.sb_pages.specs.PageLists.{find_page}
+use Rattle.sb_state.specs.State.{State}
 
 -- ---- in bytes
 

@@ -5,17 +5,17 @@ pub use Rattle.sb_memory.specs.Pages.{page_count}
 use Rattle.sb_memory.specs.declared.page.TheConstants.{PAGE_SIZE}
 use Rattle.sb_insn.specs.declared.registers.Regs.{Regs}
 use Rattle.sb_state.specs.declared.end_kind.EndKind.TheVariants.{Running}
-use Rattle.sb_state.specs.declared.page.PageName.{PageName}
-use Rattle.sb_state.specs.declared.page.PageName.TheVariants.{Text, Area, Data, Heap, Pool, Save, Stack, Record, Scratch, HomeTrampoline, ServerTrampoline}
-use Rattle.sb_state.specs.declared.page.Page.{Page}
+use Rattle.sb_pages.specs.declared.page.PageName.{PageName}
+use Rattle.sb_pages.specs.declared.page.PageName.TheVariants.{Text, Area, Data, Heap, Pool, Save, Stack, Record, Scratch, HomeTrampoline, ServerTrampoline}
+use Rattle.sb_pages.specs.declared.page.Page.{Page}
 use Rattle.sb_state.specs.declared.state.Thread.{Thread}
 use Rattle.sb_tramp.specs.declared.record_words.RecordWords.{RecordWords}
 unfoldable pub use Rattle.sb_tramp.specs.Record.{record_bytes}
 use Rattle.sb_tramp.specs.Home.{home_page}
 use Rattle.sb_tramp.specs.Server.{server_page}
-pub use Rattle.sb_state.specs.State.{page_with}
+pub use Rattle.sb_pages.specs.PageLists.{page_with}
 use Rattle.sb_state.specs.State.{State, Process}
-use Rattle.sb_state.specs.PageWords.{zeros}
+use Rattle.sb_pages.specs.PageWords.{zeros}
 use Rattle.sb_state.specs.Registers.{no_flags}
 
 -- what a process is made of: its rewritten text and its rewrite area, the starts of its text's instructions, its initial

@@ -1,15 +1,16 @@
 -- The state of the plain machine: pages by name, processes, threads, and what is left to be given out.
-use Rattle.std.specs.Prelude.{ℕ, ◌≤◌, ◌==◌, ◌||◌, Bool, false, List, [], ◌∷◌, length, Option, Some, None, replicate, slice_get, slice_set, unwrap_or, if◌then◌else◌}
+use Rattle.std.specs.Prelude.{ℕ, ◌≤◌, false, List, [], length, Option, Some, None, replicate, slice_get, slice_set, unwrap_or}
 use Rattle.sb_abi.specs.declared.space.TheConstants.{MAX_THREADS}
 use Rattle.sb_insn.specs.declared.registers.Regs.{Regs}
+pub use Rattle.sb_list.specs.Lists.{is_listed}
+use Rattle.sb_pages.specs.declared.page.PageName.{PageName}
+use Rattle.sb_pages.specs.declared.page.Page.{Page}
+pub use Rattle.sb_pages.specs.PageLists.{page_with, find_page, with_page_bytes, with_mode, bytes_of}
 use Rattle.sb_state.specs.declared.end_kind.EndKind.{EndKind}
 use Rattle.sb_state.specs.declared.end_kind.EndKind.TheVariants.{Ended}
-use Rattle.sb_state.specs.declared.page.PageName.{PageName}
-use Rattle.sb_state.specs.declared.page.Page.{Page}
 use Rattle.sb_state.specs.declared.state.Registration.{Registration}
 use Rattle.sb_state.specs.declared.state.Flight.{Flight}
 use Rattle.sb_state.specs.declared.state.Thread.{Thread}
-use Rattle.sb_state.specs.PageName.{same_name}
 
 -- a process: the starts of its text's instructions, the number of its heap pages, and what it told as a server
 pub record Process : Type 0 where
@@ -29,37 +30,7 @@ pub record State : Type 0 where
   -- the key words that are left
   pub keys : List ℕ
 
--- whether an address is one of these
-abbrev pub is_listed : List ℕ → ℕ → Bool
-is_listed [] address = false
-is_listed (start ∷ starts) address = (start == address) || is_listed starts address
-
 -- ---- pages by name
-
--- a page of this name with these bytes; if it is one of the heap, in write mode
-abbrev pub page_with : PageName → List ℕ → Page
-page_with name bytes = record { name = name; executable = false; bytes = bytes }
-
--- the first page of this name
-abbrev pub find_page : List Page → PageName → Option Page
-find_page [] name = None
-find_page (page ∷ pages) name = if same_name page.name name then Some page else find_page pages name
-
--- the pages with the first of this name given these bytes
-abbrev pub with_page_bytes : List Page → PageName → List ℕ → List Page
-with_page_bytes [] name bytes = []
-with_page_bytes (page ∷ pages) name bytes =
-    if same_name page.name name then (record page { bytes = bytes }) ∷ pages else page ∷ with_page_bytes pages name bytes
-
--- the pages with the first of this name executable, or not
-abbrev pub with_mode : List Page → PageName → Bool → List Page
-with_mode [] name executable = []
-with_mode (page ∷ pages) name executable =
-    if same_name page.name name then record page { executable = executable } ∷ pages else page ∷ with_mode pages name executable
-
-abbrev pub bytes_of : Option Page → List ℕ
-bytes_of None = []
-bytes_of (Some page) = page.bytes
 
 -- the bytes of the page of this name; none if there is no such page
 unfoldable pub contents : State → PageName → List ℕ

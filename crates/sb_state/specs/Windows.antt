@@ -3,14 +3,15 @@ use Rattle.std.specs.Prelude.{ℕ, ◌+◌, ◌-◌, ◌/◌, ◌%◌, ◌==◌,
 use Rattle.std.specs.Option.{option_map, option_and_then}
 use Rattle.sb_abi.specs.declared.space.TheConstants.{WINDOW_PAGES, BUFFERS_WINDOW_PAGES, AREA_PAGE, AREA_PAGES, TEXT_PAGE, DATA_PAGE, HEAP_PAGE, BUFFERS_PAGE, STACKS_PAGE, SERVER_STACKS_PAGE, THREAD_PAGES, STACK_PAGES, BUFFERS_DISTANCE_PAGES, BUFFER_PAGES, BUFFERS_PER_THREAD}
 use Rattle.sb_abi.specs.declared.trampoline.TheConstants.{TRAMPOLINE_PAGE, RECORD_PAGE, SCRATCH_PAGE, POOL_PAGE}
-use Rattle.sb_state.specs.declared.page.PageName.{PageName}
-use Rattle.sb_state.specs.declared.page.PageName.TheVariants.{Text, Area, Data, Heap, Pool, ServerStack, Save, Stack, Buffer, Record, Scratch, HomeTrampoline, ServerTrampoline}
-use Rattle.sb_state.specs.PageName.{mode_of}
-use Rattle.sb_state.specs.declared.page.Page.{Page}
-use Rattle.sb_state.specs.declared.page.SeenPage.{SeenPage}
+use Rattle.sb_pages.specs.declared.page.PageName.{PageName}
+use Rattle.sb_pages.specs.declared.page.PageName.TheVariants.{Text, Area, Data, Heap, Pool, ServerStack, Save, Stack, Buffer, Record, Scratch, HomeTrampoline, ServerTrampoline}
+use Rattle.sb_pages.specs.PageName.{mode_of}
+use Rattle.sb_pages.specs.declared.page.Page.{Page}
+use Rattle.sb_pages.specs.declared.page.SeenPage.{SeenPage}
 use Rattle.sb_state.specs.declared.state.Thread.{Thread}
 use Rattle.sb_state.specs.declared.state.Binding.{Binding}
-use Rattle.sb_state.specs.State.{State, find_page}
+use Rattle.sb_pages.specs.PageLists.{find_page}
+use Rattle.sb_state.specs.State.{State}
 use Rattle.sb_state.specs.Bindings.{binding_with}
 
 -- ---- the process that a view shows

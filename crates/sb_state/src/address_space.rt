@@ -2,10 +2,8 @@
 
 ghost use Rattle.std.specs.Prelude.{◌≡◌, ◌<◌, ◌^◌};
 ghost use Rattle.std.specs.Option.{option_and_then};
-ghost use Rattle.sb_state.specs.PageName.{permits, mode_of};
 ghost use Rattle.sb_state.specs.Windows.{process_of_view, process_now, process_shown, is_process, stack_name, buffer_name, special_name, name_at};
 
-use crate::page::{Mode, PageName};
 use crate::state::Thread;
 use sb_abi::{
     AREA_PAGE, AREA_PAGES, BUFFER_PAGES, BUFFERS_DISTANCE_PAGES, BUFFERS_PAGE, BUFFERS_PER_THREAD,
@@ -13,7 +11,7 @@ use sb_abi::{
     SERVER_STACKS_PAGE, STACK_PAGES, STACKS_PAGE, TEXT_PAGE, THREAD_PAGES, TRAMPOLINE_PAGE,
     WINDOW_PAGES,
 };
-use sb_memory::Access;
+use sb_pages::PageName;
 
 // ---- the last pages of the windows
 
@@ -159,41 +157,4 @@ pub fn name_for(threads: &[Thread], thread: u32, view: u32, page: u64) -> Option
         page,
         process_shown(threads, thread, view)?,
     )
-}
-
-/// How the page of a name may be accessed.
-#[tactic(auto, unfolding(crate::specs::PageName::mode_of))]
-pub fn mode_of(name: PageName, executable: bool) -> Mode
-    ensures { result ≡ mode_of name executable }
-{
-    match name {
-        PageName::Heap(_, _) if executable => Mode::Fetch,
-        PageName::Text(_, _)
-        | PageName::Area(_, _)
-        | PageName::HomeTrampoline
-        | PageName::ServerTrampoline => Mode::Fetch,
-        PageName::Record(_, _) => Mode::Read,
-        PageName::Data(_, _)
-        | PageName::Heap(_, _)
-        | PageName::Pool(_)
-        | PageName::ServerStack(_, _)
-        | PageName::Save(_)
-        | PageName::Stack(_, _)
-        | PageName::Buffer(_, _, _)
-        | PageName::Scratch(_, _) => Mode::ReadWrite,
-    }
-}
-
-/// Whether a mode permits an access.
-pub fn permits(mode: Mode, access: Access) -> bool
-    ensures { result ≡ permits mode access }
-{
-    match (mode, access) {
-        (Mode::Fetch, Access::Fetch)
-        | (Mode::Read, Access::Read)
-        | (Mode::ReadWrite, Access::Read | Access::Write) => true,
-        (Mode::Fetch, Access::Read | Access::Write)
-        | (Mode::Read, Access::Write | Access::Fetch)
-        | (Mode::ReadWrite, Access::Fetch) => false,
-    }
 }

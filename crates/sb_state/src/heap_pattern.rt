@@ -2,14 +2,13 @@
 
 ghost use Rattle.std.specs.Prelude.{◌≡◌, ◌<◌, ◌≤◌, ◌+◌, ◌-◌, ◌*◌, ◌^◌, ◌++◌, IfSome, length, drop};
 ghost use Rattle.sb_memory.specs.declared.page.TheConstants.{PAGE_SIZE};
-ghost use Rattle.sb_state.specs.declared.page.PageName.TheVariants.{Heap};
-ghost use Rattle.sb_state.specs.State.{find_page};
+ghost use Rattle.sb_pages.specs.declared.page.PageName.TheVariants.{Heap};
+ghost use Rattle.sb_pages.specs.PageLists.{find_page};
 ghost use Rattle.sb_state.specs.Pattern.{executable_bytes, bytes_before, bytes_behind, heap_pattern};
 
-use crate::page::PageName;
-use crate::pages::PAGE_SIZE;
 use crate::plain_state::PlainState;
 use sb_abi::HEAP_ADDRESS;
+use sb_pages::{PAGE_SIZE, PageName};
 use sb_scan::first_place;
 
 /// The bytes of a heap page that is executable; none of another.

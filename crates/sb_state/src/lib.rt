@@ -6,13 +6,13 @@
 //! memory (`specs/PlainMemory.antt`). `PlainState` is such a state with room for a page for each free frame, so no change of
 //! it takes memory; `PlainBus` is the memory of a thread in a view, as instructions access it.
 //!
-//! Inside: the names of pages and their modes (`page`), threads with what they have (`state`, `bindings`, `end_kind`), the
-//! definitions of the state, its words, its memory, and VMFUNC's bytes in it (`specs/`: State, PageWords, Windows, PlainMemory,
-//! Pattern, Start); pages by name (`pages`) and words in them (`page_words`), what is kept of a process (`process`), the state
-//! itself (`plain_state`) and its threads (`thread`), which page a thread sees at an address (`address_space`, `translate`),
-//! what it reads and writes there (`read`, `write`, `bus`), VMFUNC's bytes in the heap (`heap_pattern`), values of registers
-//! (`registers`), and the bytes of the first pages (`start_bytes`). Not inside: what a step does with a state (`sb_trace`), and
-//! code that starts and steps (`sb_plain`).
+//! Inside: threads with what they have (`state`, `bindings`, `end_kind`), the definitions of the state, its words, its memory,
+//! and VMFUNC's bytes in it (`specs/`: State, PageWords, Windows, PlainMemory, Pattern, Start); what is kept of a process
+//! (`process`), the state itself (`plain_state`) and its threads (`thread`), which page a thread sees at an address
+//! (`address_space`, `translate`), what it reads and writes there (`read`, `write`, `bus`), VMFUNC's bytes in the heap
+//! (`heap_pattern`), values of registers (`registers`), and the bytes of the first pages (`start_bytes`). The pages by name of
+//! `sb_pages` are passed on. Not inside: what a step does with a state (`sb_trace`), and code that starts and steps
+//! (`sb_plain`).
 //!
 //! ```text
 //! PageName::Heap(0, 3)      // the fourth heap page of process 0, which each view that shows the process sees at C03000
@@ -26,9 +26,7 @@ mod bus;
 mod end_kind;
 mod heap_pattern;
 mod laws;
-mod page;
-mod page_words;
-mod pages;
+pub mod page;
 mod plain_state;
 mod process;
 mod read;
@@ -46,11 +44,10 @@ pub use end_kind::EndKind;
 pub use heap_pattern::last_two;
 pub use laws::stores_change_what_they_reach;
 pub use page::{Mode, Page, PageBytes, PageName, SeenPage};
-pub use page_words::put_words;
-pub use pages::{PAGE_SIZE, Pages, zero_bytes};
 pub use plain_state::PlainState;
 pub use process::Process;
 pub use registers::{eax, ecx, zero_flags};
+pub use sb_pages::{PAGE_SIZE, Pages, put_words, zero_bytes};
 pub use start_bytes::{home_record, home_trampoline, page_of, server_trampoline};
 pub use state::{Binding, Decision, Flight, Registration, Thread};
 pub use thread::no_thread;

@@ -2,9 +2,9 @@
 
 ghost use Rattle.std.specs.Prelude.{◌≡◌, ◌<◌, ◌≤◌, ◌^◌, length};
 
-use crate::pages::Pages;
 use crate::process::Process;
 use crate::state::{Flight, Thread};
+use sb_pages::Pages;
 use sb_tramp::KeyWords;
 use std::marker::Model;
 

@@ -4,11 +4,11 @@ ghost use Rattle.std.specs.Prelude.{◌≡◌, ◌<◌, ◌≤◌, ◌+◌, ◌%
 ghost use Rattle.sb_bus.specs.Access.{byte_for, loaded_from};
 ghost use Rattle.sb_state.specs.PlainMemory.{plain_byte};
 
-use crate::page_words::number_at;
 use crate::plain_state::PlainState;
 use crate::translate::page_for_access;
 use sb_bus::BusStop;
 use sb_memory::{Access, Linear};
+use sb_pages::number_at;
 
 /// The byte at an address, for an access.
 #[tactic(auto, using(crate::proofs::NameForAccess::byte_reached, crate::proofs::NameForAccess::byte_refused))]

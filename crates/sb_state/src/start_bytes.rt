@@ -6,10 +6,8 @@ ghost use Rattle.sb_state.specs.Start.{page_padded, page_of, save_address, home_
 ghost use Rattle.sb_tramp.specs.Home.{home_page};
 ghost use Rattle.sb_tramp.specs.Server.{server_page};
 
-use crate::page::PageBytes;
-use crate::page_words::put_words;
-use crate::pages::{PAGE_SIZE, zero_bytes};
 use sb_abi::{STACKS_ADDRESS, THREAD_DISTANCE};
+use sb_pages::{PAGE_SIZE, PageBytes, put_words, zero_bytes};
 use sb_tramp::{RecordWords, put_home, put_server};
 use std::alloc::{AllocError, Global};
 

@@ -2,17 +2,16 @@
 
 ghost use Rattle.std.specs.Prelude.{◌≡◌, Some, IfOk, length};
 ghost use Rattle.sb_memory.specs.declared.page.TheConstants.{PAGE_SIZE};
-ghost use Rattle.sb_state.specs.State.{find_page};
+ghost use Rattle.sb_pages.specs.PageLists.{find_page};
 ghost use Rattle.sb_state.specs.Windows.{page_by_name};
-ghost use Rattle.sb_state.specs.Places.{place_of};
+ghost use Rattle.sb_pages.specs.Places.{place_of};
 ghost use Rattle.sb_state.specs.NameForAccess.{name_for_access, name_if_permitted, name_only, known_name};
 
-use crate::address_space::{mode_of, name_for, permits};
-use crate::page::{Page, PageName};
-use crate::pages::{Known, Pages};
+use crate::address_space::name_for;
 use crate::plain_state::PlainState;
 use sb_bus::{BusStop, FaultKind};
 use sb_memory::{Access, Linear};
+use sb_pages::{Known, Page, PageName, Pages, mode_of, permits};
 
 /// The page of a name, if an access to it is permitted, with its place.
 fn page_if_permitted(

@@ -6,11 +6,11 @@ ghost use Rattle.sb_bus.specs.Access.{bytes_from, byte_for, store_answer, where_
 ghost use Rattle.sb_state.specs.PlainMemory.{plain_byte, plain_stored, put_all};
 ghost use Rattle.sb_state.specs.PagePlaces.{page_place_at, bytes_to_put_in};
 
-use crate::page::PageName;
 use crate::plain_state::PlainState;
 use crate::translate::{known_page_for_access, page_for_access};
 use sb_bus::BusStop;
 use sb_memory::{Access, Linear};
+use sb_pages::PageName;
 
 /// A place in a page.
 #[derive(Clone, Copy)]

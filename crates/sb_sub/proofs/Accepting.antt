@@ -12,10 +12,10 @@ use Rattle.sb_pagewalk.specs.declared.table_set.TableSet.{TableSet}
 use Rattle.sb_root.specs.declared.root_kernel.RootKernel.{RootKernel}
 use Rattle.sb_root.specs.Root.{eptp_list_frame, list_entry}
 use Rattle.sb_memory.specs.declared.address.Frame.{Frame}
-use Rattle.sb_state.specs.declared.state.Registration.{Registration}
 use Rattle.sb_trace.specs.PageWords.{with_word}
 use Rattle.sb_trace.specs.State.{State, Process, with_contents, process_at, registration_of, registration_at, thread_at, flight_at}
 use Rattle.sb_trace.specs.SyscallRegister.{is_registered, is_start, refusal_of_register, with_server}
+use Rattle.sb_trace.proofs.Accepted.{no_registration}
 use Rattle.sb_trace.proofs.TablePages.{pool_there}
 use Rattle.sb_shows.specs.Related.{HasCores}
 use Rattle.sb_shows.specs.Shows.{CoreWords, present_index}
@@ -53,15 +53,11 @@ accepted view registered start stacks free is =
     accepted_by (view == 0) registered start
     (if (stacks == 0) || nat_lt 16 stacks then Some BadCount else if nat_lt free (4 * stacks) then Some NoFrames else None) is
 
-none_by : (told : Option Registration) → is_registered told ≡ false → told ≡ None
-none_by None un = refl
-none_by (Some one) un = absurd (let e = un in cc)
-
 found_by : (found : Option Entry) (handler : ℕ) → is_registered (registration_of (option_map process_of found)) ≡ false
     → is_start (option_map process_of found) handler ≡ true
     → (entry : Entry) × (found ≡ Some entry) × (entry.process.registration ≡ None)
 found_by None handler un start = absurd (let e = start in cc)
-found_by (Some entry) handler un start = (entry, refl, none_by entry.process.registration un)
+found_by (Some entry) handler un start = (entry, refl, no_registration entry.process.registration un)
 
 -- a process that is accepted is there, and no server yet
 pub accepted_entry : (kernel : Kernel) (free view process handler stacks : ℕ)

@@ -86,7 +86,8 @@ pub record IsRegistering (state : State) (view process handler stacks : ℕ) : T
   pub few : stacks ≤ 16
   pub room : STACK_PAGES * stacks ≤ state.free
 
-no_registration : (registration : Option Registration) → is_registered registration ≡ false → registration ≡ None
+-- a process that told nothing has no registration
+pub no_registration : (registration : Option Registration) → is_registered registration ≡ false → registration ≡ None
 no_registration None is = refl
 no_registration (Some registration) is = absurd cc
 

@@ -1,9 +1,9 @@
 -- The start of images whose texts and rewrite areas hold VMFUNC's bytes nowhere is sound.
-use Rattle.std.proofs.Common.{◌≡◌, ◌≢◌, ◌∙◌, sym, ap, subst, ℕ, zero, suc, ◌+◌, ◌-◌, ◌*◌, ◌/◌, ◌%◌, ◌<◌, ◌≤◌, Bool, true, false, List, [], ◌∷◌, ◌++◌, length, take, drop, get_or, replicate, refl, arith, inl, inr, ◌⊎◌, length-append}
+use Rattle.std.proofs.Common.{◌≡◌, ◌≢◌, ◌∙◌, sym, ap, subst, ℕ, zero, suc, ◌+◌, ◌-◌, ◌*◌, ◌/◌, ◌%◌, ◌<◌, Bool, true, false, List, [], ◌∷◌, ◌++◌, length, take, drop, get_or, replicate, refl, arith, inl, inr, ◌⊎◌}
 use Rattle.std.specs.Prelude.{Option, Some, None, if◌then◌else◌, slice_get, unwrap_or}
 use Rattle.std.specs.List.{AllByRecursion}
 use Rattle.std.proofs.lemmas.Bool.{cases_lt}
-use Rattle.std.proofs.lemmas.List.{length-replicate, length-take, get_or_append_left, get_or-append-add, get_or-take, get_or-drop, get_or-replicate}
+use Rattle.std.proofs.lemmas.List.{length-replicate, get_or_append_left, get_or-append-add, get_or-take, get_or-drop, get_or-replicate}
 use Rattle.sb_memory.specs.declared.address.Access.TheVariants.{Fetch}
 use Rattle.sb_scan.specs.Pattern.{HasNoPattern}
 use Rattle.sb_tramp.specs.Home.{home_page}
@@ -23,21 +23,11 @@ use Rattle.sb_trace.specs.Sound.{HasPage, HasView, IsFlightSound}
 use Rattle.sb_trace.specs.Laws.{IsImageSound}
 use Rattle.sb_state.proofs.Names.{name_same}
 use Rattle.sb_state.proofs.PageLists.{either, found_added}
+use Rattle.sb_state.proofs.Filling.{page_size}
 use Rattle.sb_state.proofs.Start.{zeros_size, record_size, EachPage, found_each, each_both, each_from, count_threads}
 use Rattle.sb_trace.proofs.CodeSound.{AreCodePagesSound}
 
 -- ---- bytes that fill pages
-
-filled_size : (filler : ℕ) (bytes : List ℕ) → length bytes ≤ 4096 → length (page_padded filler bytes) ≡ 4096
-filled_size filler bytes within =
-    let sum = length-append bytes (replicate (4096 - length bytes) filler) in
-    let rest = length-replicate {A = ℕ} (4096 - length bytes) filler in omega (arith, sum, rest)
-
-part_size : (bytes : List ℕ) → length (take 4096 bytes) ≤ 4096
-part_size bytes = let size = length-take 4096 bytes in omega (arith, size)
-
-page_size : (filler : ℕ) (bytes : List ℕ) (page : ℕ) → length (page_of filler bytes page) ≡ 4096
-page_size filler bytes page = filled_size filler (take 4096 (drop (4096 * page) bytes)) (part_size (drop (4096 * page) bytes))
 
 filled_byte : (filler : ℕ) (bytes : List ℕ) (offset : ℕ) → offset < 4096
     → (get_or (page_padded filler bytes) offset 0 ≡ get_or bytes offset 0) ⊎ (get_or (page_padded filler bytes) offset 0 ≡ filler)

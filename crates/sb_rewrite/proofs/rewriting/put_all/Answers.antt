@@ -38,7 +38,8 @@ returns-in_err-put_text_insn c =
       error.1,
       error.2,
     )
-    (put_refused _ _ _ c.put_text_insn.new.draft _ _ _ c.loop-rest.invariant c.in_ok-text_insn.ensures c.in_err-put_text_insn.ensures)
+    (put_refused _ _ _ c.put_text_insn.new.draft _ _ _ c.loop-rest.invariant c.in_ok-text_insn.ensures
+    c.in_err-put_text_insn.ensures)
 
 pub loop-rest-preserved : goal.loop-rest-preserved
 loop-rest-preserved c =

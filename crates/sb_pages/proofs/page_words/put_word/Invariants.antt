@@ -1,0 +1,10 @@
+-- The bytes that are left, put one after another, make up the whole.
+use Rattle.std.proofs.Common.{◌≡◌, ◌+◌, length, drop}
+use Rattle.std.proofs.lemmas.List.Edits.{sets}
+use Rattle.sb_pages.proofs.page_words.put_word.Given as goal
+
+abbrev pub invariant-loop-index : goal.invariant-loop-index
+invariant-loop-index l = record {
+  rest : sets l.bytes (l.place + l.index) (drop l.index l.byte-items) ≡ sets l.initial.bytes l.place l.byte-items;
+  size : length l.bytes ≡ 4096;
+}

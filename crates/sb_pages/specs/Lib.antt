@@ -1,0 +1,5 @@
+pub mod PageName
+pub mod PageLists
+pub mod PageWords
+pub mod Places
+pub mod Store
