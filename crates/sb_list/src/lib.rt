@@ -1,7 +1,8 @@
 //! A `Vec` that contracts see as the list of its elements.
 //!
-//! Inside: one generic type, `Listed<T>`, made from a `Vec` and given back as one without taking memory. Not inside: any
-//! operation on lists. Callers lend the slice and use what slices have.
+//! Inside: one generic type, `Listed<T>`, made from a `Vec` and given back as one without taking memory; and, for the
+//! definitions of callers, whether a number is one of a list (`specs/Lists.antt`). Not inside: any operation on lists. Callers
+//! lend the slice and use what slices have.
 //!
 //! The list types of this workspace (`Lines`, `Bytes`, `Words` and others) are aliases of it, so that a struct which
 //! holds one is compared with a definition's value by one equation:
