@@ -1,25 +1,29 @@
 -- What stands in place of an instruction can stand behind other bytes, and before others.
-use Rattle.std.proofs.Common.{◌≡◌, ℕ, zero, suc, ◌+◌, ◌-◌, ◌*◌, ◌/◌, ◌%◌, ◌^◌, ◌≤◌, ◌<◌, Bool, true, false, List, [], ◌∷◌, ◌++◌, Option, Some, None, refl, sym, ap, ◌∙◌, arith, subst, append_assoc, replicate, ⊎_elim, inl, inr, ℤ, pos, negsuc, ◌-ℤ◌, ltb}
-use Rattle.std.specs.Prelude.{◌==◌, ◌&&◌, not, if◌then◌else◌}
+use Rattle.std.proofs.Common.{◌≡◌, ℕ, zero, suc, ◌+◌, ◌-◌, ◌/◌, ◌%◌, ◌≤◌, ◌<◌, Bool, true, false, List, [], ◌∷◌, ◌++◌}
+use Rattle.std.proofs.Common.{Option, Some, None, refl, sym, ap, ◌∙◌, arith, subst, append_assoc, replicate, ⊎_elim, ℤ, pos}
+use Rattle.std.proofs.Common.{negsuc, ◌-ℤ◌, ltb}
+use Rattle.std.specs.Prelude.{◌==◌, not, if◌then◌else◌}
 use Rattle.std.specs.Int.{w32, cast_unsigned}
 use Rattle.std.specs.Option.{option_to_list}
-use Rattle.std.proofs.lemmas.Bool.{and_parts, cond_both, cond-true, cases_Bool, not-true, false_from_ne_true, false≢true, lt-ltb, ne_eqb}
+use Rattle.std.proofs.lemmas.Bool.{and_parts, cond_both, cond-true, cases_Bool, not-true, false_from_ne_true, false≢true}
+use Rattle.std.proofs.lemmas.Bool.{lt-ltb, ne_eqb}
 use Rattle.std.proofs.lemmas.List.{append-nil}
 use Rattle.sb_insn.specs.declared.insn.Insn.{Insn}
 use Rattle.sb_insn.specs.declared.opcode_map.Instruction.{Instruction}
 use Rattle.sb_insn.specs.Spelling.{number, lead_bytes, disp_bytes, imm_bytes, spelling}
-use Rattle.sb_insn.specs.Grammar.{IsValid}
 use Rattle.sb_insn.specs.Fields.{rex_r, rex_b}
-use Rattle.sb_insn.specs.Rex.{with_r_b, with_x_b_exchanged}
+use Rattle.sb_insn.specs.Rex.{with_x_b_exchanged}
 use Rattle.sb_forms.specs.declared.slots.Site.{Site}
 use Rattle.sb_scan.specs.Holding.{begins_with, holds_pattern}
 use Rattle.sb_forms.specs.Pieces.{save, is_sib_0f, sib_exchanged, jump_insn}
 use Rattle.sb_forms.specs.Mains.{with_displacement}
-use Rattle.sb_forms.specs.Table.{spelled_bytes, Replacement, Keep, InPlace, Moved, Unmovable, move_outcome, is_vmfunc, completes_pattern, nop, add_from_rm, begins_at_modrm, jump_form, wide_constant_form, address_and_constant_form, address_form, constant_form, is_exchangeable, held_form, replacement, bytes_of, site_of, form_of}
+use Rattle.sb_forms.specs.Table.{Replacement, Keep, InPlace, move_outcome, is_vmfunc, completes_pattern, nop}
+use Rattle.sb_forms.specs.Table.{add_from_rm, jump_form, wide_constant_form, address_and_constant_form, address_form}
+use Rattle.sb_forms.specs.Table.{constant_form, is_exchangeable, held_form, replacement, bytes_of, site_of, form_of}
 use Rattle.sb_forms.specs.Borders.{ends_with_0f, EndsNoPattern, HasBorders, FormsBorder}
 use Rattle.sb_forms.proofs.ByTable.{IsHeld, TableCases, by_table}
 use Rattle.sb_forms.proofs.Quiet.{last_one, last_two, IsQuiet, joined, skip}
-use Rattle.sb_forms.proofs.Leads.{IsRex, IsOpcode, valid_rex, valid_op, with_r_b_rex, r_1, b_1, lead_apart}
+use Rattle.sb_forms.proofs.Leads.{IsRex, IsOpcode, valid_op, with_r_b_rex, r_1, b_1, lead_apart}
 use Rattle.sb_forms.proofs.Lowered.{in_four}
 use Rattle.sb_forms.proofs.CleanForms.{exchanged_quiet}
 use Rattle.sb_forms.proofs.QuietMains.{any_start}
@@ -69,7 +73,7 @@ exchanged_joined insn after_0f held e =
     let parts = and_parts (is_sib_0f insn.sib) (not (holds_pattern (spelling (sib_exchanged insn)))) e in
     let quiet =
     exchanged_quiet insn held.valid held.other parts.0 (not-true (holds_pattern (spelling (sib_exchanged insn))) parts.1) in
-    let same : spelled_bytes (sib_exchanged insn ∷ []) ≡ spelling (sib_exchanged insn) = append-nil (spelling (sib_exchanged insn)) in (
+    let same = append-nil (spelling (sib_exchanged insn)) in (
       record {
         two = ap (λ (bytes : List ℕ). begins_with last_two bytes) same ∙ quiet.two;
         one = ap (λ (bytes : List ℕ). begins_with last_one bytes) same ∙ quiet.one;
@@ -83,7 +87,8 @@ exchanged_joined insn after_0f held e =
 -- ---- slots
 
 -- an instruction whose ModRM byte is not D4
-lead_ends : (insn : Insn) (rest behind : List ℕ) → IsRex insn.rex → IsOpcode insn.op → begins_with last_one (rest ++ behind) ≡ false
+lead_ends : (insn : Insn) (rest behind : List ℕ) → IsRex insn.rex → IsOpcode insn.op
+    → begins_with last_one (rest ++ behind) ≡ false
     → EndsNoPattern ((lead_bytes insn.lock insn.rex insn.op ++ rest) ++ behind)
 lead_ends insn rest behind range known other =
     let apart = lead_apart insn.lock insn.rex insn.op (rest ++ behind) range known (any_start insn.op (rest ++ behind) other) in
@@ -177,7 +182,8 @@ forms_border insn at slot after_0f valid =
 less : (from to : ℕ) → to ≤ from → pos to -ℤ pos (suc from) ≡ negsuc (from - to)
 less from to below =
     let size : suc from - suc to ≡ from - to = omega arith in
-    cond-true (ltb to (suc from)) (negsuc (suc from - suc to)) (pos (to - suc from)) (lt-ltb to (suc from) (omega (arith, below)))
+    let back = lt-ltb to (suc from) (omega (arith, below)) in
+    cond-true (ltb to (suc from)) (negsuc (suc from - suc to)) (pos (to - suc from)) back
     ∙ ap (λ (n : ℕ). negsuc n) size
 
 distance_is : (from to : ℕ) → to ≤ from → pos to -ℤ pos (from + 5) ≡ negsuc (from + 4 - to)

@@ -28,7 +28,9 @@ pub use draft::AREA_SIZE;
 pub use edit::{Edit, Edits};
 pub use listing::{Listing, list, one_listing};
 pub use refusal::{ListRefusal, RewriteRefusal};
-pub use rewriting::{one_rewriting, rewrite, rewriting_keeps_length, starts_stand_in_text};
+pub use rewriting::{
+    one_rewriting, rewrite, rewriting_keeps_length, rewriting_leaves_none, starts_stand_in_text,
+};
 pub use rewritten::Rewritten;
 pub use sb_abi::{AREA_ADDRESS, TEXT_ADDRESS};
 pub use starts::Starts;
