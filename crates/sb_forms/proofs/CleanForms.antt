@@ -73,7 +73,7 @@ sib_start None (Some sib) rest e stands = absurd cc
 sib_start (Some modrm) (Some sib) rest e stands =
     and_left (modrm == 0xD4) true (ne_eqb modrm 0xD4 (λ is. both_ways (has_sib modrm) (ap (λ (m : ℕ). has_sib m) is) stands))
 
-exchanged_quiet : (insn : Insn) → IsValid insn → is_vmfunc insn.op ≡ false → is_sib_0f insn.sib ≡ true
+pub exchanged_quiet : (insn : Insn) → IsValid insn → is_vmfunc insn.op ≡ false → is_sib_0f insn.sib ≡ true
     → holds_pattern (spelling (sib_exchanged insn)) ≡ false → IsQuiet (spelling (sib_exchanged insn))
 unfolding sib_exchanged
 exchanged_quiet insn valid other e none =

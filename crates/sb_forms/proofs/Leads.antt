@@ -161,16 +161,25 @@ lead_start : (lock : Bool) (rex : Option ℕ) (op : Op) (rest : List ℕ) → Is
 lead_start true rex op rest range known start = (refl, refl)
 lead_start false rex op rest range known start = rex_start rex op rest range known start
 
+-- in the bytes as they are spelled
+pub lead_apart : (lock : Bool) (rex : Option ℕ) (op : Op) (rest : List ℕ) → IsRex rex → IsOpcode op → IsStart op rest
+    → (begins_with last_two (lead_bytes lock rex op ++ rest) ≡ false)
+    × (begins_with last_one (lead_bytes lock rex op ++ rest) ≡ false)
+lead_apart lock rex op rest range known start =
+    let same : (lead_bytes lock rex op ++ rest) ≡ lock_bytes lock ++ (option_to_list rex ++ (op_bytes op ++ rest)) =
+    append_assoc (lock_bytes lock) (option_to_list rex ++ op_bytes op) rest
+    ∙ ap (λ (bytes : List ℕ). lock_bytes lock ++ bytes) (append_assoc (option_to_list rex) (op_bytes op) rest) in
+    let starts = lead_start lock rex op rest range known start in (
+      ap (λ (bytes : List ℕ). begins_with last_two bytes) same ∙ starts.0,
+      ap (λ (bytes : List ℕ). begins_with last_one bytes) same ∙ starts.1,
+    )
+
 -- An instruction is quiet where the bytes behind its opcode are, and it does not begin with 01 D4.
 pub lead_quiet : (lock : Bool) (rex : Option ℕ) (op : Op) (rest : List ℕ) → IsRex rex → IsOpcode op → IsStart op rest
     → holds_pattern rest ≡ false → IsQuiet (lead_bytes lock rex op ++ rest)
 lead_quiet lock rex op rest range known start none =
-    let same : (lead_bytes lock rex op ++ rest) ≡ lock_bytes lock ++ (option_to_list rex ++ (op_bytes op ++ rest)) =
-    append_assoc (lock_bytes lock) (option_to_list rex ++ op_bytes op) rest
-    ∙ ap (λ (bytes : List ℕ). lock_bytes lock ++ bytes) (append_assoc (option_to_list rex) (op_bytes op) rest) in
-    let starts = lead_start lock rex op rest range known start in
-    record {
+    let apart = lead_apart lock rex op rest range known start in record {
       none = lead_holds lock rex op rest range known ∙ none;
-      two = ap (λ (bytes : List ℕ). begins_with last_two bytes) same ∙ starts.0;
-      one = ap (λ (bytes : List ℕ). begins_with last_one bytes) same ∙ starts.1;
+      two = apart.0;
+      one = apart.1;
     }

@@ -19,3 +19,4 @@ pub mod Small
 pub mod Immediates
 pub mod Foreseen
 pub mod Across
+pub mod Joints

@@ -35,7 +35,7 @@ pub skip_0f : (bytes : List ℕ) → begins_with last_two bytes ≡ false → ho
 unfolding holds_pattern
 skip_0f bytes other = ap (λ behind. behind || holds_pattern bytes) other
 
-joined : (first second : List ℕ) → holds_pattern first ≡ false → IsQuiet second → holds_pattern (first ++ second) ≡ false
+pub joined : (first second : List ℕ) → holds_pattern first ≡ false → IsQuiet second → holds_pattern (first ++ second) ≡ false
 unfolding holds_pattern
 joined [] second none quiet = quiet.none
 joined (a ∷ []) second none quiet =

@@ -2,7 +2,7 @@
 
 ghost use Rattle.sb_forms.specs.Places.{BehindOpcode, AtModrm, AtLeastFive, InImmediate, NotInJumps};
 ghost use Rattle.sb_forms.specs.Immediates.{WithFour, WithEight};
-ghost use Rattle.sb_forms.specs.Borders.{NoneWithD4, OneWith01D4, AcrossBorder};
+ghost use Rattle.sb_forms.specs.Borders.{NoneWithD4, OneWith01D4, AcrossBorder, FormsBorder};
 ghost use Rattle.sb_forms.specs.Laws.{HeldForeseen, Helpers, FormsSmall};
 
 /// Laws of the grammar: where the bytes of VMFUNC can stand in an instruction that is not VMFUNC.
@@ -45,9 +45,10 @@ pub fn wide_immediates()
     ensures eight { WithEight }
 {}
 
-/// Where the bytes of VMFUNC stand across two instructions.
+/// Where the bytes of VMFUNC stand across two instructions, and across what stands in their places.
 pub fn across_borders()
     ensures none { NoneWithD4 }
     ensures one { OneWith01D4 }
     ensures across { AcrossBorder }
+    ensures forms { FormsBorder }
 {}

@@ -74,8 +74,6 @@ refused_by images rewritten k (cause.Unmovable at) image within is are refused =
     refused_at images rewritten k (cause.Unmovable at) image within is are refused (λ same. absurd cc)
 refused_by images rewritten k (cause.AreaFull at) image within is are refused =
     refused_at images rewritten k (cause.AreaFull at) image within is are refused (λ same. absurd cc)
-refused_by images rewritten k (cause.Left at) image within is are refused =
-    refused_at images rewritten k (cause.Left at) image within is are refused (λ same. absurd cc)
 refused_by images rewritten k cause.Memory image within is are refused = tt
 
 pub refused_text : (images : List Image) (rewritten : List RewrittenText) (k : ℕ)

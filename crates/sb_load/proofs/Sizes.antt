@@ -36,7 +36,7 @@ slots_within text at slot (insn ∷ insns) within none =
     omega (arith, length-append (area_bytes first) (flat_map area_bytes later))
 
 pub small_area : (text : List ℕ) (made : RewrittenText) → Rewrites text (Ok made) → HasSmallArea made
-small_area text made (of_text, are, fits, is, free) =
+small_area text made (of_text, are, fits, is) =
     let none : NoneOf EndsBehindArea (places text are.insns) =
     subst (λ (list : List Placement). NoneOf EndsBehindArea list) are.places_are fits.1 in
     let within = slots_within text text_address area_address are.insns (omega arith) none in
@@ -65,7 +65,7 @@ as_long (image ∷ images) (made ∷ others) (suc process) are = as_long images 
 -- ---- the starts
 
 pub rising_starts : (text : List ℕ) (made : RewrittenText) → Rewrites text (Ok made) → IsStrictlyIncreasing made.starts
-rising_starts text made (of_text, are, fits, is, free) =
+rising_starts text made (of_text, are, fits, is) =
     subst (λ (one : RewrittenText). IsStrictlyIncreasing one.starts) (sym is) (ordered text of_text are).starts
 
 -- ---- by process

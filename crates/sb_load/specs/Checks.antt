@@ -20,7 +20,6 @@ refusal_of process (cause.Undecoded at) = Process process (cause.Undecoded at)
 refusal_of process (cause.BadTarget at) = Process process (cause.BadTarget at)
 refusal_of process (cause.Unmovable at) = Process process (cause.Unmovable at)
 refusal_of process (cause.AreaFull at) = Process process (cause.AreaFull at)
-refusal_of process (cause.Left at) = Process process (cause.Left at)
 refusal_of process cause.Memory = Memory
 
 -- what each text becomes, or the first text that cannot be rewritten

@@ -13,7 +13,6 @@ cause_text (cause.Undecoded at) = codes "Undecoded " ++ hex at
 cause_text (cause.BadTarget at) = codes "BadTarget " ++ hex at
 cause_text (cause.Unmovable at) = codes "Unmovable " ++ hex at
 cause_text (cause.AreaFull at) = codes "AreaFull " ++ hex at
-cause_text (cause.Left at) = codes "Left " ++ hex at
 cause_text cause.Memory = codes "Memory"
 
 abbrev pub refusal_text : LoadRefusal → List ℕ

@@ -25,8 +25,7 @@ fn refusal_of(process: u32, why: RewriteRefusal) -> LoadRefusal
         RewriteRefusal::Undecoded { .. }
         | RewriteRefusal::BadTarget { .. }
         | RewriteRefusal::Unmovable { .. }
-        | RewriteRefusal::AreaFull { .. }
-        | RewriteRefusal::Left { .. } => LoadRefusal::Process { process, why },
+        | RewriteRefusal::AreaFull { .. } => LoadRefusal::Process { process, why },
     }
 }
 

@@ -37,7 +37,6 @@ impl fmt::Display for Cause {
             RewriteRefusal::BadTarget { at } => write!(f, "BadTarget {at:x}"),
             RewriteRefusal::Unmovable { at } => write!(f, "Unmovable {at:x}"),
             RewriteRefusal::AreaFull { at } => write!(f, "AreaFull {at:x}"),
-            RewriteRefusal::Left { at } => write!(f, "Left {at:x}"),
             RewriteRefusal::Memory => write!(f, "Memory"),
         }
     }

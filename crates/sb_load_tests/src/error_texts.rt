@@ -38,12 +38,11 @@ fn refusals_of_listings_have_texts(rt: HostRuntime) -> Result<(), Fail> {
 }
 
 #[rattlefmt::skip]
-const REWRITINGS: [(RewriteRefusal, &str); 6] = [
+const REWRITINGS: [(RewriteRefusal, &str); 5] = [
     (RewriteRefusal::Undecoded { at: 0x40_0002 }, "no whole instruction stands at 400002"),
     (RewriteRefusal::BadTarget { at: 0x40_0010 }, "the jump at 400010 leads to no instruction"),
     (RewriteRefusal::Unmovable { at: 0x40_0000 }, "the instruction at 400000 cannot be moved"),
     (RewriteRefusal::AreaFull { at: 0x40_0F00 }, "no room is left for the slot of the instruction at 400f00"),
-    (RewriteRefusal::Left { at: 0x1001 }, "the bytes of VMFUNC are left at 1001"),
     (RewriteRefusal::Memory, "out of memory"),
 ];
 

@@ -4,7 +4,7 @@ use crate::bundles::{PRINTS, Program, bundle_of};
 use sb_bundle::CoreStart;
 use sb_load::LoadRefusal::{self, BadEntry, NoFrames, Process};
 use sb_load::load;
-use sb_rewrite::RewriteRefusal::{self, AreaFull, BadTarget, Left, Undecoded, Unmovable};
+use sb_rewrite::RewriteRefusal::{self, AreaFull, BadTarget, Undecoded, Unmovable};
 use std::alloc::Global;
 use std::test::Fail;
 
@@ -159,7 +159,6 @@ fn writes_the_line_of_a_refusal(rt: HostRuntime) -> Result<(), Fail> {
         ("process 1 BadTarget 40898e", of_process(BadTarget { at })),
         ("process 1 Unmovable 40898e", of_process(Unmovable { at })),
         ("process 1 AreaFull 40898e", of_process(AreaFull { at })),
-        ("process 1 Left 1000", of_process(Left { at: 0x1000 })),
         ("entry 7 0", BadEntry { core: 7, at: 0 }),
         ("frames 25 24", NoFrames { need: 25, have: 24 }),
     ];

@@ -1,5 +1,5 @@
 -- What a loaded bundle starts from is sound.
-use Rattle.std.proofs.Common.{◌≡◌, ℕ, ◌+◌, ◌-◌, ◌≤◌, ◌^◌, List, [], ◌∷◌, Ok, length, map, refl, ap, sym, ◌∙◌, subst, arith}
+use Rattle.std.proofs.Common.{◌≡◌, ℕ, ◌+◌, ◌≤◌, ◌^◌, List, [], ◌∷◌, Ok, length, map, refl, sym, subst, arith}
 use Rattle.std.proofs.lemmas.List.{length-map}
 use Rattle.std.proofs.Math.Logic.{∥∥₁_elim}
 use Rattle.std.proofs.Math.Bridge.{le_prop}
@@ -10,6 +10,7 @@ use Rattle.sb_bundle.specs.Limits.{IsImage, IsCoreStart, AllBelow}
 use Rattle.sb_rewrite.specs.Listing.{text_address}
 use Rattle.sb_rewrite.specs.RewrittenText.{RewrittenText, IsBetween}
 use Rattle.sb_rewrite.specs.Rewriting.{Rewrites}
+use Rattle.sb_rewrite.proofs.Free.{none_made}
 use Rattle.sb_rewrite.proofs.Length.{keeps_length}
 use Rattle.sb_rewrite.proofs.Within.{starts_in_text}
 use Rattle.sb_state.specs.Start.{ProcessImage, ThreadEntry}
@@ -32,12 +33,12 @@ below_end least end bound (number ∷ numbers) within between =
 -- what the text of an image becomes is sound, with the initial data and the heap of the image
 image_sound : (image : Image) (made : RewrittenText) → IsImage image → Rewrites image.text (Ok made)
     → IsImageSound (image_of image made)
-image_sound image made good (of_text, placed, fits, is, free) =
-    let are : Rewrites image.text (Ok made) = (of_text, placed, fits, is, free) in
+image_sound image made good are =
     let size : length made.text ≡ length image.text = keeps_length image.text made are in
+    let none = none_made image.text made (omega (arith, good.text.1)) are in
     record {
-      text = free.1;
-      area = free.0;
+      text = none.0;
+      area = none.1;
       starts = below_end text_address (text_address + length image.text) (2 ^ 64) made.starts (omega (arith, good.text.1))
           (starts_in_text image.text made are);
       initial = good.initial_bytes;

@@ -62,4 +62,4 @@ made_length text draft (of_text, are, fits, is) =
     ∙ sym (ap length are.whole)
 
 pub keeps_length : KeepsLength
-keeps_length text made (of_text, are, fits, is, free) = made_length text made (of_text, are, fits, is)
+keeps_length text made all_put = made_length text made all_put

@@ -1,6 +1,7 @@
 pub mod Around
 pub mod Checked
 pub mod FirstAt
+pub mod Free
 pub mod Jumps
 pub mod Putting
 pub mod Kept

@@ -106,6 +106,6 @@ one_of_places text of_text at first second are fits (inr main) (inr main') =
     one_main (rewritten_text of_text) at first second (ordered text of_text are) main main'
 
 pub one_original : OneOriginal
-one_original text made at first second (of_text, are, fits, is, free) one other =
+one_original text made at first second (of_text, are, fits, is) one other =
     one_of_places text of_text at first second are fits.1 (subst (λ (made_it : RewrittenText). RunsAt made_it at first) is one)
     (subst (λ (made_it : RewrittenText). RunsAt made_it at second) is other)

@@ -1,14 +1,13 @@
 -- A text is rewritten in one way.
-use Rattle.std.proofs.Common.{◌≡◌, ◌≢◌, ℕ, ◌+◌, ◌<◌, ◌⊎◌, List, [], ◌++◌, Result, Ok, Err, refl, ap, sym, ◌∙◌, subst, arith, inl, inr}
+use Rattle.std.proofs.Common.{◌≡◌, ◌≢◌, ℕ, ◌⊎◌, List, [], ◌++◌, Result, Ok, Err, refl, ap, sym, ◌∙◌, subst, inl, inr}
 use Rattle.std.proofs.lemmas.List.{append-nil}
 use Rattle.sb_insn.specs.declared.insn.Insn.{Insn}
-use Rattle.sb_scan.specs.Pattern.{HasFirstPatternAt}
 use Rattle.sb_rewrite.specs.declared.refusal.RewriteRefusal.{RewriteRefusal}
-use Rattle.sb_rewrite.specs.declared.refusal.RewriteRefusal.TheVariants.{Undecoded, BadTarget, Unmovable, AreaFull, Left, Memory}
+use Rattle.sb_rewrite.specs.declared.refusal.RewriteRefusal.TheVariants.{Undecoded, BadTarget, Unmovable, AreaFull, Memory}
 use Rattle.sb_rewrite.specs.Listing.{text_address, spelled_bytes, starts_from, IsUndecodedAt}
-use Rattle.sb_rewrite.specs.Placing.{Placement, places, area_address}
+use Rattle.sb_rewrite.specs.Placing.{Placement, places}
 use Rattle.sb_rewrite.specs.RewrittenText.{RewrittenText, rewritten_text, starts_of}
-use Rattle.sb_rewrite.specs.Rewriting.{HasBadTarget, IsUnmovable, EndsBehindArea, NoneOf, IsFirstAt, ArePlaces, IsFree, IsLeftAt, Rewrites, OneRewriting}
+use Rattle.sb_rewrite.specs.Rewriting.{HasBadTarget, IsUnmovable, EndsBehindArea, NoneOf, IsFirstAt, ArePlaces, Rewrites, OneRewriting}
 use Rattle.sb_rewrite.proofs.OneListing.{same_insns, nothing_begins, one_place, listed_apart}
 use Rattle.sb_rewrite.proofs.FirstAt.{not_first, one_first}
 
@@ -22,20 +21,18 @@ one_places text first second one other =
 
 -- ---- one answer behind another
 
--- what is said of an answer
-abbrev Claim : Type 1
-Claim = Result RewrittenText RewriteRefusal → Type 0
-
 -- a claim of which one answer is true at most
-abbrev IsOne : Claim → Type 0
+abbrev IsOne : (Result RewrittenText RewriteRefusal → Type 0) → Type 0
 IsOne Answers = (first second : Result RewrittenText RewriteRefusal) → Answers first → Answers second → first ≡ second
 
 -- a refusal at the first place of which something holds, and where there is none another answer
-abbrev Unless : (Placement → Type 0) → List Placement → (ℕ → RewriteRefusal) → Claim → Claim
+abbrev Unless : (Placement → Type 0) → List Placement → (ℕ → RewriteRefusal) → (Result RewrittenText RewriteRefusal → Type 0)
+    → Result RewrittenText RewriteRefusal → Type 0
 Unless Holds of_text refusal Next answer =
     ((at : ℕ) × IsFirstAt Holds of_text at × (answer ≡ Err (refusal at))) ⊎ (NoneOf Holds of_text × Next answer)
 
-one_unless : (Holds : Placement → Type 0) (of_text : List Placement) (refusal : ℕ → RewriteRefusal) (Next : Claim)
+one_unless : (Holds : Placement → Type 0) (of_text : List Placement) (refusal : ℕ → RewriteRefusal) (Next : Result RewrittenText RewriteRefusal
+    → Type 0)
     → IsOne Next → IsOne (Unless Holds of_text refusal Next)
 one_unless Holds of_text refusal Next one_next first second (inl (at, here, is)) (inl (at', here', is')) =
     is ∙ ap (λ (place : ℕ). Err (refusal place)) (one_first Holds of_text at at' here here') ∙ sym is'
@@ -46,44 +43,19 @@ one_unless Holds of_text refusal Next one_next first second (inr (none, next)) (
 one_unless Holds of_text refusal Next one_next first second (inr (none, next)) (inr (none', next')) =
     one_next first second next next'
 
--- ---- what is left at last
+-- ---- what is made at last
 
-Last : List Placement → Claim
-Last of_text answer =
-    ((at : ℕ) × IsLeftAt (rewritten_text of_text) at × (answer ≡ Err (Left at)))
-    ⊎ (IsFree (rewritten_text of_text) × (answer ≡ Ok (rewritten_text of_text)))
-
-same_pattern : (bytes : List ℕ) (place place' : ℕ) → HasFirstPatternAt bytes place → HasFirstPatternAt bytes place'
-    → place ≡ place'
-same_pattern bytes place place' one other =
-    let no_less : place < place' → ⊥ = λ less. other.1 place less one.0 in
-    let no_more : place' < place → ⊥ = λ less. one.1 place' less other.0 in
-    omega arith
-
-one_left : (made : RewrittenText) (at at' : ℕ) → IsLeftAt made at → IsLeftAt made at' → at ≡ at'
-one_left made at at' (inl (place, stands, is)) (inl (place', stands', is')) =
-    is ∙ ap (λ (one : ℕ). area_address + one) (same_pattern made.area place place' stands stands') ∙ sym is'
-one_left made at at' (inl (place, stands, is)) (inr (none, there)) = absurd (none place stands.0)
-one_left made at at' (inr (none, there)) (inl (place, stands, is)) = absurd (none place stands.0)
-one_left made at at' (inr (none, (place, stands, is))) (inr (none', (place', stands', is'))) =
-    is ∙ ap (λ (one : ℕ). text_address + one) (same_pattern made.text place place' stands stands') ∙ sym is'
-
-not_left : (made : RewrittenText) (at : ℕ) → IsFree made → IsLeftAt made at → ⊥
-not_left made at free (inl (place, stands, is)) = free.0 place stands.0
-not_left made at free (inr (none, (place, stands, is))) = free.1 place stands.0
+Last : List Placement → Result RewrittenText RewriteRefusal → Type 0
+Last of_text answer = answer ≡ Ok (rewritten_text of_text)
 
 one_last : (of_text : List Placement) → IsOne (Last of_text)
 unfolding Last
-one_last of_text first second (inl (at, left, is)) (inl (at', left', is')) =
-    is ∙ ap (λ (place : ℕ). Err (Left place)) (one_left (rewritten_text of_text) at at' left left') ∙ sym is'
-one_last of_text first second (inl (at, left, is)) (inr (free, made)) = absurd (not_left (rewritten_text of_text) at free left)
-one_last of_text first second (inr (free, made)) (inl (at, left, is)) = absurd (not_left (rewritten_text of_text) at free left)
-one_last of_text first second (inr (free, made)) (inr (free', made')) = made ∙ sym made'
+one_last of_text first second made made' = made ∙ sym made'
 
 -- ---- the whole
 
--- jumps first, then what can be moved, then room, then the pattern
-Answer : List Placement → Claim
+-- jumps first, then what can be moved, then room
+Answer : List Placement → Result RewrittenText RewriteRefusal → Type 0
 Answer of_text =
     Unless (HasBadTarget (starts_of of_text)) of_text (λ at. BadTarget at)
     (Unless IsUnmovable of_text (λ at. Unmovable at) (Unless EndsBehindArea of_text (λ at. AreaFull at) (Last of_text)))
@@ -96,7 +68,7 @@ one_of_places of_text =
     (one_unless EndsBehindArea of_text (λ at. AreaFull at) _ (one_last of_text)))
 
 -- an answer is for want of a listing, or about the places of the text
-Told : List ℕ → Claim
+Told : List ℕ → Result RewrittenText RewriteRefusal → Type 0
 Told text answer =
     ((at : ℕ) × IsUndecodedAt text at × (answer ≡ Err (Undecoded at)))
     ⊎ ((of_text : List Placement) × ArePlaces text of_text × Answer of_text answer)
@@ -104,28 +76,13 @@ Told text answer =
 told : (text : List ℕ) (answer : Result RewrittenText RewriteRefusal) → answer ≢ Err Memory → Rewrites text answer
     → Told text answer
 unfolding Told Answer Last
-told text (Ok made) not_memory (of_text, are, fits, is, free) =
-    inr (
-      of_text,
-      are,
-      inr (
-        fits.0.0,
-        inr (
-          fits.0.1,
-          inr (
-            fits.1,
-            inr (subst (λ (one : RewrittenText). IsFree one) is free, ap (λ (one : RewrittenText). Ok one) is),
-          ),
-        ),
-      ),
-    )
+told text (Ok made) not_memory (of_text, are, fits, is) =
+    inr (of_text, are, inr (fits.0.0, inr (fits.0.1, inr (fits.1, ap (λ (one : RewrittenText). Ok one) is))))
 told text (Err (Undecoded at)) not_memory undecoded = inl (at, undecoded, refl)
 told text (Err (BadTarget at)) not_memory (of_text, are, first) = inr (of_text, are, inl (at, first, refl))
 told text (Err (Unmovable at)) not_memory (of_text, are, well, first) = inr (of_text, are, inr (well, inl (at, first, refl)))
 told text (Err (AreaFull at)) not_memory (of_text, are, movable, first) =
     inr (of_text, are, inr (movable.0, inr (movable.1, inl (at, first, refl))))
-told text (Err (Left at)) not_memory (of_text, are, fits, left) =
-    inr (of_text, are, inr (fits.0.0, inr (fits.0.1, inr (fits.1, inl (at, left, refl)))))
 told text (Err Memory) not_memory any = absurd (not_memory refl)
 
 -- a text that has places has a listing

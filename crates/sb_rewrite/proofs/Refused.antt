@@ -4,7 +4,7 @@ use Rattle.std.specs.Prelude.{Contains}
 use Rattle.sb_rewrite.specs.declared.text_insn.TextInsn.{TextInsn}
 use Rattle.sb_rewrite.specs.declared.target.Jump.{Jump}
 use Rattle.sb_rewrite.specs.declared.refusal.RewriteRefusal.{RewriteRefusal}
-use Rattle.sb_rewrite.specs.declared.refusal.RewriteRefusal.TheVariants.{Undecoded, BadTarget, Unmovable, AreaFull, Left, Memory}
+use Rattle.sb_rewrite.specs.declared.refusal.RewriteRefusal.TheVariants.{Undecoded, BadTarget, Unmovable, AreaFull, Memory}
 use Rattle.sb_rewrite.specs.Listing.{IsListing}
 use Rattle.sb_rewrite.specs.Target.{direct_target, IsBadTarget}
 use Rattle.sb_rewrite.specs.Placing.{Placement, place, places, area_address}
@@ -47,7 +47,6 @@ jump_refused text rest draft jumps new text_insn (BadTarget at) so_far is size r
     far_refused text rest draft jumps text_insn so_far is size remembers
 jump_refused text rest draft jumps new text_insn (Unmovable at) so_far is size remembers = absurd remembers
 jump_refused text rest draft jumps new text_insn (AreaFull at) so_far is size remembers = absurd remembers
-jump_refused text rest draft jumps new text_insn (Left at) so_far is size remembers = remembers
 jump_refused text rest draft jumps new text_insn Memory so_far is size remembers = tt
 
 -- nothing is decoded
@@ -76,7 +75,6 @@ put_refused text rest draft new jumps text_insn (AreaFull at) so_far is puts = �
     let first =
     first_so_far text rest draft.starts so_far.partway text_insn is EndsBehindArea so_far.fits ends_behind of_text are in
     subst (λ (address : ℕ). IsFirstAt EndsBehindArea of_text address) (sym puts.0) first
-put_refused text rest draft new jumps text_insn (Left at) so_far is puts = absurd puts
 put_refused text rest draft new jumps text_insn Memory so_far is puts = tt
 
 -- a jump that was remembered leads to no start
@@ -94,7 +92,6 @@ check_refused text rest draft jumps (BadTarget at) so_far none (jump, held, no_s
     (sym (starts_are_placed text rest draft jumps so_far none)) well)
 check_refused text rest draft jumps (Unmovable at) so_far none checks = absurd checks
 check_refused text rest draft jumps (AreaFull at) so_far none checks = absurd checks
-check_refused text rest draft jumps (Left at) so_far none checks = checks
 check_refused text rest draft jumps Memory so_far none checks = absurd checks
 
 -- ---- what comes first
@@ -110,7 +107,6 @@ unmovable_first text (Undecoded at) well checks = absurd checks
 unmovable_first text (BadTarget at) well checks = absurd checks
 unmovable_first text (Unmovable at) well (of_text, are, first) = (of_text, are, well_placed text of_text well are, first)
 unmovable_first text (AreaFull at) well checks = absurd checks
-unmovable_first text (Left at) well checks = absurd checks
 unmovable_first text Memory well checks = absurd checks
 
 -- of what putting meets, only a full area is left, or want of memory
@@ -121,5 +117,4 @@ area_first text starts (BadTarget at) listed well movable put = absurd (put well
 area_first text starts (Unmovable at) listed well movable put = absurd (put movable)
 area_first text starts (AreaFull at) listed well (of_text, are, none) put =
     (of_text, are, (well_placed text of_text well are, none), put of_text are)
-area_first text starts (Left at) listed well movable put = absurd put
 area_first text starts Memory listed well movable put = tt

@@ -23,7 +23,7 @@ starts_between least end at (insn ∷ insns) from to =
 
 -- each start of what a text becomes is the address of one of the text's bytes
 pub starts_in_text : StartsStandInText
-starts_in_text text made (of_text, are, fits, is, free) =
+starts_in_text text made (of_text, are, fits, is) =
     let starts : made.starts ≡ starts_from text_address are.insns =
     ap (λ (one : RewrittenText). one.starts) is ∙ ap (λ (list : List Placement). starts_of list) are.places_are
     ∙ starts_placed text text_address area_address are.insns in

@@ -1,15 +1,14 @@
 -- How a text is rewritten, and why and where it cannot be.
-use Rattle.std.specs.Prelude.{◌≡◌, ◌≢◌, ◌⊎◌, ℕ, ◌+◌, ◌<◌, List, ◌∷◌, ◌++◌, length, Result, Ok, Err}
+use Rattle.std.specs.Prelude.{◌≡◌, ◌≢◌, ℕ, ◌+◌, ◌<◌, ◌≤◌, List, ◌∷◌, ◌++◌, length, Result, Ok, Err}
 use Rattle.std.specs.List.{AllByRecursion}
 use Rattle.sb_insn.specs.declared.insn.Insn.{Insn}
 use Rattle.sb_forms.specs.declared.answer.Form.TheVariants as form
-use Rattle.sb_scan.specs.Pattern.{HasNoPattern, HasFirstPatternAt}
 use Rattle.sb_rewrite.specs.declared.refusal.RewriteRefusal.{RewriteRefusal}
-use Rattle.sb_rewrite.specs.declared.refusal.RewriteRefusal.TheVariants.{Undecoded, BadTarget, Unmovable, AreaFull, Left, Memory}
+use Rattle.sb_rewrite.specs.declared.refusal.RewriteRefusal.TheVariants.{Undecoded, BadTarget, Unmovable, AreaFull, Memory}
 use Rattle.sb_rewrite.specs.Listing.{text_address, spelled_bytes, AllValid, IsUndecodedAt}
 use Rattle.sb_rewrite.specs.Target.{direct_target, IsBadTarget}
-use Rattle.sb_forms.specs.Answers.{area_end}
-use Rattle.sb_rewrite.specs.Placing.{Placement, slot_bytes, places, area_address}
+use Rattle.sb_forms.specs.Answers.{IsClean, area_end}
+use Rattle.sb_rewrite.specs.Placing.{Placement, slot_bytes, places}
 use Rattle.sb_rewrite.specs.RewrittenText.{RewrittenText, rewritten_text, starts_of, RunsAt, IsBetween}
 
 -- ---- what is wrong with an instruction
@@ -63,20 +62,9 @@ IsMovable places = LeadsWell places × NoneOf IsUnmovable places
 abbrev pub FitsArea : List Placement → Type 0
 FitsArea places = IsMovable places × NoneOf EndsBehindArea places
 
--- the bytes of VMFUNC stand nowhere in what was made
-abbrev pub IsFree : RewrittenText → Type 0
-IsFree made = HasNoPattern made.area × HasNoPattern made.text
-
--- they stand first at this address: in the area, or else in the text
-abbrev pub IsLeftAt : RewrittenText → ℕ → Type 0
-IsLeftAt made at =
-    ((place : ℕ) × HasFirstPatternAt made.area place × (at ≡ area_address + place))
-    ⊎ (HasNoPattern made.area × ((place : ℕ) × HasFirstPatternAt made.text place × (at ≡ text_address + place)))
-
 -- What rewriting answers. The cases exclude each other, but for want of memory.
 abbrev pub Rewrites : List ℕ → Result RewrittenText RewriteRefusal → Type 0
 Rewrites text (Ok made) = (of_text : List Placement) × ArePlaces text of_text × FitsArea of_text × (made ≡ rewritten_text of_text)
-    × IsFree made
 Rewrites text (Err (Undecoded at)) = IsUndecodedAt text at
 Rewrites text (Err (BadTarget at)) =
     (of_text : List Placement) × ArePlaces text of_text × IsFirstAt (HasBadTarget (starts_of of_text)) of_text at
@@ -84,9 +72,17 @@ Rewrites text (Err (Unmovable at)) =
     (of_text : List Placement) × ArePlaces text of_text × LeadsWell of_text × IsFirstAt IsUnmovable of_text at
 Rewrites text (Err (AreaFull at)) =
     (of_text : List Placement) × ArePlaces text of_text × IsMovable of_text × IsFirstAt EndsBehindArea of_text at
-Rewrites text (Err (Left at)) =
-    (of_text : List Placement) × ArePlaces text of_text × FitsArea of_text × IsLeftAt (rewritten_text of_text) at
 Rewrites text (Err Memory) = Unit {0}
+
+-- ---- the bytes of VMFUNC
+
+-- They stand neither in the text nor in the area, and bytes CC around one of them do not make them.
+abbrev pub IsFree : RewrittenText → Type 0
+IsFree made = IsClean made.text × IsClean made.area
+
+-- they stand nowhere in what a text becomes
+abbrev pub LeavesNone : Type 0
+LeavesNone = (text : List ℕ) (made : RewrittenText) → length text ≤ 2097152 → Rewrites text (Ok made) → IsFree made
 
 -- ---- how long what is made is
 

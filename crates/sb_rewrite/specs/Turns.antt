@@ -5,7 +5,7 @@ use Rattle.sb_insn.specs.Spelling.{spelling}
 use Rattle.sb_insn.specs.Grammar.{IsValid, BeginsWith}
 use Rattle.sb_rewrite.specs.declared.text_insn.TextInsn.{TextInsn}
 use Rattle.sb_rewrite.specs.declared.refusal.RewriteRefusal.{RewriteRefusal}
-use Rattle.sb_rewrite.specs.declared.refusal.RewriteRefusal.TheVariants.{Undecoded, BadTarget, Unmovable, AreaFull, Left, Memory}
+use Rattle.sb_rewrite.specs.declared.refusal.RewriteRefusal.TheVariants.{Undecoded, BadTarget, Unmovable, AreaFull, Memory}
 use Rattle.sb_rewrite.specs.declared.target.Jump.{Jump}
 use Rattle.sb_rewrite.specs.Listing.{text_address, IsUndecodedAt}
 use Rattle.sb_rewrite.specs.Target.{direct_target}
@@ -15,7 +15,7 @@ use Rattle.sb_forms.specs.declared.answer.Form.{Form}
 use Rattle.sb_forms.specs.declared.answer.Form.TheVariants as form
 use Rattle.sb_rewrite.specs.Placing.{Placement, area_address, place}
 use Rattle.sb_rewrite.specs.RewrittenText.{RewrittenText, rewritten_text, starts_of, text_bytes, area_bytes, edits_of, moves_of}
-use Rattle.sb_rewrite.specs.Rewriting.{HasBadTarget, IsUnmovable, EndsBehindArea, NoneOf, IsFirstAt, ArePlaces, LeadsWell, FitsArea, IsFree, IsLeftAt}
+use Rattle.sb_rewrite.specs.Rewriting.{HasBadTarget, IsUnmovable, EndsBehindArea, NoneOf, IsFirstAt, ArePlaces, LeadsWell, FitsArea}
 
 -- ---- an instruction
 
@@ -81,7 +81,6 @@ Puts old new place (Err (Undecoded at)) = ⊥
 Puts old new place (Err (BadTarget at)) = ⊥
 Puts old new place (Err (Unmovable at)) = (at ≡ place.at) × IsUnmovable place
 Puts old new place (Err (AreaFull at)) = (at ≡ place.at) × ¬ IsUnmovable place × EndsBehindArea place
-Puts old new place (Err (Left at)) = ⊥
 Puts old new place (Err Memory) = Unit {0}
 
 -- ---- where a direct jump or call leads before all starts are known
@@ -110,7 +109,6 @@ Remembers old new text_insn (Err Memory) = Unit {0}
 Remembers old new text_insn (Err (Undecoded at)) = ⊥
 Remembers old new text_insn (Err (Unmovable at)) = ⊥
 Remembers old new text_insn (Err (AreaFull at)) = ⊥
-Remembers old new text_insn (Err (Left at)) = ⊥
 
 -- all remembered jumps lead to starts, or one does not
 abbrev pub ChecksJumps : List Jump → List ℕ → Result (Unit {0}) RewriteRefusal → Type 0
@@ -119,7 +117,6 @@ ChecksJumps jumps starts (Err (BadTarget at)) = (jump : Jump) × Contains jumps 
 ChecksJumps jumps starts (Err (Undecoded at)) = ⊥
 ChecksJumps jumps starts (Err (Unmovable at)) = ⊥
 ChecksJumps jumps starts (Err (AreaFull at)) = ⊥
-ChecksJumps jumps starts (Err (Left at)) = ⊥
 ChecksJumps jumps starts (Err Memory) = ⊥
 
 -- ---- a whole text
@@ -138,7 +135,6 @@ ChecksTargets text (Err (BadTarget at)) = IsFirstOf (λ of_text. HasBadTarget (s
 ChecksTargets text (Err (Undecoded at)) = ⊥
 ChecksTargets text (Err (Unmovable at)) = ⊥
 ChecksTargets text (Err (AreaFull at)) = ⊥
-ChecksTargets text (Err (Left at)) = ⊥
 ChecksTargets text (Err Memory) = ⊥
 
 -- something can stand in place of each instruction of the text
@@ -151,7 +147,6 @@ ChecksMovable text (Err (Unmovable at)) = IsFirstOf (λ of_text. IsUnmovable) te
 ChecksMovable text (Err (Undecoded at)) = ⊥
 ChecksMovable text (Err (BadTarget at)) = ⊥
 ChecksMovable text (Err (AreaFull at)) = ⊥
-ChecksMovable text (Err (Left at)) = ⊥
 ChecksMovable text (Err Memory) = ⊥
 
 -- What stands in place of the instructions, where it all can be put.
@@ -164,16 +159,8 @@ IsPutRefusal text (Undecoded at) = IsUndecodedAt text at
 IsPutRefusal text (BadTarget at) = ¬ JumpsLeadWell text
 IsPutRefusal text (Unmovable at) = ¬ AllMovable text
 IsPutRefusal text (AreaFull at) = (of_text : List Placement) → ArePlaces text of_text → IsFirstAt EndsBehindArea of_text at
-IsPutRefusal text (Left at) = ⊥
 IsPutRefusal text Memory = Unit {0}
 
 abbrev pub PutsAll : List ℕ → Result RewrittenText RewriteRefusal → Type 0
 PutsAll text (Ok draft) = IsAllPut text draft
 PutsAll text (Err refusal) = IsPutRefusal text refusal
-
--- ---- what was made
-
--- the first address at which the bytes of VMFUNC stand, None where they stand nowhere
-abbrev pub IsFirstLeft : RewrittenText → Option ℕ → Type 0
-IsFirstLeft made (Some at) = IsLeftAt made at
-IsFirstLeft made None = IsFree made

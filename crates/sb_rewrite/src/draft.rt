@@ -9,7 +9,7 @@ ghost use Rattle.sb_forms.specs.Places.{text_end};
 ghost use Rattle.sb_rewrite.specs.Listing.{text_address};
 ghost use Rattle.sb_rewrite.specs.Placing.{area_address};
 ghost use Rattle.sb_rewrite.specs.RewrittenText.{IsOrdered};
-ghost use Rattle.sb_rewrite.specs.Turns.{IsTextInsn, started, keep, moved, in_place, next_place, with_start, Puts, IsFirstLeft};
+ghost use Rattle.sb_rewrite.specs.Turns.{IsTextInsn, started, keep, moved, in_place, next_place, with_start, Puts};
 
 use crate::edit::{Edit, Move};
 use crate::refusal::RewriteRefusal;
@@ -19,7 +19,6 @@ use crate::text_insn::TextInsn;
 use sb_abi::{AREA_ADDRESS, AREA_PAGES, TEXT_ADDRESS};
 use sb_forms::{Code, Form, jump_code};
 use sb_memory::PAGE_SIZE;
-use sb_scan::find_pattern;
 use std::alloc::{AllocError, Global};
 use std::marker::Model;
 
@@ -192,16 +191,6 @@ impl Draft {
             Form::Unmovable => return Err(RewriteRefusal::Unmovable { at: text_insn.at }),
         }
         Ok(())
-    }
-
-    /// The first address at which the bytes of VMFUNC stand: in the area, or else in the text.
-    pub fn first_pattern(&self) -> Option<u64>
-        ensures { IsFirstLeft self.now result }
-    {
-        match find_pattern(&self.area) {
-            Some(place) => Some(AREA_ADDRESS + place as u64),
-            None => find_pattern(&self.text).map(|place| TEXT_ADDRESS + place as u64),
-        }
     }
 
     /// What was made, where it is all.

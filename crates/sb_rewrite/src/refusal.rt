@@ -34,9 +34,6 @@ pub enum RewriteRefusal {
     /// The slot of the instruction at this address would end behind the rewrite area.
     #[error("no room is left for the slot of the instruction at {at:x}")]
     AreaFull { at: u64 },
-    /// The bytes of VMFUNC stand at this address of what was made.
-    #[error("the bytes of VMFUNC are left at {at:x}")]
-    Left { at: u64 },
     /// Memory ran out, which says nothing of the text.
     #[error("out of memory")]
     Memory,

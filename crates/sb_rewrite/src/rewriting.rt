@@ -6,7 +6,7 @@ ghost use Rattle.sb_forms.specs.Places.{HasForm};
 ghost use Rattle.sb_rewrite.specs.Listing.{text_address, IsListing};
 ghost use Rattle.sb_rewrite.specs.Placing.{is_after_0f};
 ghost use Rattle.sb_rewrite.specs.Turns.{IsTextInsn, JumpsLeadWell, ChecksTargets, ChecksMovable, with_start, place_by_table, Puts, IsPutRefusal, PutsAll};
-ghost use Rattle.sb_rewrite.specs.Rewriting.{Rewrites, KeepsLength, StartsStandInText, OneRewriting, OneOriginal};
+ghost use Rattle.sb_rewrite.specs.Rewriting.{Rewrites, LeavesNone, KeepsLength, StartsStandInText, OneRewriting, OneOriginal};
 
 use crate::draft::Draft;
 use crate::listing::{Listing, list};
@@ -148,9 +148,8 @@ fn first_refusal(alloc: Global, text: &[u8], met: RewriteRefusal) -> RewriteRefu
 ///
 /// In this order, each at the first such address: `Undecoded` where no whole instruction stands behind whole ones;
 /// `BadTarget` where a direct jump or call leads neither to an instruction of the text nor into the trampoline page;
-/// `Unmovable` where nothing can stand in place of an instruction; `AreaFull` where a slot would end behind the area;
-/// `Left` where the bytes of VMFUNC stand in what was made, in the area first. `Memory` where memory ran out, in place
-/// of any answer.
+/// `Unmovable` where nothing can stand in place of an instruction; `AreaFull` where a slot would end behind the area.
+/// `Memory` where memory ran out, in place of any answer.
 pub fn rewrite(alloc: Global, text: &[u8]) -> Result<Rewritten, RewriteRefusal>
     requires { length text.now ≤ 2097152 }
     ensures answer { Rewrites text.now result }
@@ -159,15 +158,16 @@ pub fn rewrite(alloc: Global, text: &[u8]) -> Result<Rewritten, RewriteRefusal>
     ensures text { IfOk result (λ made. IsClean made.text) }
     ensures area { IfOk result (λ made. IsClean made.area) }
 {
-    let draft = match put_all(alloc, text) {
-        Ok(draft) => draft,
-        Err(met) => return Err(first_refusal(alloc, text, met)),
-    };
-    match draft.first_pattern() {
-        Some(at) => Err(RewriteRefusal::Left { at }),
-        None => Ok(draft.finish()),
+    match put_all(alloc, text) {
+        Ok(draft) => Ok(draft.finish()),
+        Err(met) => Err(first_refusal(alloc, text, met)),
     }
 }
+
+/// A law, which does nothing when it is called: the bytes of VMFUNC stand nowhere in what a text becomes.
+pub fn rewriting_leaves_none()
+    ensures { LeavesNone }
+{}
 
 /// A law, which does nothing when it is called: what a text becomes has as many bytes as the text.
 pub fn rewriting_keeps_length()

@@ -1,24 +1,22 @@
 -- A text whose instructions all stay as they are.
-use Rattle.std.specs.Prelude.{◌≡◌, ℕ, ◌+◌, Bool, false, List, [], ◌∷◌, ◌++◌, length, flat_map, Ok}
+use Rattle.std.specs.Prelude.{◌≡◌, ℕ, ◌+◌, Bool, false, List, [], ◌∷◌, length, Ok}
 use Rattle.std.specs.List.{AllByRecursion}
-use Rattle.std.proofs.Common.{refl, sym, ap, subst, arith}
-use Rattle.std.proofs.lemmas.List.{append-nil}
+use Rattle.std.proofs.Common.{refl, sym, ap, arith}
 use Rattle.sb_insn.specs.declared.insn.Insn.{Insn}
 use Rattle.sb_insn.specs.Spelling.{spelling}
-use Rattle.sb_scan.specs.Pattern.{HasNoPattern}
+use Rattle.sb_scan.specs.Holding.{holds_pattern}
 use Rattle.sb_forms.specs.declared.answer.Form.TheVariants as form
 use Rattle.sb_forms.specs.Table.{is_vmfunc, is_add_esp_edx, replacement, form_of}
-use Rattle.sb_forms.proofs.Quiet.{IsQuiet, AreQuiet, in_place_clean}
 use Rattle.sb_rewrite.specs.Listing.{text_address, spelled_bytes, AllValid}
 use Rattle.sb_rewrite.specs.Placing.{Placement, places_from, area_address, is_after_0f}
-use Rattle.sb_rewrite.specs.RewrittenText.{rewritten_text, text_bytes, area_bytes}
+use Rattle.sb_rewrite.specs.RewrittenText.{rewritten_text}
 use Rattle.sb_rewrite.specs.Rewriting.{NoneOf, IsUnmovable, EndsBehindArea, LeadsWell, Rewrites}
 
--- The instruction is neither VMFUNC nor the end of its bytes, and they cannot begin before it and end in it.
+-- The instruction is neither VMFUNC nor the end of its bytes, and does not hold them.
 pub record IsPlain (insn : Insn) : Type 0 where
   pub other : is_vmfunc insn.op ≡ false
   pub apart : is_add_esp_edx insn ≡ false
-  pub quiet : IsQuiet (spelling insn)
+  pub none : holds_pattern (spelling insn) ≡ false
 
 abbrev pub AllPlain : List Insn → Type 0
 AllPlain insns = AllByRecursion IsPlain insns
@@ -39,7 +37,7 @@ kept insns = kept_from text_address insns
 -- a plain instruction is kept, wherever it stands
 stays : (insn : Insn) (at slot : ℕ) (after_0f : Bool) → IsPlain insn → form_of insn at slot after_0f ≡ form.Keep
 unfolding form_of replacement
-stays insn at slot after_0f plain = rw (plain.other, plain.apart, plain.quiet.none) refl
+stays insn at slot after_0f plain = rw (plain.other, plain.apart, plain.none) refl
 
 -- so no slot is made before the next one
 all_stay : (text : List ℕ) (at : ℕ) (insns : List Insn) → AllPlain insns
@@ -62,27 +60,6 @@ none_behind : (at : ℕ) (insns : List Insn) → NoneOf EndsBehindArea (kept_fro
 none_behind at [] = tt
 none_behind at (insn ∷ insns) = (λ is. omega (arith, is), none_behind (at + length (spelling insn)) insns)
 
--- their bytes are those of the text
-text_kept : (at : ℕ) (insns : List Insn) → flat_map text_bytes (kept_from at insns) ≡ spelled_bytes insns
-text_kept at [] = refl
-text_kept at (insn ∷ insns) = ap (λ (rest : List ℕ). spelling insn ++ rest) (text_kept (at + length (spelling insn)) insns)
-
--- and the area has none
-area_empty : (at : ℕ) (insns : List Insn) → flat_map area_bytes (kept_from at insns) ≡ []
-area_empty at [] = refl
-area_empty at (insn ∷ insns) = area_empty (at + length (spelling insn)) insns
-
--- ---- the bytes of VMFUNC stand nowhere
-
--- the bytes do not stand in one instruction nor across its prefix
-all_quiet : (insns : List Insn) → AllPlain insns → AreQuiet insns
-all_quiet [] plain = tt
-all_quiet (insn ∷ insns) plain = (plain.0.quiet, all_quiet insns plain.1)
-
--- and so not in the text
-none_in : (insns : List Insn) → AllPlain insns → HasNoPattern (spelled_bytes insns)
-none_in insns plain = subst HasNoPattern (append-nil (spelled_bytes insns)) (in_place_clean insns (all_quiet insns plain) 0 0)
-
 -- plain instructions whose jumps lead well are rewritten to themselves
 pub rewrites_kept : (text : List ℕ) (insns : List Insn) → text ≡ spelled_bytes insns → AllValid insns → AllPlain insns
     → LeadsWell (kept insns)
@@ -92,8 +69,4 @@ rewrites_kept text insns whole valid plain leads = (
   record { insns = insns; valid = valid; whole = whole; places_are = sym (all_stay text text_address insns plain) },
   ((leads, none_unmovable text_address insns), none_behind text_address insns),
   refl,
-  (
-    subst HasNoPattern (sym (area_empty text_address insns)) (in_place_clean [] tt 0 0),
-    subst HasNoPattern (sym (text_kept text_address insns)) (none_in insns plain),
-  ),
 )
