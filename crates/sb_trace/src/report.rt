@@ -1,18 +1,62 @@
 //! The text of the report.
 
-ghost use Rattle.std.specs.Prelude.{◌≡◌, ◌++◌, OnOk, IfOk, string_bytes};
-ghost use Rattle.sb_trace.specs.Report.{lines_text, thread_line, regs_line, registers_text, flight_line, thread_text, threads_text, counts_text, report_text};
+ghost use Rattle.std.specs.Prelude.{◌≡◌, ◌++◌, OnOk, IfOk, codes, string_bytes};
+ghost use Rattle.sb_state.specs.EndText.{hex};
+ghost use Rattle.sb_trace.specs.EventText.{phase_text};
+ghost use Rattle.sb_trace.specs.Report.{line_feed, whole_line, lines_text, thread_line, regs_line, registers_text, flight_line, thread_text, threads_text, counts_text, report_text};
 
 use crate::end::{EndState, ThreadEnd};
-use crate::event::{Line, Lines};
+use crate::event::{Event, Line, Lines};
+use sb_abi::VMFUNC_PHASE;
 use sb_insn::Regs;
+use sb_text::{push_decimal, push_hex};
 use std::alloc::{AllocError, Global};
+
+/// As many bytes as most lines have.
+const LINE_SIZE: usize = 14;
+
+/// Puts words, an address behind them, and a line feed.
+fn push_address_line(out: &mut String, words: &str, at: u64) -> Result<(), AllocError>
+    ensures { OnOk result (string_bytes out.new ≡ string_bytes out.old ++ (words.now ++ (hex at ++ line_feed))) }
+{
+    out.push_str(words)?;
+    push_hex(out, at)?;
+    out.push_str("\n")
+}
+
+/// Puts the rest of the line of a landing, behind its core.
+fn push_landing(out: &mut String, phase: u8) -> Result<(), AllocError>
+    ensures { OnOk result (string_bytes out.new ≡ string_bytes out.old ++ (codes " landing " ++ (phase_text phase ++ line_feed))) }
+{
+    out.push_str(" landing ")?;
+    match phase {
+        VMFUNC_PHASE => out.push_str("v")?,
+        number => push_decimal(out, u64::from(number))?,
+    }
+    out.push_str("\n")
+}
+
+/// Puts the line of one step. The lines of which a run has most go without a formatter.
+fn push_line(out: &mut String, line: &Line) -> Result<(), AllocError>
+    ensures { OnOk result (string_bytes out.new ≡ string_bytes out.old ++ whole_line line.now) }
+{
+    push_decimal(out, u64::from(line.core))?;
+    match line.event {
+        Event::Step { rip } => push_address_line(out, " step ", rip),
+        Event::Extra { rip } => push_address_line(out, " extra ", rip),
+        Event::Stray { rip } => push_address_line(out, " stray ", rip),
+        Event::Landing { phase } => push_landing(out, phase),
+        Event::Return => out.push_str(" return\n"),
+        Event::Idle => out.push_str(" idle\n"),
+        event => writeln!(out, " {event}"),
+    }
+}
 
 fn push_lines(out: &mut String, lines: &[Line]) -> Result<(), AllocError>
     ensures { OnOk result (string_bytes out.new ≡ string_bytes out.old ++ lines_text lines.now) }
 {
     for line in lines {
-        writeln!(out, "{line}")?;
+        push_line(out, line)?;
     }
     Ok(())
 }
@@ -90,7 +134,7 @@ fn push_counts(out: &mut String, end: &EndState) -> Result<(), AllocError>
 pub fn report_text(alloc: Global, lines: &Lines, end: &EndState) -> Result<String, AllocError>
     ensures { IfOk result (λ text. string_bytes text ≡ report_text lines.now end.now) }
 {
-    let mut out = String::new(alloc);
+    let mut out = String::with_capacity(alloc, lines.items().len().saturating_mul(LINE_SIZE))?;
     out.push_str("skybridge report 1\n")?;
     push_lines(&mut out, lines.items())?;
     push_threads(&mut out, end.threads.items())?;

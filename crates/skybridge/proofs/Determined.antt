@@ -13,9 +13,9 @@ use Rattle.skybridge.specs.declared.words.BundleCommand.{BundleCommand}
 use Rattle.skybridge.specs.declared.words.BundleCommand.TheVariants.{Replay, Plain, Check, Rewrite}
 use Rattle.skybridge.specs.CommandText.{check_text, rewrite_text, IsCommandText}
 use Rattle.skybridge.specs.Runs.{IsTextOfBundleRun}
-use Rattle.skybridge.specs.Generator.{generated}
-use Rattle.skybridge.specs.Summary.{summary_text, IsSummary}
-use Rattle.skybridge.specs.Output.{IsOutput}
+use Rattle.sb_generator.specs.Generator.{generated}
+use Rattle.sb_generator.specs.Summary.{summary_text}
+use Rattle.skybridge.specs.Output.{IsSummary, IsOutput}
 
 one_run_text : (text_of : List Line → EndState → List ℕ) (bundle : Bundle) (text other : List ℕ)
     → IsTextOfBundleRun text_of bundle text → IsTextOfBundleRun text_of bundle other → text ≡ other

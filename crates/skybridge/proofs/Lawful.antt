@@ -6,8 +6,8 @@ use Rattle.sb_trace.proofs.Texts.{texts_are_of_lawful_runs, reports_are_of_lawfu
 use Rattle.sb_plain.proofs.FirstSound.{first_sound}
 use Rattle.skybridge.specs.declared.words.BundleCommand.{BundleCommand}
 use Rattle.skybridge.specs.declared.words.BundleCommand.TheVariants.{Replay, Plain, Check, Rewrite}
-use Rattle.skybridge.specs.Summary.{IsSummary, summary_text}
-use Rattle.skybridge.specs.Output.{IsReport, IsOutput}
+use Rattle.sb_generator.specs.Summary.{summary_text}
+use Rattle.skybridge.specs.Output.{IsReport, IsSummary, IsOutput}
 use Rattle.skybridge.specs.Lawful.{IsLawfulReport, IsLawfulOutput, IsLawfulSummary}
 
 lawful_report : (bundle : Bundle) (text : List ℕ) → IsReport bundle text → IsLawfulReport bundle text

@@ -4,10 +4,3 @@ pub mod Apart
 pub mod Limit
 pub mod Lawful
 pub mod Numbers
-pub mod TextInsns
-pub mod Kept
-pub mod Jumps
-pub mod KeptTexts
-pub mod Loadable
-pub mod Drawn
-pub mod GeneratedBundle

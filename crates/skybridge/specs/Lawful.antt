@@ -10,8 +10,8 @@ use Rattle.skybridge.specs.declared.words.Command.TheVariants.{OfBundle, Generat
 use Rattle.skybridge.specs.declared.words.BundleCommand.{BundleCommand}
 use Rattle.skybridge.specs.declared.words.BundleCommand.TheVariants.{Replay, Plain, Check, Rewrite}
 use Rattle.skybridge.specs.Words.{AreWordsOf}
-use Rattle.skybridge.specs.Generator.{generated}
-use Rattle.skybridge.specs.Summary.{summary_text}
+use Rattle.sb_generator.specs.Generator.{generated}
+use Rattle.sb_generator.specs.Summary.{summary_text}
 use Rattle.skybridge.specs.Output.{IsOutput, IsMade, ReportedAs}
 
 -- The report of a run of the bundle of which the laws hold. Without its landing lines the run is one of the machine that calls

@@ -3,8 +3,8 @@ pub mod Lines
 pub mod Input
 pub mod CommandText
 pub mod Runs
-pub mod Generator
-pub mod Summary
+pub use Rattle.sb_generator.specs.Generator
+pub use Rattle.sb_generator.specs.Summary
 pub mod Output
 pub mod Answer
 pub mod Lawful

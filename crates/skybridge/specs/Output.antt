@@ -12,8 +12,8 @@ use Rattle.skybridge.specs.declared.words.BundleCommand.{BundleCommand}
 use Rattle.skybridge.specs.declared.words.BundleCommand.TheVariants.{Replay, Plain, Check, Rewrite}
 use Rattle.skybridge.specs.Words.{AreWordsOf}
 use Rattle.skybridge.specs.Runs.{IsTextOfBundleRun}
-use Rattle.skybridge.specs.Generator.{generated}
-use Rattle.skybridge.specs.Summary.{IsSummary}
+use Rattle.sb_generator.specs.Generator.{generated}
+use Rattle.sb_generator.specs.Summary.{summary_text}
 use Rattle.skybridge.specs.CommandText.{check_text, rewrite_text, IsCommandText}
 use Rattle.skybridge.specs.Lines.{bundle_line, load_line}
 use Rattle.skybridge.specs.Input.{IsAccepted, IsNoBundle, IsNotLoadable}
@@ -21,6 +21,10 @@ use Rattle.skybridge.specs.Input.{IsAccepted, IsNoBundle, IsNotLoadable}
 -- The text is the report of the plain machine's run on the bundle's schedule.
 abbrev pub IsReport : Bundle → List ℕ → Type 0
 IsReport bundle text = IsTextOfBundleRun report_text bundle text
+
+-- The text is the summary of the plain machine's run of the generated bundle.
+abbrev pub IsSummary : ℕ → List ℕ → Type 0
+IsSummary number text = IsTextOfBundleRun (summary_text number) (generated number) text
 
 -- ---- bytes that may be told
 

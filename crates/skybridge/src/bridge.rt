@@ -5,11 +5,10 @@ ghost use Rattle.sb_port.specs.Port.{Rose, TookFirst, Appended};
 ghost use Rattle.sb_bundle.specs.declared.bundle.Bundle.{Bundle};
 ghost use Rattle.skybridge.specs.Input.{input_limit, IsTooLong, SomeNoBundle, SomeNotLoadable, SomeAccepted};
 ghost use Rattle.skybridge.specs.declared.words.BundleCommand.{BundleCommand};
-ghost use Rattle.skybridge.specs.Output.{IsOutput, IsTold, WhereTold, PartlyAppended, ReportedAs, PartlyReported, Wrote, PartlyWrote, RefusedBundle, RefusedLoad, WritesLine};
+ghost use Rattle.skybridge.specs.Output.{IsOutput, IsSummary, IsTold, WhereTold, PartlyAppended, ReportedAs, PartlyReported, Wrote, PartlyWrote, RefusedBundle, RefusedLoad, WritesLine};
 ghost use Rattle.skybridge.specs.Lawful.{IsLawfulOutput, WroteLawfully};
 ghost use Rattle.skybridge.specs.Words.{IsCommand, ReadsBundle, word_texts};
 ghost use Rattle.skybridge.specs.Status.{IsOwn, exit_status};
-ghost use Rattle.skybridge.specs.Summary.{IsSummary};
 ghost use Rattle.skybridge.specs.Lines.{usage_line, read_fault_line, too_long_line};
 
 use crate::bundle_commands::{Refusal, output_of};

@@ -36,7 +36,7 @@ pub enum Refusal {
 fn run(alloc: Global, plain: &mut Plain, schedule: &[u8]) -> Result<Lines, AllocError>
     ensures { IfOk result (λ lines. RunBy Steps plain.old schedule.now lines plain.new) }
 {
-    let mut lines = Vec::new(alloc);
+    let mut lines = Vec::with_capacity(alloc, schedule.len())?;
     for core in schedule {
         lines.push(plain.step(*core))?;
     }

@@ -1,12 +1,14 @@
 //! What `check` and `rewrite` write.
 
-ghost use Rattle.std.specs.Prelude.{◌≡◌, ◌++◌, IfOk, OnOk, take, drop, flat_map, string_bytes};
+ghost use Rattle.std.specs.Prelude.{◌≡◌, ◌++◌, IfOk, OnOk, take, drop, flat_map, codes, string_bytes};
+ghost use Rattle.sb_state.specs.EndText.{hex};
 ghost use Rattle.skybridge.specs.CommandText.{check_text, bytes_text, bytes_at, slot_text, edit_text, process_text, processes_text, rewrite_text};
 
 use sb_abi::KEPT_FRAMES;
 use sb_bundle::Image;
 use sb_load::Loaded;
 use sb_rewrite::{AREA_ADDRESS, Edit, Rewritten, TEXT_ADDRESS};
+use sb_text::{push_hex, push_hex_digit};
 use std::alloc::{AllocError, Global};
 
 /// The line of `check`: `ok`, the frames that the bundle takes, and those that it has.
@@ -43,10 +45,19 @@ fn push_bytes(out: &mut String, bytes: &[u8]) -> Result<(), AllocError>
     ensures { OnOk result (string_bytes out.new ≡ string_bytes out.old ++ bytes_text bytes.now) }
 {
     for byte in bytes {
-        let (high, low) = (*byte / 16, *byte % 16);
-        write!(out, "{high:x}{low:x}")?;
+        push_hex_digit(out, *byte / 16)?;
+        push_hex_digit(out, *byte % 16)?;
     }
     Ok(())
+}
+
+/// Puts words, an address behind them, and a blank.
+fn push_address(out: &mut String, words: &str, at: u64) -> Result<(), AllocError>
+    ensures { OnOk result (string_bytes out.new ≡ string_bytes out.old ++ (words.now ++ (hex at ++ codes " "))) }
+{
+    out.push_str(words)?;
+    push_hex(out, at)?;
+    out.push_str(" ")
 }
 
 fn push_slot(out: &mut String, area: &[u8], slot: Option<(u64, u8)>) -> Result<(), AllocError>
@@ -55,7 +66,7 @@ fn push_slot(out: &mut String, area: &[u8], slot: Option<(u64, u8)>) -> Result<(
     let Some((at, size)) = slot else {
         return Ok(());
     };
-    write!(out, "slot {at:x} ")?;
+    push_address(out, "slot ", at)?;
     push_bytes(out, bytes_at(area, AREA_ADDRESS, at, size))?;
     out.push_str("\n")
 }
@@ -65,7 +76,7 @@ fn push_edit(out: &mut String, text: &[u8], made: &Rewritten, edit: &Edit) -> Re
     ensures { OnOk result (string_bytes out.new ≡ string_bytes out.old ++ edit_text text.now made.now edit.now) }
 {
     let at = edit.at;
-    write!(out, "edit {at:x} ")?;
+    push_address(out, "edit ", at)?;
     push_bytes(out, bytes_at(text, TEXT_ADDRESS, at, edit.old_len))?;
     out.push_str(" ")?;
     push_bytes(out, bytes_at(made.text(), TEXT_ADDRESS, at, edit.old_len))?;

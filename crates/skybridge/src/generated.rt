@@ -1,34 +1,15 @@
 //! What the commands write that read no bundle, but for the help text.
 
-ghost use Rattle.std.specs.Prelude.{◌≡◌, IfOk, Ok, string_bytes};
+ghost use Rattle.std.specs.Prelude.{◌≡◌, IfOk, string_bytes};
 ghost use Rattle.sb_bundle.specs.Spelling.{spelling};
-ghost use Rattle.sb_load.specs.Loading.{Loads};
-ghost use Rattle.skybridge.specs.Generator.{generated};
-ghost use Rattle.skybridge.specs.Summary.{IsSummary};
+ghost use Rattle.sb_generator.specs.Generator.{generated};
+ghost use Rattle.skybridge.specs.Output.{IsSummary};
 ghost use Rattle.skybridge.specs.Lawful.{IsLawfulSummary};
 
 use crate::bundle_commands::whole_run;
-use crate::generator::gen_bundle;
-use crate::summary::summary_text;
 use sb_bundle::write_bundle;
-use sb_load::{LoadRefusal, Loaded, load};
+use sb_generator::{gen_bundle, load_generated, summary_text};
 use std::alloc::{AllocError, Global};
-
-/// What is loaded of the bundle that is generated from the number.
-#[tactic(auto, using(crate::proofs::Loadable::only_memory))]
-fn load_generated(alloc: Global, number: u64) -> Result<Loaded, AllocError>
-    ensures { IfOk result (λ loaded. Loads (generated number) (Ok loaded)) }
-{
-    let bundle = gen_bundle(alloc, number)?;
-    match load(alloc, &bundle) {
-        Ok(loaded) => Ok(loaded),
-        Err(why) => {
-            // The loader accepts each generated bundle.
-            prove!(matches!(why, LoadRefusal::Memory));
-            Err(AllocError)
-        }
-    }
-}
 
 /// The summary of the run of that bundle.
 #[tactic(auto, using(crate::proofs::Lawful::lawful_summary))]

@@ -5,9 +5,9 @@
 //!
 //! The way through: `words` (which command), `bridge` (reading, writing and statuses), `bundle_commands` (from the bytes of an
 //! input to what the command writes), `command_text` (the text of `check` and `rewrite`), `refusal_lines` (the lines of the
-//! refusals). For commands that read nothing: `generator` (the generated bundle), `generated` (what is written of it),
-//! `summary` (the text of `gen`), `help` (that of `--help`). What they call: `sb_bundle` reads and writes bundles, `sb_load`
-//! rewrites a bundle's texts and says whether it can be loaded, `sb_plain` runs it, and `sb_trace` writes the report.
+//! refusals). For commands that read nothing: `generated` (what is written of the generated bundle), `help` (the text of
+//! `--help`). What they call: `sb_bundle` reads and writes bundles, `sb_load` rewrites a bundle's texts and says whether it
+//! can be loaded, `sb_plain` runs it, `sb_trace` writes the report, and `sb_generator` makes a bundle from a number.
 //!
 //! ```text
 //! skybridge replay < five.bundle
@@ -19,17 +19,15 @@ mod bridge;
 mod bundle_commands;
 mod command_text;
 mod generated;
-mod generator;
 mod help;
 mod refusal_lines;
-mod summary;
 #[cfg(test)]
 mod tests;
 mod words;
 
 pub use bridge::{Status, bridge, one_output};
 pub use bundle_commands::{Refusal, output_of};
-pub use generator::{gen_bundle, generated_is_loadable};
+pub use sb_generator::{gen_bundle, generated_is_loadable};
 use sb_port::{ReadSource, WriteSink};
 use std::alloc::{AllocError, Global};
 use std::io::ErrorKind;

@@ -1,6 +1,0 @@
-use Rattle.std.proofs.Common.{◌≡◌}
-use Rattle.skybridge.specs.Generator.{cores_of}
-use Rattle.skybridge.proofs.generator.cores.Given as goal
-
-abbrev pub invariant-loop-process : goal.invariant-loop-process
-invariant-loop-process l = l.cores.items ≡ cores_of l.process

@@ -1,6 +1,0 @@
-use Rattle.skybridge.proofs.GeneratedBundle.{generated_is_bundle}
-use Rattle.skybridge.proofs.Loadable.{is_loadable}
-use Rattle.skybridge.proofs.generator.generated_is_loadable.Goals as goal
-
-pub returns : goal.returns
-returns c = λ number. is_loadable number (generated_is_bundle number)

@@ -1,6 +1,0 @@
-use Rattle.std.proofs.Common.{◌≡◌, replicate}
-use Rattle.skybridge.specs.Generator.{server_image}
-use Rattle.skybridge.proofs.generator.images.Given as goal
-
-abbrev pub invariant-loop : goal.invariant-loop
-invariant-loop l = l.images.items ≡ replicate l.counter server_image

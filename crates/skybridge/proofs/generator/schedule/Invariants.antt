@@ -1,9 +1,0 @@
-use Rattle.std.proofs.Common.{◌≡◌}
-use Rattle.skybridge.specs.Generator.{state_after, schedule_of}
-use Rattle.skybridge.proofs.generator.schedule.Given as goal
-
-abbrev pub invariant-loop : goal.invariant-loop
-invariant-loop l = record {
-  drawn : l.draws.state ≡ state_after l.fn.draws.state l.counter;
-  entries : l.entries.items ≡ schedule_of l.fn.draws.state l.counter;
-}
