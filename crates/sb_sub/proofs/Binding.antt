@@ -1,6 +1,6 @@
 -- A view of a server is added for a thread of a state that is stood for: what the code asks, and what is carried then.
-use Rattle.std.proofs.Common.{◌≡◌, ◌≢◌, ◌∙◌, sym, ap, subst, ℕ, zero, suc, ◌+◌, ◌-◌, ◌*◌, ◌<◌, ◌≤◌, ◌==◌, Bool, true, false, not, List, [], ◌∷◌, ◌++◌, length, get_or, refl, arith}
-use Rattle.std.specs.Prelude.{Option, Some, None, is_some, if◌then◌else◌, map, slice_get, unwrap_or}
+use Rattle.std.proofs.Common.{◌≡◌, ◌≢◌, ◌∙◌, sym, ap, subst, ℕ, zero, suc, ◌+◌, ◌<◌, ◌==◌, Bool, true, false, not, List, [], ◌∷◌, ◌++◌, length, get_or, refl, arith}
+use Rattle.std.specs.Prelude.{Option, Some, None, is_some, if◌then◌else◌, slice_get, unwrap_or}
 use Rattle.std.specs.Option.{option_and_then}
 use Rattle.std.specs.List.{Contains}
 use Rattle.std.proofs.lemmas.Bool.{ne_eqb}
@@ -15,7 +15,7 @@ use Rattle.sb_root.specs.declared.root_kernel.RootKernel.{RootKernel}
 use Rattle.sb_root.specs.declared.view.View.{View}
 use Rattle.sb_root.specs.Answers.{SameViews}
 use Rattle.sb_root.specs.Calls.{IsAddedView, IsFree}
-use Rattle.sb_root.specs.Root.{HasFreeIndex, PartOf, is_listed, eptp_list_frame, view_of, view_frames, with_view}
+use Rattle.sb_root.specs.Root.{HasFreeIndex, PartOf, is_listed, eptp_list_frame, view_of, view_frames}
 use Rattle.sb_root.specs.Standing.{IsBooked, IsRootFrame, Stands}
 use Rattle.sb_root.proofs.Frames.{contains_index}
 use Rattle.sb_root.proofs.InTurn.{length_with_parts, parts_other}
@@ -24,12 +24,12 @@ use Rattle.sb_tramp.specs.declared.record_words.RecordWords.{RecordWords}
 use Rattle.sb_state.specs.declared.page.PageName.TheVariants.{Buffer, Record, Scratch}
 use Rattle.sb_state.specs.declared.state.Binding.{Binding}
 use Rattle.sb_state.specs.declared.state.Thread.{Thread}
-use Rattle.sb_state.specs.Bindings.{free_index, binding_with}
+use Rattle.sb_state.specs.Bindings.{free_index}
 use Rattle.sb_state.proofs.Indices.{indices_are_free}
-use Rattle.sb_trace.specs.State.{State, Process, find_page, no_thread, thread_at}
+use Rattle.sb_trace.specs.State.{State, find_page, no_thread, thread_at}
 use Rattle.sb_trace.specs.Windows.{process_shown, process_of_view, server_of}
 use Rattle.sb_trace.proofs.TablePages.{view_absent}
-use Rattle.sb_shows.specs.Placement.{Placement, Purpose, Unused, GuestTable}
+use Rattle.sb_shows.specs.Placement.{Unused, GuestTable}
 use Rattle.sb_shows.specs.Keeping.{HasGuest, HasView}
 use Rattle.sb_shows.specs.Views.{AddsRootView, part_purpose, placed_view}
 use Rattle.sb_shows.proofs.Binding.{binds_view, free_away, free_fresh, home_shown, server_in, slice_same, viewed}

@@ -1,5 +1,5 @@
 -- A state in which a thread got a binding is servable, and the index of the binding was free.
-use Rattle.std.proofs.Common.{◌≡◌, ◌∙◌, sym, ap, subst, ℕ, ◌≤◌, Bool, false, List, [], ◌∷◌, ◌++◌, length, length-set, refl}
+use Rattle.std.proofs.Common.{◌≡◌, ◌∙◌, sym, ap, subst, ℕ, ◌≤◌, false, [], ◌∷◌, ◌++◌, length, length-set, refl}
 use Rattle.std.specs.Prelude.{Option, Some, slice_get}
 use Rattle.sb_state.specs.declared.state.Binding.{Binding}
 use Rattle.sb_state.specs.declared.state.Registration.{Registration}

@@ -1,5 +1,5 @@
 -- The lists of a root kernel, and their entries that are set, stay where a view is added.
-use Rattle.std.proofs.Common.{◌≡◌, ◌∙◌, sym, ap, subst, ℕ, ◌<◌, false, true}
+use Rattle.std.proofs.Common.{◌≡◌, ◌∙◌, sym, ap, subst, ℕ, ◌<◌, false}
 use Rattle.sb_root.specs.declared.root_kernel.RootKernel.{RootKernel}
 use Rattle.sb_root.specs.declared.view.View.{View}
 use Rattle.sb_root.specs.Root.{IsSet, IsShaped, entry_of_index, eptp_list_frame, is_listed, list_entry, view_of, with_view}

@@ -1,5 +1,5 @@
 -- A page that two processes share: what stands after its frame is taken, filled, mapped in both and exposed.
-use Rattle.std.proofs.Common.{◌≡◌, ◌≢◌, ◌∙◌, sym, ap, subst, ℕ, zero, suc, ◌+◌, ◌/◌, ◌<◌, [], ◌∷◌, refl, arith}
+use Rattle.std.proofs.Common.{◌≡◌, ◌≢◌, ◌∙◌, sym, subst, ℕ, zero, suc, ◌+◌, ◌/◌, ◌<◌, [], ◌∷◌, refl, arith}
 use Rattle.std.specs.Prelude.{Some}
 use Rattle.sb_memory.specs.Physical.{Physical}
 use Rattle.sb_memory.specs.Changes.{SameOutside}

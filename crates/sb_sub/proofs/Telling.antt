@@ -1,5 +1,5 @@
 -- Bind by its number, and what its thread is told.
-use Rattle.std.proofs.Common.{◌≡◌, ◌∙◌, sym, ap, subst, ℕ, ◌<◌, ◌==◌, length}
+use Rattle.std.proofs.Common.{◌≡◌, ◌∙◌, sym, ap, subst, ℕ, ◌<◌, length}
 use Rattle.std.specs.Prelude.{Option, Some, None, Result}
 use Rattle.sb_abi.specs.declared.call.CallRefusal.{CallRefusal}
 use Rattle.sb_abi.specs.Numbers.{refusal_number}

@@ -15,7 +15,7 @@ use Rattle.sb_root.specs.Standing.{IsBooked, Stands}
 use Rattle.sb_state.specs.declared.state.Binding.{Binding}
 use Rattle.sb_trace.specs.KernelCall.{handler_in}
 use Rattle.sb_trace.specs.State.{State, no_thread, registration_of, thread_at}
-use Rattle.sb_trace.specs.SyscallBind.{first_key, new_binding, refusal_of_bind, with_binding}
+use Rattle.sb_trace.specs.SyscallBind.{new_binding, refusal_of_bind, with_binding}
 use Rattle.sb_trace.specs.SyscallRegister.{is_registered}
 use Rattle.sb_sub.specs.Kernel.{Entry, Kernel, Seat, seat_in, seat_of}
 use Rattle.sb_sub.specs.Refusals.{process_in}
