@@ -17,7 +17,10 @@ COLOURS = (
 BASE = {"home": "#9aa3ad", "idle": "#e7e9ec"}
 SEVERAL = "#5b6672"  # spans of more than one server that are drawn as one
 MARKS = {"fault": "#d00000", "refusal": "#ff8c00", "exit": "#202020"}
-STYLE = ".landing{fill-opacity:.45}.refused{stroke:#ff8c00;stroke-width:2;vector-effect:non-scaling-stroke}rect:hover{fill-opacity:.75}"
+STYLE = (
+    ".landing{fill-opacity:.45}.refused{stroke:#ff8c00;stroke-width:2;vector-effect:non-scaling-stroke}"
+    ".span:hover{fill-opacity:.75}.mark{stroke-width:2;vector-effect:non-scaling-stroke}"
+)
 MARGIN, AXIS = 70, 24  # of a picture by itself: left of the lanes, and below them
 Servers = Dict[Tuple[int, int], int]
 
@@ -187,7 +190,7 @@ def height_of(drawing: Drawing) -> int:
 def lanes_svg(drawing: Drawing, attributes: str) -> str:
     """The lanes without words, which can be drawn in any width."""
     steps, height = max(len(drawing.report.steps), 1), height_of(drawing)
-    style = f"<style>{STYLE}.mark{{stroke-width:2;vector-effect:non-scaling-stroke}}</style>"
+    style = f"<style>{STYLE}</style>"
     view = f'viewBox="0 0 {steps} {height}" preserveAspectRatio="none"'
     body = "\n".join(shapes(drawing))
     return f'<svg xmlns="http://www.w3.org/2000/svg" {attributes} {view}>{style}\n{body}\n</svg>'
