@@ -3,9 +3,11 @@
 import os
 import pathlib
 import subprocess
+import sys
 from typing import List, NamedTuple, Sequence, Tuple
 
 ROOT = pathlib.Path(__file__).resolve().parent.parent
+sys.path.append(str(ROOT / "tools"))  # for what tools and checks share
 PROGRAM = os.environ.get("PROGRAM", str(ROOT / "crates/skybridge/out/skybridge"))
 
 TEXT = 0x400000

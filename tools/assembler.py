@@ -3,59 +3,25 @@
 import os
 import pathlib
 import shutil
-import struct
 import subprocess
 import sys
-from typing import Dict, List, NamedTuple, Optional
+from typing import Dict, List, Optional
 
 from description import Fault, Place, Source
+from elf import IS_LOADED, SCRIPT, ElfFile
 
 HERE = pathlib.Path(__file__).resolve().parent
-TEXT, DATA = 0x400000, 0x800000  # docs/FORMATS.md, "The memory of a thread"
-SCRIPT = f"""SECTIONS {{
-  .text {TEXT:#x} : {{ *(.text .text.*) }}
-  .data {DATA:#x} : {{ *(.data .data.* .rodata .rodata.* .bss .bss.*) }}
-  /DISCARD/ : {{ *(.note .note.* .comment .eh_frame) }}
-}}
-"""
-PROGRAM_BITS_ABSENT = 8  # SHT_NOBITS: a section of zeros (System V ABI, ELF-64)
-IS_LOADED = 2  # SHF_ALLOC
 
 
-class Section(NamedTuple):
-    name: str
-    kind: int
-    flags: int
-    address: int
-    offset: int
-    size: int
-    linked: int  # the number of the section with the names of symbols
-
-
-class Linked:
-    """A linked file: its sections and the labels of its text."""
-
-    def __init__(self, path: pathlib.Path):
-        self.path = path
-        self.image = path.read_bytes()
-        table, = struct.unpack_from("<Q", self.image, 0x28)
-        size, count, names = struct.unpack_from("<HHH", self.image, 0x3A)
-        headers = [struct.unpack_from("<IIQQQQI", self.image, table + size * i) for i in range(count)]
-        names_at = headers[names][4]
-        self.sections = [Section(self.string(names_at + header[0]), *header[1:]) for header in headers]
-
-    def string(self, at: int) -> str:
-        return self.image[at : self.image.index(b"\0", at)].decode()
+class Linked(ElfFile):
+    """A linked file, as ld makes it here: its text, its data and the labels of its text."""
 
     def size(self, name: str) -> int:
         return sum(section.size for section in self.sections if section.name == name)
 
     def contents(self, name: str) -> bytes:
         """The bytes of a section, none where there is no such section."""
-        for section in self.sections:
-            if section.name == name and section.kind != PROGRAM_BITS_ABSENT:
-                return self.image[section.offset : section.offset + section.size]
-        return bytes(self.size(name))
+        return b"".join(self.bytes_of(section) for section in self.sections if section.name == name)
 
     def strangers(self) -> List[str]:
         """The names of sections that would be loaded and are neither text nor data."""
@@ -64,15 +30,8 @@ class Linked:
 
     def labels(self) -> Dict[str, int]:
         """The addresses of the labels that stand in the text."""
-        found = {}
         text = next((i for i, section in enumerate(self.sections) if section.name == ".text"), None)
-        for table in (section for section in self.sections if section.name == ".symtab"):
-            names_at = self.sections[table.linked].offset
-            for at in range(table.offset, table.offset + table.size, 24):
-                name, _, _, section, value = struct.unpack_from("<IBBHQ", self.image, at)
-                if section == text and name:
-                    found[self.string(names_at + name)] = value
-        return found
+        return {symbol.name: symbol.value for symbol in self.symbols() if symbol.section == text}
 
     def line_of(self, address: int) -> Optional[Place]:
         """The line of the source that the byte at the address comes from, where the assembler's line table has it."""
@@ -90,13 +49,11 @@ def assembled(source: Source, constants: Dict[str, int], folder: pathlib.Path, n
     before = ['.include "skybridge.inc"', *(f".equ {symbol}, {value}" for symbol, value in constants.items())]
     text = "\n".join([*before, f'# {first} "{source.path}"', *lines, ""])
     object_file, linked = folder / f"{name}.o", folder / f"{name}.elf"
-    script = folder / "script.ld"
-    script.write_text(SCRIPT)
 
     include = ["-I", str(HERE), "-I", str(source.path.parent)]
     done = run(["as", "--64", "-g", *include, "-o", str(object_file), "-"], text)
     pass_on(done, source, object_file)
-    done = run(["ld", "-T", str(script), "-e", "0", "--no-check-sections", "-o", str(linked), str(object_file)], "")
+    done = run(["ld", "-T", str(SCRIPT), "-e", "0", "--no-check-sections", "-o", str(linked), str(object_file)], "")
     pass_on(done, source, object_file)
     found = Linked(linked)
     for stranger in found.strangers():

@@ -10,13 +10,13 @@ FORMS = {
     "frames": "frames NUMBER",
     "keys": "keys WORD ..",
     "process": "process NUMBER NAME",
-    "text": "text FILE, or text alone with indented lines of assembler below it",
+    "text": "text FILE, text elf FILE, or text alone with indented lines of assembler below it",
     "data": "data FILE",
     "heap": "heap PAGES",
     "core": "core NUMBER PROCESS [ENTRY]",
     "schedule": (
-        "schedule CORE[*TIMES] .., schedule round-robin STEPS quantum STEPS [cores CORE ..], "
-        "or schedule random STEPS seed NUMBER [cores CORE ..]"
+        "schedule CORE[*TIMES] .., schedule CORE to [PROCESS.]LABEL, "
+        "schedule round-robin STEPS quantum STEPS [cores CORE ..], or schedule random STEPS seed NUMBER [cores CORE ..]"
     ),
 }
 NUMBER = re.compile(r"0x[0-9a-fA-F]+|[0-9]+")
@@ -50,11 +50,12 @@ class Source(NamedTuple):
 
     place: Place  # of the line that names it
     path: pathlib.Path  # of the file that holds it
-    inline: Optional[List[str]]  # the lines after that of `place`
+    inline: Optional[List[str]] = None  # the lines after that of `place`
+    is_elf: bool = False
 
     @property
     def is_assembler(self) -> bool:
-        return self.inline is not None or self.path.suffix in (".s", ".S", ".asm")
+        return not self.is_elf and (self.inline is not None or self.path.suffix in (".s", ".S", ".asm"))
 
 
 class Process:
@@ -212,11 +213,12 @@ def last_process(found: Description, statement: Statement) -> Process:
 
 def read_text(found: Description, statement: Statement) -> None:
     process = last_process(found, statement)
-    expect(len(statement.words) == 1 or any(line.strip() for line in statement.block), statement)
+    is_elf = len(statement.words) == 2 and statement.words[0] == "elf"
+    expect(len(statement.words) == 1 or is_elf or not statement.words and any(map(str.strip, statement.block)), statement)
     if process.text is not None:
         raise Fault(statement.place, f"process `{process.name}` has its text already")
     if statement.words:
-        process.text = Source(statement.place, found.path.parent / statement.words[0], None)
+        process.text = Source(statement.place, found.path.parent / statement.words[-1], None, is_elf)
     else:
         process.text = Source(statement.place, found.path, statement.block)
 

@@ -1,4 +1,4 @@
-"""What the built program says to a machine."""
+"""What the built program says to a machine, and to a bundle."""
 
 import os
 import pathlib
@@ -29,5 +29,11 @@ def refusal(machine: Machine) -> Optional[str]:
 
 def ask(words: List[str], machine: Machine) -> Tuple[int, str]:
     """The status and the first line of the program."""
-    done = subprocess.run([PROGRAM, *words], input=machine.bundle(), stdout=subprocess.PIPE)
-    return done.returncode, done.stdout.decode(errors="replace").partition("\n")[0]
+    status, text = output(words, machine.bundle())
+    return status, text.partition("\n")[0]
+
+
+def output(words: List[str], image: bytes) -> Tuple[int, str]:
+    """The status of the program, and what it writes to a bundle."""
+    done = subprocess.run([PROGRAM, *words], input=image, stdout=subprocess.PIPE)
+    return done.returncode, done.stdout.decode(errors="replace")

@@ -2,6 +2,8 @@
 
 from typing import List, NamedTuple
 
+MAGIC = b"SKYB"
+
 # The least and the greatest number of each thing that a bundle counts.
 LIMITS = {
     "cores": (1, 8),
@@ -38,7 +40,7 @@ class Machine(NamedTuple):
 
     def bundle(self) -> bytes:
         """The bytes of the bundle, for a machine within the limits."""
-        parts = [b"SKYB", little(1, 2), little(len(self.cores), 1), little(len(self.processes), 1)]
+        parts = [MAGIC, little(1, 2), little(len(self.cores), 1), little(len(self.processes), 1)]
         parts += [little(count, 4) for count in (self.frames, len(self.keys), len(self.schedule))]
         parts += [little(key, 8) for key in self.keys]
         for process in self.processes:
@@ -51,3 +53,31 @@ class Machine(NamedTuple):
 
 def little(number: int, size: int) -> bytes:
     return number.to_bytes(size, "little")
+
+
+class Reader:
+    """Fields of a bundle that is one, in their order."""
+
+    def __init__(self, image: bytes):
+        self.image, self.at = image, len(MAGIC) + 2
+
+    def field(self, size: int) -> bytes:
+        self.at += size
+        return self.image[self.at - size : self.at]
+
+    def number(self, size: int) -> int:
+        return int.from_bytes(self.field(size), "little")
+
+
+def machine_of(image: bytes) -> Machine:
+    """The machine of a bundle, which is not judged: the program does that."""
+    reader = Reader(image)
+    cores, processes = reader.number(1), reader.number(1)
+    frames, keys, steps = (reader.number(4) for _ in range(3))
+    words = [reader.number(8) for _ in range(keys)]
+    found = []
+    for _ in range(processes):
+        text, data, heap_pages = (reader.number(4) for _ in range(3))
+        found.append(Process(reader.field(text), reader.field(data), heap_pages))
+    placed = [Core(reader.number(4), reader.number(8)) for _ in range(cores)]
+    return Machine(frames, words, found, placed, reader.field(steps))

@@ -1,18 +1,70 @@
 """Schedules: the core of each step, as a list, in turns, or at random."""
 
-from typing import Iterator, List
+from typing import Dict, Iterator, List, Optional, Tuple
 
+import judge
+import timeline
 from description import WORD_MASK, Description, Fault, Place, Statement, expect, number, within
+from machine import LIMITS, Machine
 
 ENTRIES = "entries of the schedule"
+FARTHEST = 65536  # steps of a core that are made to find a label
+Labels = Dict[str, int]
+Run = Tuple[Machine, List[Labels]]  # a machine that can be run, and the labels of its processes
 
 
-def rolled_out(description: Description) -> bytes:
-    """The entries of all lines, in their order."""
+def rolled_out(description: Description, run: Optional[Run]) -> bytes:
+    """The entries of all lines, in their order. Steps up to a label are found by running the machine, and left out without it."""
     entries: List[int] = []
     for statement in description.schedules:
-        entries += entries_of(statement, len(description.cores), len(entries))
+        if statement.words[1:2] == ["to"]:
+            entries += steps_to(statement, description, entries, run)
+        else:
+            entries += entries_of(statement, len(description.cores), len(entries))
     return bytes(entries)
+
+
+def steps_to(statement: Statement, description: Description, before: List[int], run: Optional[Run]) -> List[int]:
+    """So many steps of a core that its thread stands at a label: of its home, or of the server that its view shows."""
+    expect(len(statement.words) == 3, statement)
+    core = core_number(statement.words[0], len(description.cores), statement.place)
+    process, _, label = statement.words[2].rpartition(".")
+    home = description.process_number(description.cores[core].process, statement.place)
+    shown = description.process_number(process, statement.place) if process else home
+    if run is None:
+        return []
+    machine, labels = run
+    if label not in labels[shown]:
+        name = description.processes[shown].name
+        raise Fault(statement.place, f"process `{name}` has no label `{label}` in its text")
+    for count in steps_at(machine._replace(schedule=bytes(before)), core, labels[shown][label], shown != home, statement.place):
+        end = report_of(machine._replace(schedule=bytes(before + [core] * count)), statement.place).ends[core]
+        if (end.rip, end.process) == (labels[shown][label], shown):
+            within(ENTRIES, len(before) + count, statement.place)
+            return [core] * count
+    raise Fault(statement.place, f"core {core} does not come to `{statement.words[2]}` within {FARTHEST} steps")
+
+
+def steps_at(machine: Machine, core: int, address: int, is_server: bool, place: Place) -> Iterator[int]:
+    """How many steps of the core after the machine's own may lead to the address, in its home or in a server's view."""
+    before = len(machine.schedule)
+    longer = machine.schedule + bytes([core]) * FARTHEST
+    report = report_of(machine._replace(schedule=longer[: LIMITS[ENTRIES][1]]), place)
+    for span in timeline.lanes_of(report)[core].spans:
+        if span.last >= before and span.activity == ("server" if is_server else "home"):
+            for at in range(max(span.first, before), span.last + 1):
+                kind, word = (report.steps[at][1].split() + [""])[:2]
+                if kind not in ("step", "extra", "stray") or word == f"{address:x}":
+                    yield at - before
+
+
+def report_of(machine: Machine, place: Place) -> timeline.Report:
+    if not judge.is_built():
+        raise Fault(place, f"steps to a label are found by the program, and {judge.PROGRAM} is not built (./skybridge builds it)")
+    status, text = judge.output(["replay"], machine.bundle())
+    if status != judge.DONE:
+        raise Fault(place, f"steps to a label are found by the program, which refuses the bundle: {text.strip()}")
+    return timeline.read(text)
 
 
 def entries_of(statement: Statement, cores: int, before: int) -> List[int]:
