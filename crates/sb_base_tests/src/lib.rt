@@ -5,7 +5,11 @@
 #![tactic(auto)]
 
 #[cfg(test)]
+mod adapters;
+#[cfg(test)]
 mod lists;
+#[cfg(test)]
+mod same;
 #[cfg(test)]
 mod scanning;
 #[cfg(test)]

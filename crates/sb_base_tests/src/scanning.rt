@@ -1,5 +1,6 @@
 //! Where the bytes of VMFUNC are found, and where not.
 
+use crate::same::assert_same;
 use sb_scan::{find_pattern, first_place, patterns, spans};
 use std::test::Fail;
 
@@ -16,8 +17,8 @@ const FIRST: [(&str, &[u8], Option<usize>); 6] = [
 
 #[test]
 fn finds_the_first_place(rt: HostRuntime) {
-    for (name, bytes, place) in FIRST {
-        assert_eq!(rt; find_pattern(bytes), place, "{name}");
+    for (name, bytes, place) in &FIRST {
+        assert_same(&rt, name, &find_pattern(bytes), place);
     }
 }
 
@@ -31,8 +32,9 @@ const ALL: [(&str, &[u8], &[usize]); 3] = [
 
 #[test]
 fn finds_all_places(rt: HostRuntime) -> Result<(), Fail> {
-    for (name, bytes, places) in ALL {
-        assert_eq!(rt; patterns(rt.alloc(), bytes)?.as_slice(), places, "{name}");
+    for (name, bytes, places) in &ALL {
+        let found = patterns(rt.alloc(), bytes)?;
+        assert_same(&rt, name, &found.as_slice(), places);
     }
     Ok(())
 }
@@ -52,8 +54,8 @@ const BORDERS: [(&str, &[u8], &[u8], Option<usize>); 8] = [
 
 #[test]
 fn sees_the_pattern_across_a_border(rt: HostRuntime) {
-    for (name, left, right, before) in BORDERS {
-        assert_eq!(rt; spans(left, right), before, "{name}");
+    for (name, left, right, before) in &BORDERS {
+        assert_same(&rt, name, &spans(left, right), before);
     }
 }
 
@@ -70,11 +72,11 @@ const AROUND: [(&str, &[u8], &[u8], &[u8], Option<usize>); 6] = [
 
 #[test]
 fn finds_the_first_place_around_borders(rt: HostRuntime) {
-    for (name, before, bytes, behind, place) in AROUND {
+    for (name, before, bytes, behind, place) in &AROUND {
         let fits = before.len() <= 2 && bytes.len() >= 2 && behind.len() <= 2;
-        assert!(rt; fits, "{name}");
+        assert_same(&rt, name, &fits, &true);
         if fits {
-            assert_eq!(rt; first_place(before, bytes, behind), place, "{name}");
+            assert_same(&rt, name, &first_place(before, bytes, behind), place);
         }
     }
 }

@@ -2,7 +2,9 @@
 
 ghost use Rattle.std.specs.Prelude.{None};
 
+use crate::same::assert_same;
 use sb_port::{Failed, MemorySink, MemorySource, ReadAll, Source, WriteFault, read_all, write_all};
+use std::alloc::{AllocError, Global};
 use std::test::Fail;
 
 /// Calls are counted from 1.
@@ -22,20 +24,28 @@ const READS: [(&str, usize, u64, usize, Option<ReadAll>); 9] = [
     ("a call after the end would fail", 1, 8, 6, None),
 ];
 
+/// What reading "bridge" answers, at most so many bytes a call, where a call fails.
+fn reading(
+    alloc: Global,
+    per_call: usize,
+    fails: u64,
+    limit: usize,
+) -> Result<Result<Vec<u8>, ReadAll>, AllocError> {
+    let bytes = Vec::from_slice(alloc, b"bridge")?;
+    let mut source = MemorySource::new(bytes, per_call.max(1), vec![in alloc; fails]?);
+    Ok(read_all(alloc, &mut source, limit))
+}
+
 #[test]
 fn a_source_in_memory_is_read_whole_or_refused(rt: HostRuntime) -> Result<(), Fail> {
-    let alloc = rt.alloc();
     let text = b"bridge".as_slice();
-    for (name, per_call, fails, limit, refused) in READS {
-        assert!(rt; 0 < per_call);
-        let bytes = Vec::from_slice(alloc, text)?;
-        let mut source = MemorySource::new(bytes, per_call, vec![in alloc; fails]?);
-        match read_all(alloc, &mut source, limit) {
+    for &(name, per_call, fails, limit, refused) in &READS {
+        match reading(rt.alloc(), per_call, fails, limit)? {
             Ok(bytes) => {
-                assert_eq!(rt; bytes.as_slice(), text, "{name}");
-                assert_eq!(rt; None, refused, "{name}");
+                assert_same(&rt, name, &bytes.as_slice(), &text);
+                assert_same(&rt, name, &None, &refused);
             }
-            Err(error) => assert_eq!(rt; Some(error), refused, "{name}"),
+            Err(error) => assert_same(&rt, name, &Some(error), &refused),
         }
     }
     Ok(())
@@ -54,21 +64,26 @@ const WRITES: [(&str, &str, usize, usize, u64, Option<usize>); 8] = [
     ("nothing to write makes no call", "", 0, 2, 1, None),
 ];
 
+/// What a sink holds after a text was written to it, at most so many bytes a call, where a call fails, and the fault.
+fn writing(
+    alloc: Global,
+    text: &str,
+    capacity: usize,
+    per_call: usize,
+    fails: u64,
+) -> Result<(Vec<u8>, Option<WriteFault>), AllocError> {
+    let mut sink = MemorySink::new(alloc, capacity, per_call.max(1), vec![in alloc; fails]?)?;
+    let fault = write_all(&mut sink, text.as_bytes()).err();
+    Ok((Vec::from_slice(alloc, sink.held())?, fault))
+}
+
 #[test]
 fn a_sink_in_memory_takes_all_or_a_prefix(rt: HostRuntime) -> Result<(), Fail> {
-    let alloc = rt.alloc();
-    for (name, text, capacity, per_call, fails, written) in WRITES {
-        assert!(rt; 0 < per_call);
-        let text = text.as_bytes();
-        let mut sink = MemorySink::new(alloc, capacity, per_call, vec![in alloc; fails]?)?;
-        let fault = write_all(&mut sink, text).err();
-        assert_eq!(rt;
-            fault,
-            written.map(|written| WriteFault { written }),
-            "{name}"
-        );
-        let prefix = text.get(..written.unwrap_or(text.len())).ok_or("a prefix")?;
-        assert_eq!(rt; sink.held(), prefix, "{name}");
+    for &(name, text, capacity, per_call, fails, written) in &WRITES {
+        let (held, fault) = writing(rt.alloc(), text, capacity, per_call, fails)?;
+        assert_same(&rt, name, &fault.map(|fault| fault.written), &written);
+        let prefix = text.as_bytes().get(..written.unwrap_or(text.len()));
+        assert_same(&rt, name, &Some(held.as_slice()), &prefix);
     }
     Ok(())
 }
@@ -96,13 +111,19 @@ impl Source for Counting {
     }
 }
 
+/// What reading it answers, and how often it was asked.
+fn asked_reading(alloc: Global, limit: usize) -> (Result<Vec<u8>, ReadAll>, u8) {
+    let mut source = Counting { calls: 0 };
+    let answer = read_all(alloc, &mut source, limit);
+    (answer, source.calls)
+}
+
 #[test]
 fn nothing_is_asked_for_after_the_end(rt: HostRuntime) -> Result<(), Fail> {
     for limit in [2, 3, 5000] {
-        let mut source = Counting { calls: 0 };
-        let bytes = read_all(rt.alloc(), &mut source, limit)?;
-        assert_eq!(rt; bytes.as_slice(), [1, 2].as_slice());
-        assert_eq!(rt; source.calls, 3);
+        let (answer, calls) = asked_reading(rt.alloc(), limit);
+        assert_same(&rt, "bytes", &answer?.as_slice(), &[1, 2].as_slice());
+        assert_same(&rt, "calls", &calls, &3);
     }
     Ok(())
 }
@@ -110,10 +131,9 @@ fn nothing_is_asked_for_after_the_end(rt: HostRuntime) -> Result<(), Fail> {
 #[test]
 fn nothing_is_asked_for_past_the_limit(rt: HostRuntime) {
     for (limit, calls) in [(0, 1), (1, 2)] {
-        let mut source = Counting { calls: 0 };
-        let refused = read_all(rt.alloc(), &mut source, limit).err();
-        assert_eq!(rt; refused, Some(ReadAll::TooLong));
-        assert_eq!(rt; source.calls, calls);
+        let (answer, asked) = asked_reading(rt.alloc(), limit);
+        assert_same(&rt, "answer", &answer.err(), &Some(ReadAll::TooLong));
+        assert_same(&rt, "calls", &asked, &calls);
     }
 }
 
@@ -127,14 +147,15 @@ const READ_TEXTS: [(ReadAll, &str); 3] = [
 #[test]
 fn faults_say_what_happened(rt: HostRuntime) -> Result<(), Fail> {
     let alloc = rt.alloc();
-    for (refusal, text) in READ_TEXTS {
-        assert_eq!(rt; format!(in alloc; "{refusal}")?.as_str(), text);
+    for (refusal, text) in &READ_TEXTS {
+        assert_same(&rt, "", &format!(in alloc; "{refusal}")?.as_str(), text);
     }
-    let fault = format!(in alloc; "{}", WriteFault { written: 32 })?;
-    assert_eq!(rt; fault.as_str(), "the sink failed after 32 bytes");
-    assert_eq!(rt;
-        format!(in alloc; "{}", Failed)?.as_str(),
-        "the device failed"
+    let others = format!(in alloc; "{}; {}", WriteFault { written: 32 }, Failed)?;
+    assert_same(
+        &rt,
+        "",
+        &others.as_str(),
+        &"the sink failed after 32 bytes; the device failed",
     );
     Ok(())
 }

@@ -20,10 +20,13 @@ pub struct Program<'a> {
 }
 
 /// MOV EDI, 7; MOV EAX, 1; SYSCALL; XOR EAX, EAX; SYSCALL.
+pub const PRINTS_TEXT: [u8; 16] = [
+    0xBF, 7, 0, 0, 0, 0xB8, 1, 0, 0, 0, 0x0F, 0x05, 0x31, 0xC0, 0x0F, 0x05,
+];
+
+/// A process of this text, without data and heap.
 pub const PRINTS: Program = Program {
-    text: &[
-        0xBF, 7, 0, 0, 0, 0xB8, 1, 0, 0, 0, 0x0F, 0x05, 0x31, 0xC0, 0x0F, 0x05,
-    ],
+    text: &PRINTS_TEXT,
     initial: &[],
     heap_pages: 0,
 };

@@ -1,5 +1,6 @@
 //! What the errors of bundles and rewriting say.
 
+use crate::same::{assert_same, text_of};
 use sb_bundle::BundleRefusal;
 use sb_rewrite::{ListRefusal, RewriteRefusal};
 use std::test::Fail;
@@ -17,8 +18,13 @@ const BUNDLES: [(BundleRefusal, &str); 7] = [
 
 #[test]
 fn refusals_of_bundles_have_texts(rt: HostRuntime) -> Result<(), Fail> {
-    for (refusal, text) in BUNDLES {
-        assert_eq!(rt; format!(in rt.alloc(); "{refusal}")?.as_str(), text);
+    for (refusal, text) in &BUNDLES {
+        assert_same(
+            &rt,
+            "bundles",
+            &text_of(rt.alloc(), refusal)?.as_str(),
+            text,
+        );
     }
     Ok(())
 }
@@ -31,8 +37,13 @@ const LISTINGS: [(ListRefusal, &str); 2] = [
 
 #[test]
 fn refusals_of_listings_have_texts(rt: HostRuntime) -> Result<(), Fail> {
-    for (refusal, text) in LISTINGS {
-        assert_eq!(rt; format!(in rt.alloc(); "{refusal}")?.as_str(), text);
+    for (refusal, text) in &LISTINGS {
+        assert_same(
+            &rt,
+            "listings",
+            &text_of(rt.alloc(), refusal)?.as_str(),
+            text,
+        );
     }
     Ok(())
 }
@@ -48,8 +59,13 @@ const REWRITINGS: [(RewriteRefusal, &str); 5] = [
 
 #[test]
 fn refusals_of_rewritings_have_texts(rt: HostRuntime) -> Result<(), Fail> {
-    for (refusal, text) in REWRITINGS {
-        assert_eq!(rt; format!(in rt.alloc(); "{refusal}")?.as_str(), text);
+    for (refusal, text) in &REWRITINGS {
+        assert_same(
+            &rt,
+            "rewritings",
+            &text_of(rt.alloc(), refusal)?.as_str(),
+            text,
+        );
     }
     Ok(())
 }

@@ -21,3 +21,5 @@ mod loading;
 mod reading;
 #[cfg(test)]
 mod rewriting;
+#[cfg(test)]
+mod same;

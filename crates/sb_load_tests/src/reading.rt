@@ -1,8 +1,12 @@
 //! Bytes against what reading answers, and the bytes that are written.
 
+ghost use Rattle.std.specs.Prelude.{IfOk};
+ghost use Rattle.sb_bundle.specs.Limits.{IsBundle};
+
 use crate::bundles::{PRINTS, bundle_of};
+use crate::same::assert_same;
 use sb_bundle::BundleRefusal::{self, Count, Magic, Range, Short, Trailing, Version};
-use sb_bundle::{CoreStart, read_bundle, write_bundle};
+use sb_bundle::{Bundle, CoreStart, read_bundle, write_bundle};
 use std::alloc::{AllocError, Global};
 use std::test::Fail;
 
@@ -42,15 +46,21 @@ fn cut_field(length: usize) -> usize {
     }
 }
 
+/// Why the bytes are refused, if they are.
+fn refusal_of(alloc: Global, bytes: &[u8]) -> Option<BundleRefusal> {
+    read_bundle(alloc, bytes).err()
+}
+
 #[test]
 fn a_bundle_that_ends_early_is_short_at_its_last_field(rt: HostRuntime) -> Result<(), Fail> {
     for length in 0..65 {
         let bytes = edited(rt.alloc(), 0, &[], length)?;
         let at = cut_field(length) as u64;
-        assert_eq!(rt;
-            read_bundle(rt.alloc(), &bytes).err(),
-            Some(BundleRefusal::Short { at }),
-            "{length} bytes"
+        assert_same(
+            &rt,
+            "cut",
+            &refusal_of(rt.alloc(), &bytes),
+            &Some(Short { at }),
         );
     }
     Ok(())
@@ -98,9 +108,9 @@ const EDITS: [Edit; 33] = [
 
 #[test]
 fn each_limit_at_its_edge_and_past_it(rt: HostRuntime) -> Result<(), Fail> {
-    for (name, at, other, refusal) in EDITS {
-        let bytes = edited(rt.alloc(), at, other, 65)?;
-        assert_eq!(rt; read_bundle(rt.alloc(), &bytes).err(), refusal, "{name}");
+    for (name, at, other, refusal) in &EDITS {
+        let bytes = edited(rt.alloc(), *at, other, 65)?;
+        assert_same(&rt, name, &refusal_of(rt.alloc(), &bytes), refusal);
     }
     Ok(())
 }
@@ -119,13 +129,9 @@ const CUTS: [Cut; 5] = [
 
 #[test]
 fn the_first_refusal_in_the_order_of_fields(rt: HostRuntime) -> Result<(), Fail> {
-    for (name, at, length, refusal) in CUTS {
+    for &(name, at, length, refusal) in &CUTS {
         let bytes = edited(rt.alloc(), at, &[1, 1, 1, 1], length)?;
-        assert_eq!(rt;
-            read_bundle(rt.alloc(), &bytes).err(),
-            Some(refusal),
-            "{name}"
-        );
+        assert_same(&rt, name, &refusal_of(rt.alloc(), &bytes), &Some(refusal));
     }
     Ok(())
 }
@@ -134,49 +140,69 @@ fn the_first_refusal_in_the_order_of_fields(rt: HostRuntime) -> Result<(), Fail>
 fn a_byte_behind_the_schedule_is_trailing(rt: HostRuntime) -> Result<(), Fail> {
     let mut bytes = Vec::from_slice(rt.alloc(), &FIRST)?;
     bytes.push(0)?;
-    assert_eq!(rt;
-        read_bundle(rt.alloc(), &bytes).err(),
-        Some(BundleRefusal::Trailing { at: 65 })
+    assert_same(
+        &rt,
+        "one byte more",
+        &refusal_of(rt.alloc(), &bytes),
+        &Some(Trailing { at: 65 }),
     );
     Ok(())
 }
 
+/// The core of the first bundle.
+const FIRST_CORE: CoreStart = CoreStart {
+    process: 0,
+    entry: 0x40_0000,
+};
+
+/// The first bundle, read.
+fn first_bundle(alloc: Global) -> Result<Bundle, Fail>
+    ensures { IfOk result (λ bundle. IsBundle bundle) }
+{
+    match read_bundle(alloc, &FIRST) {
+        Ok(bundle) => Ok(bundle),
+        Err(_) => Err("the bytes are a bundle".into()),
+    }
+}
+
+/// Writes a bundle, without the contract of `write_bundle`, which tests do not need.
+fn written(alloc: Global, bundle: &Bundle) -> Result<Vec<u8>, AllocError>
+    requires { IsBundle bundle.now }
+{
+    write_bundle(alloc, bundle)
+}
+
 #[test]
 fn what_is_read_is_written(rt: HostRuntime) -> Result<(), Fail> {
-    let bundle = read_bundle(rt.alloc(), &FIRST)
-        .ok()
-        .ok_or("the bytes are a bundle")?;
-    assert_eq!(rt; bundle.frames, 576);
-    assert_eq!(rt;
-        bundle.cores.items(),
-        [CoreStart {
-            process: 0,
-            entry: 0x40_0000
-        }]
-        .as_slice()
+    let bundle = first_bundle(rt.alloc())?;
+    assert_same(&rt, "frames", &bundle.frames, &576);
+    assert_same(
+        &rt,
+        "cores",
+        &bundle.cores.items(),
+        &[FIRST_CORE].as_slice(),
     );
-    let bytes = write_bundle(rt.alloc(), &bundle)?;
-    assert_eq!(rt; bytes.as_slice(), FIRST.as_slice());
-    let copy = bundle.copied(rt.alloc())?;
-    assert_eq!(rt; copy.frames, 576);
-    assert_eq!(rt; copy.images.items().len(), 1);
-    assert_eq!(rt; copy.cores.items(), bundle.cores.items());
-    assert_eq!(rt; copy.schedule.items(), [0; 5].as_slice());
+    let bytes = written(rt.alloc(), &bundle)?;
+    assert_same(&rt, "bytes", &bytes.as_slice(), &FIRST.as_slice());
+    Ok(())
+}
+
+#[test]
+fn a_copy_has_what_was_read(rt: HostRuntime) -> Result<(), Fail> {
+    let copy = first_bundle(rt.alloc())?.copied(rt.alloc())?;
+    assert_same(&rt, "frames", &copy.frames, &576);
+    assert_same(&rt, "images", &copy.images.items().len(), &1);
+    assert_same(&rt, "cores", &copy.cores.items(), &[FIRST_CORE].as_slice());
+    assert_same(&rt, "schedule", &copy.schedule.items(), &[0; 5].as_slice());
     Ok(())
 }
 
 #[test]
 fn what_is_built_is_written(rt: HostRuntime) -> Result<(), Fail> {
-    let core = CoreStart {
-        process: 0,
-        entry: 0x40_0000,
-    };
-    let bundle = bundle_of(rt.alloc(), 576, &[PRINTS], &[core])?;
+    let bundle = bundle_of(rt.alloc(), 576, &[PRINTS], &[FIRST_CORE])?;
     // The first bundle without its schedule.
     let expected = edited(rt.alloc(), 16, &[0], 60)?;
-    assert_eq!(rt;
-        write_bundle(rt.alloc(), &bundle)?.as_slice(),
-        expected.as_slice()
-    );
+    let bytes = written(rt.alloc(), &bundle)?;
+    assert_same(&rt, "bytes", &bytes.as_slice(), &expected.as_slice());
     Ok(())
 }
