@@ -6,34 +6,18 @@ ghost use Rattle.std.specs.Prelude.{◌≡◌, ◌<◌, ◌≤◌, ◌^◌};
 ghost use Rattle.sb_trace.specs.declared.event.Event.TheVariants.{Entered};
 ghost use Rattle.sb_abi.specs.Numbers.{status_number};
 ghost use Rattle.sb_state.specs.State.{thread_at};
-ghost use Rattle.sb_trace.specs.KernelCall.{binding_with, pool_word, refusal_regs, refusal_outcome, refusal_or_fault, return_outcome, entry_regs, lowest_bit, state_at_handler, entry_outcome, call_outcome, kernel_call};
+ghost use Rattle.sb_trace.specs.KernelCall.{binding_with, pool_word, refusal_outcome, refusal_or_fault, return_outcome, entry_regs, lowest_bit, state_at_handler, entry_outcome, call_outcome, kernel_call};
 
 use crate::fault::fault;
 use crate::server::{handler_of, pool_word, set_pool_word};
 use sb_abi::{CallStatus, FIRST_STACK_TOP, RETURN_ADDRESS, STACK_DISTANCE};
 use sb_exec::FaultKind;
 use sb_insn::Regs;
-use sb_insn::registers::{R9, R10, RAX, RCX, RSI, RSP};
-use sb_state::{Binding, PlainState, eax, ecx, zero_flags};
+use sb_insn::registers::{R10, RAX, RCX, RSI, RSP};
+use sb_state::{Binding, PlainState, eax, ecx, refusal_regs, zero_flags};
 use sb_trace::Event;
 
 // ---- refusals and ways home
-
-#[tactic(auto, unfolding(sb_trace::specs::KernelCall::refusal_regs))]
-fn refusal_regs(regs: &Regs, status: CallStatus) -> Regs
-    ensures { result ≡ refusal_regs regs.now (status_number status) }
-{
-    let mut general = regs.general;
-    general[R9] = status.number();
-    general[RAX] = 0;
-    general[RCX] = 0;
-    general[R10] = 0;
-    Regs {
-        general,
-        rip: RETURN_ADDRESS,
-        flags: zero_flags(),
-    }
-}
 
 /// A refused call, with its line: the thread is in its home view.
 fn refuse(state: &mut PlainState, core: u8, line: Event, status: CallStatus) -> Event

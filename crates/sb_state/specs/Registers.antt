@@ -1,5 +1,6 @@
 -- Registers by name (SDM volume 2, section 2.2.1), and the values that the kernel puts into them.
-use Rattle.std.specs.Prelude.{ℕ, ◌%◌, ◌^◌, true, false, slice_index}
+use Rattle.std.specs.Prelude.{ℕ, ◌%◌, ◌^◌, true, false, slice_index, slice_set}
+use Rattle.sb_abi.specs.declared.trampoline.TheConstants.{RETURN_ADDRESS}
 use Rattle.sb_insn.specs.declared.registers.Flags.{Flags}
 use Rattle.sb_insn.specs.declared.registers.Regs.{Regs}
 
@@ -26,3 +27,11 @@ no_flags = record { cf = false; pf = false; zf = false; sf = false; of = false }
 -- the flags of a logical instruction whose result is 0
 abbrev pub zero_flags : Flags
 zero_flags = record { cf = false; pf = true; zf = true; sf = false; of = false }
+
+-- the registers of a call that is refused: R9 has the status, RAX, RCX and R10 are 0, and the thread goes on at home
+unfoldable pub refusal_regs : Regs → ℕ → Regs
+refusal_regs regs status = record {
+  general = slice_set (slice_set (slice_set (slice_set regs.general 9 status) 0 0) 1 0) 10 0;
+  rip = RETURN_ADDRESS;
+  flags = zero_flags;
+}

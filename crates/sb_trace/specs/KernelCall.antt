@@ -16,6 +16,7 @@ use Rattle.sb_state.specs.State.{State, thread_at, with_view, registration_at}
 use Rattle.sb_state.specs.PageWords.{word_in, with_word}
 pub use Rattle.sb_state.specs.Bindings.{binding_with}
 use Rattle.sb_state.specs.Registers.{eax, ecx, rsi, zero_flags}
+pub use Rattle.sb_state.specs.Registers.{refusal_regs}
 use Rattle.sb_trace.specs.Home.{Outcome, home_address, fault_outcome}
 
 -- ---- what a call looks at
@@ -29,14 +30,6 @@ handler_in None = 0
 handler_in (Some registration) = registration.handler
 
 -- ---- refusals and ways home
-
--- R9 has the status, RAX, RCX and R10 are 0, and the thread goes on at home
-unfoldable pub refusal_regs : Regs → ℕ → Regs
-refusal_regs regs status = record {
-  general = slice_set (slice_set (slice_set (slice_set regs.general 9 status) 0 0) 1 0) 10 0;
-  rip = home_address;
-  flags = zero_flags;
-}
 
 -- a refused call, with its line: the thread is in its home view
 abbrev pub refusal_outcome : State → ℕ → Thread → Event → ℕ → Outcome
