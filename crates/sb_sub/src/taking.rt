@@ -59,7 +59,7 @@ pub fn add_page(
     requires some { 0 < free_count book.old }
     requires can { CanTake set.now root.old book.old memory.old }
     ensures root { root.new ≡ root.old }
-    ensures added { TakesPage set.now root.old book.old book.new memory.old memory.new owner at.0 top }
+    ensures added { TakesPage set.now root.old book.old book.new memory.old memory.new owner at.0 ReadWrite (top_bytes top) }
     ensures can { CanTake set.now root.new book.new memory.new }
 {
     let frame = book.take_free(Kind::Writable, owner);
