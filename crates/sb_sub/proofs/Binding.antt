@@ -46,23 +46,28 @@ use Rattle.sb_sub.proofs.Moves.{seat_at}
 
 -- ---- small laws
 
+-- an element at a place of a list is found
 found_within : {A : Type 0} (list : List A) (index : ℕ) (default : A) → index < length list
     → slice_get list index ≡ Some (unwrap_or (slice_get list index) default)
 found_within [] index default below = absurd (omega (arith, below))
 found_within (first ∷ list) zero default below = refl
 found_within (first ∷ list) (suc index) default below = found_within list index default (omega arith)
 
+-- a frame that is not missing is there
 some_frame : (found : Option Frame) → found ≢ None → (frame : Frame) × (found ≡ Some frame)
 some_frame None is = absurd (is refl)
 some_frame (Some frame) is = (frame, refl)
 
+-- an entry is not set for a view that is not there
 not_set_by : (set shown : Bool) → (set ≡ true → shown ≡ true) → shown ≡ false → set ≡ false
 not_set_by true shown is none = absurd (let e = is refl in cc)
 not_set_by false shown is none = refl
 
+-- the frame at a place of a list is in it
 contains_at : (frames : List ℕ) (k : ℕ) → k < length frames → Contains frames (get_or frames k 0)
 contains_at frames k within = Contains-get_or frames k 0 within
 
+-- a frame is the table of one process
 same_tables : (home server table other : ℕ) → GuestTable home table ≡ GuestTable server other → home ≡ server
 same_tables home server table other same = cc
 
@@ -73,12 +78,14 @@ module _ (kernel : Kernel) (root : RootKernel) (book : Book) (memory : Physical)
 
   -- ---- the thread
 
+  -- it is there
   pub there : slice_get state.threads number ≡ Some (thread_at state number)
   unfolding thread_at
   there =
       found_within state.threads number no_thread
       (subst (λ (n : ℕ). number < n) (count_same kernel root book memory state stands) inside)
 
+  -- what the kernel keeps of it is its home and its bindings
   pub seat_is : seat_in kernel number ≡ seat_of (thread_at state number)
   seat_is =
       sym (seat_at state number
@@ -87,12 +94,14 @@ module _ (kernel : Kernel) (root : RootKernel) (book : Book) (memory : Physical)
   home_view : HasView stands.placement state number 0 thread.home
   home_view = stands.keeps.leads.views number 0 thread.home (home_shown state number thread there)
 
+  -- the page tables serve it
   pub served : number < 8
   served = home_view.served
 
   home_there : thread.home < length state.processes
   home_there = home_view.home_there
 
+  -- its home is one of the processes
   pub home_inside : (seat_in kernel number).home < length kernel.processes
   home_inside =
       let count : length kernel.processes ≡ length state.processes =
@@ -102,9 +111,11 @@ module _ (kernel : Kernel) (root : RootKernel) (book : Book) (memory : Physical)
 
   -- ---- its list
 
+  -- the root kernel's tables stand
   pub root_stands : Stands root memory
   root_stands = subst (λ (one : RootKernel). Stands one memory) stands.rooted stands.keeps.leads.stands
 
+  -- it has a list
   pub placed_list : (list : Frame) × (eptp_list_frame stands.placement.root number ≡ Some list)
   placed_list =
       some_frame (eptp_list_frame stands.placement.root number)
@@ -114,12 +125,14 @@ module _ (kernel : Kernel) (root : RootKernel) (book : Book) (memory : Physical)
   has_list none =
       let e = sym placed_list.1 ∙ (ap (λ (one : RootKernel). eptp_list_frame one number) stands.rooted ∙ none) in cc
 
+  -- an index without a binding shows nothing
   shown_none : (index : ℕ) → index ≢ 0 → server_of thread.bindings index ≡ None → process_shown state.threads number index ≡ None
   unfolding process_shown
   shown_none index away fresh =
       ap (option_and_then (process_of_view index)) there
       ∙ (ap (λ (test : Bool). if test then Some thread.home else server_of thread.bindings index) (ne_eqb index 0 away) ∙ fresh)
 
+  -- and its entry is not set
   free_listed : (index : ℕ) → process_shown state.threads number index ≡ None
       → is_listed (view_of root number index) ≡ false
   free_listed index none =
@@ -127,6 +140,7 @@ module _ (kernel : Kernel) (root : RootKernel) (book : Book) (memory : Physical)
       (not_set_by (is_listed (view_of stands.placement.root number index)) (is_some (process_shown state.threads number index))
       (λ set. ap is_some (stands.keeps.leads.only number index set).1) (ap is_some none))
 
+  -- a thread with fewer than fifteen bindings has an index that is free
   pub has_room : length (seat_in kernel number).bindings < 15 → HasFreeIndex root number
   has_room room =
       let few : length thread.bindings < 15 = subst (λ (seat : Seat). length seat.bindings < 15) seat_is room in
@@ -149,6 +163,7 @@ module _ (kernel : Kernel) (root : RootKernel) (book : Book) (memory : Physical)
     guest : HasGuest stands.placement state memory process
     guest = stands.keeps.leads.guests process below
 
+    -- the root of a process's page tables is in the frame of its number
     pub root_number : entry.set.root.0 ≡ 16 + process
     root_number =
         ap (λ (set : TableSet). set.root.0) (sym (set_is kernel root book memory state stands process entry kept))
@@ -169,12 +184,15 @@ module _ (kernel : Kernel) (root : RootKernel) (book : Book) (memory : Physical)
     free_index_is =
         subst (λ (one : RootKernel). is_listed (view_of one number index) ≡ false) (sym stands.rooted) added.lowest.free
 
+    -- the index is not that of the home view
     pub away : index ≢ 0
     away = free_away stands.placement state memory stands.keeps number index thread there free_index_is
 
+    -- nor of a binding
     pub fresh : server_of (thread_at state number).bindings index ≡ None
     fresh = free_fresh stands.placement state memory stands.keeps number index thread there free_index_is
 
+    -- and it has no pages
     pub absent : (find_page state.pages (Record number index) ≡ None) × (find_page state.pages (Scratch number index) ≡ None)
         × ((page : ℕ) → find_page state.pages (Buffer number index page) ≡ None)
     absent = view_absent state stands.servable.table number index (shown_none index away fresh)
@@ -182,6 +200,7 @@ module _ (kernel : Kernel) (root : RootKernel) (book : Book) (memory : Physical)
     few : index < 16
     few = added.lowest.inside
 
+    -- so the view has the servers' trampoline page
     pub server_flag : true ≡ not (index == 0)
     server_flag = ap not (sym (ne_eqb index 0 away))
 
@@ -215,6 +234,7 @@ module _ (kernel : Kernel) (root : RootKernel) (book : Book) (memory : Physical)
         ap (λ (one : RootKernel). view_of one number index) added.kept
         ∙ view_same root number index view root_stands.shape (omega arith) few
 
+    -- a frame of the view is not free then
     held_part : (frame : ℕ) → IsFree between frame → Contains (view_frames view) frame → ⊥
     held_part frame free among =
         let at = contains_index (view_frames view) frame among in
@@ -224,6 +244,7 @@ module _ (kernel : Kernel) (root : RootKernel) (book : Book) (memory : Physical)
     part_free : (k : ℕ) → k < length (view_frames view) → IsFree book (get_or (view_frames view) k 0)
     part_free k within = added.free (get_or (view_frames view) k 0) (contains_at (view_frames view) k within)
 
+    -- what is free then was free before
     free_first : (frame : ℕ) → IsFree between frame → IsFree book frame
     free_first frame free =
         let size = ap length added.taken ∙ length_with_parts book number 0 (view_frames view) in
@@ -258,6 +279,7 @@ module _ (kernel : Kernel) (root : RootKernel) (book : Book) (memory : Physical)
           sym (ap (λ (found : Option Thread). (unwrap_or found no_thread).home)
           (slice_same state.threads number (record thread { bindings = thread.bindings ++ binding ∷ [] }) thread there))
 
+      -- it is carried
       carried : Carries (placed_view stands.placement root' number index view) root' between mid with_its_view
       unfolding adds_view
       carried = record {
@@ -278,6 +300,7 @@ module _ (kernel : Kernel) (root : RootKernel) (book : Book) (memory : Physical)
           (can_take (placed_view stands.placement root' number index view) root' between mid with_its_view carried process
           (process_there kernel root book memory state stands process entry kept))
 
+      -- no table of the home is one of the server's
       tables_apart : server ≢ thread.home → (table other : ℕ) → table < 12 → other < 12
           → table_frame (stands.placement.sets thread.home) table ≢ table_frame (stands.placement.sets server) other
       tables_apart differ table other low below same =

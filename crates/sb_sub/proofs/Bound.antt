@@ -53,6 +53,7 @@ use Rattle.sb_sub.proofs.Lists.{lists_kept}
 use Rattle.sb_sub.proofs.SharedPages.{AreShared, are_shared}
 use Rattle.sb_sub.proofs.Translated.{translations_kept}
 
+-- what is kept of a thread that is set
 seats_map : (threads : List Thread) (number : ℕ) (thread : Thread)
     → map seat_of (slice_set threads number thread) ≡ slice_set (map seat_of threads) number (seat_of thread)
 seats_map [] number thread = refl
@@ -60,6 +61,7 @@ seats_map (first ∷ threads) zero thread = refl
 seats_map (first ∷ threads) (suc number) thread =
     ap (λ (rest : List Seat). seat_of first ∷ rest) (seats_map threads number thread)
 
+-- a process that told something is there
 entry_by : (found : Option Entry) (registration : Registration)
     → registration_of (option_map process_of found) ≡ Some registration → (entry : Entry) × (found ≡ Some entry)
 entry_by None registration is = absurd (let e = is in cc)
@@ -128,20 +130,25 @@ module _ (kernel : Kernel) (root : RootKernel) (book : Book) (memory : Physical)
     server_entry =
         entry_by (slice_get kernel.processes server) accepted.registration (registered_same server ∙ accepted.registered)
 
+    -- the server is one of the processes,
     pub server_inside : server < length kernel.processes
     server_inside = slice_get_within kernel.processes server server_entry.0 server_entry.1
 
+    -- of at most sixteen,
     pub server_few : server < 16
     server_few =
         (stands.keeps.leads.guests server
         (process_there kernel root book memory state stands server server_entry.0 server_entry.1)).few
 
+    -- and not the thread's home;
     pub server_away : server ≢ (seat_in kernel number).home
     server_away = subst (λ (seat : Seat). server ≢ seat.home) (sym seat_same) accepted.away
 
+    -- the thread has fewer than fifteen bindings,
     pub bindings_few : length (seat_in kernel number).bindings < 15
     bindings_few = subst (λ (seat : Seat). length seat.bindings < 15) (sym seat_same) accepted.few
 
+    -- and ten frames are free
     pub frames_free : 10 ≤ free_count book
     frames_free = let left = accepted.room in let count = stands.count in omega arith
 
@@ -158,6 +165,7 @@ module _ (kernel : Kernel) (root : RootKernel) (book : Book) (memory : Physical)
     server_there : server < length state.processes
     server_there = process_there kernel root book memory state stands server pages.target pages.target_there
 
+    -- the record page says what the definitions say
     words_same : record_of_server kernel number server (first_key kernel.keys)
         ≡ server_words number (thread_at state number) (new_binding state (thread_at state number) server)
         (handler_in (registration_at state server))
@@ -185,6 +193,7 @@ module _ (kernel : Kernel) (root : RootKernel) (book : Book) (memory : Physical)
         pages.target_there root' pages.between pages.mid told index pages.view added_told pages.stands pages.booked_between
         pages.answers
 
+    -- the index is the lowest that the thread has free
     index_is : free_index (thread_at state number).bindings ≡ index
     index_is =
         free_indices_agree stands.placement state memory number index thread stands.keeps thread_there view_added.added.lowest
@@ -268,6 +277,7 @@ module _ (kernel : Kernel) (root : RootKernel) (book : Book) (memory : Physical)
       count = (let was = stands.count in let left = free_now in omega (arith, was, left, fewer));
     }
 
+    -- it is what is stood for
     pub bound_stands : StandsFor (kernel_with kernel number (new_binding state (thread_at state number) server)) root' book' new
         (with_binding state number (thread_at state number) (new_binding state (thread_at state number) server))
     bound_stands = subst (λ (one : Binding). StandsFor (kernel_with kernel number one) root' book' new
@@ -327,6 +337,7 @@ module _ (kernel : Kernel) (root : RootKernel) (book : Book) (memory : Physical)
       seen_before : (other : ℕ) → other < length now.threads → IsView state other (present_index state other)
       seen_before other low = has.present other (subst (λ (n : ℕ). other < n) count_now low)
 
+      -- the words of the cores are as before
       cores_after : HasCores after now cores
       cores_after = record {
         list = λ other low.
@@ -346,6 +357,7 @@ module _ (kernel : Kernel) (root : RootKernel) (book : Book) (memory : Physical)
             (seen.0, views.shown other (present_index state other) seen.0 seen.1);
       }
 
+      -- so each address that led to a place leads there
       pub place_stays : (other view : ℕ) → IsView state other view → (access : Access) (linear : ℕ) (place : PhysAddr)
           → LeadsTo (seen_through memory (cores other) view) access linear place
           → LeadsTo (seen_through new (cores other) view) access linear place

@@ -6,12 +6,7 @@ use Rattle.sb_root.specs.Root.{IsSet, IsShaped, entry_of_index, eptp_list_frame,
 use Rattle.sb_root.proofs.Uses.{Place, here, elsewhere, place_of_index, view_other}
 use Rattle.sb_sub.specs.Serving.{KeepsLists}
 
-pub lists_same : (old new : RootKernel) → new ≡ old → KeepsLists old new
-lists_same old new same = record {
-  lists = λ thread. ap (λ (root : RootKernel). eptp_list_frame root thread) same;
-  entries = λ thread index set. ap (λ (root : RootKernel). list_entry root thread index) same;
-}
-
+-- an entry that is set is not that of the view which is added
 entry_stays : (root : RootKernel) (thread index other second : ℕ) (view : View) → IsShaped root → thread < 32
     → is_listed (view_of root thread index) ≡ false → IsSet root other second → Place thread index other second
     → list_entry (with_view root thread index view) other second ≡ list_entry root other second
@@ -22,6 +17,7 @@ entry_stays root thread index other second view shape small free set (here same 
 entry_stays root thread index other second view shape small free set (elsewhere differ) =
     ap entry_of_index (view_other root thread index other second view shape small differ)
 
+-- where a view is added, lists and entries that are set stay
 pub lists_kept : (root root' : RootKernel) (thread index : ℕ) (view : View) → IsShaped root → thread < 32
     → is_listed (view_of root thread index) ≡ false → root' ≡ with_view root thread index view → KeepsLists root root'
 lists_kept root root' thread index view shape small free kept = record {

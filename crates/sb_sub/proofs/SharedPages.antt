@@ -19,6 +19,7 @@ use Rattle.sb_shows.specs.Windows.{page_number}
 use Rattle.sb_sub.specs.Sharing.{SharesPage, SharesBuffer, buffer_page_at}
 use Rattle.sb_sub.proofs.Taken.{free_before}
 
+-- where a page of a buffer stands
 buffer_place : (thread index page : ℕ) → 4096 * page_number (Buffer thread index page) ≡ buffer_page_at thread index page
 unfolding page_number
 buffer_place thread index page = omega arith

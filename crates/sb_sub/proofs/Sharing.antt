@@ -45,6 +45,7 @@ module _ (home server : TableSet) (root : RootKernel) (book : Book) (memory fill
     stands_between =
         stands_mapped home root book memory filled frame can.at_home free same between at entry written
 
+    -- the server's tables stand after the page was mapped in the home
     pub server_between : HasTables server between
     server_between =
         tables_stay server (table_frame home (page_table_of (region_of at)) ∷ []) filled between
@@ -55,6 +56,7 @@ module _ (home server : TableSet) (root : RootKernel) (book : Book) (memory fill
 
     module _ (mapped : Physical)
         (written_too : mapped ≡ with_bytes between (put_word between.bytes (page_place server at) entry)) where
+      -- the root kernel's tables stand after it was mapped in both
       pub stands_both : Stands root mapped
       stands_both =
           stands_kept root _ between mapped stands_between (set_word server between mapped at entry written_too)
@@ -94,6 +96,7 @@ module _ (home server : TableSet) (root : RootKernel) (book : Book) (memory fill
         free_old other is =
             (free_before book frame other held free.0 (subst (λ (one : Book). IsFree one other) taken is)).0
 
+        -- frames may be taken for pages of one of the two then
         can_one : (set : TableSet) → CanTake set root book memory → HasTables set mapped → CanTake set root book' new
         can_one set can_set tables = record {
           tables = (let above = free.0.0 in let below = inside in
@@ -107,6 +110,7 @@ module _ (home server : TableSet) (root : RootKernel) (book : Book) (memory fill
           table_apart = can_set.table_apart;
         }
 
+        -- and for pages that both share
         pub can_again : HasTables home between → HasTables server mapped → CanShare home server root book' new
         can_again at_home at_server = record {
           at_home = can_one home can.at_home (home_mapped at_home);
@@ -116,6 +120,7 @@ module _ (home server : TableSet) (root : RootKernel) (book : Book) (memory fill
 
 -- ---- the buffer
 
+-- a page of a buffer is in the window that the page tables serve
 pub buffer_in_window : (thread index page : ℕ) → thread < 8 → index < 16 → page < 4
     → IsInWindow (buffer_page_at thread index page)
 unfolding page_table_of

@@ -24,6 +24,7 @@ use Rattle.sb_sub.specs.declared.answer.Answer.TheVariants.{Back}
 use Rattle.sb_sub.proofs.Calling.{count_same, goes_on, moved_regs, rax_entered, rdi_entered}
 use Rattle.sb_sub.proofs.Moves.{stands_moved}
 
+-- call 3 is bind
 called_bind : (state : State) (number : ℕ) (next : Regs) → rax next ≡ 3
     → syscall_outcome state number next ≡ bind_of_thread state number (thread_at state number) next
 unfolding syscall_outcome
@@ -54,6 +55,7 @@ told_by (Some refusal) kernel root book memory state thread next new number stan
     goes_on kernel root book memory state thread next new (refusal_number refusal) 0 stands inside now
     (Back number (refusal_number refusal)) _ (ap (λ (call : ℕ). event.Sys call (refusal_number refusal)) (sym same))
 
+-- what bind leaves is the outcome of the definitions
 pub bind_served : (bound : Result Binding CallRefusal) (kernel : Kernel) (root : RootKernel) (book : Book) (memory : Physical)
     (state : State) (thread : ℕ) (old new : Regs) → BindsBy kernel root book memory state thread (rdi old) bound
     → thread < length kernel.seats → rax old ≡ 3 → new ≡ binding_regs (entered old) thread bound

@@ -1,5 +1,5 @@
 -- What bind does: the view of a server with its buffer, the binding of the thread, and the key word that is drawn.
-use Rattle.std.specs.Prelude.{ℕ, ◌≡◌, ◌++◌, [], ◌∷◌, List, length, drop, slice_get, slice_set, true, Option, Some, None, Result, Ok, Err, unwrap_or}
+use Rattle.std.specs.Prelude.{ℕ, ◌≡◌, ◌++◌, [], ◌∷◌, List, length, drop, slice_get, slice_set, true, Option, Some, None, Result, Ok, Err}
 use Rattle.sb_abi.specs.declared.call.CallRefusal.{CallRefusal}
 use Rattle.sb_abi.specs.declared.space.TheConstants.{BUFFER_PAGES}
 use Rattle.sb_calls.specs.Refusals.{bind_refusal}
@@ -14,10 +14,10 @@ use Rattle.sb_root.specs.Calls.{IsAddedView}
 use Rattle.sb_root.specs.Standing.{IsBooked, Stands}
 use Rattle.sb_state.specs.declared.state.Binding.{Binding}
 use Rattle.sb_trace.specs.KernelCall.{handler_in}
-use Rattle.sb_trace.specs.State.{State, no_thread, registration_of, thread_at}
+use Rattle.sb_trace.specs.State.{State, registration_of, thread_at}
 use Rattle.sb_trace.specs.SyscallBind.{new_binding, refusal_of_bind, with_binding}
 use Rattle.sb_trace.specs.SyscallRegister.{is_registered}
-use Rattle.sb_sub.specs.Kernel.{Entry, Kernel, Seat, seat_in, seat_of}
+use Rattle.sb_sub.specs.Kernel.{Entry, Kernel, Seat, seat_in}
 use Rattle.sb_sub.specs.Refusals.{process_in}
 use Rattle.sb_sub.specs.Sharing.{SharesBuffer}
 use Rattle.sb_sub.specs.StandsFor.{StandsFor}
@@ -52,10 +52,6 @@ pub record AddsServerView (processes : List Entry) (root root' : RootKernel) (bo
   pub booked : IsBooked root' book' new
 
 -- ---- the kernel
-
--- what is kept of a thread in a list
-abbrev pub seat_among : List Seat → ℕ → Seat
-seat_among seats thread = unwrap_or (slice_get seats thread) (seat_of no_thread)
 
 -- a seat with one binding more
 abbrev pub seat_with : Seat → Binding → Seat

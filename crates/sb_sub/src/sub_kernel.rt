@@ -122,6 +122,13 @@ fn note_server(processes: &mut [Process], process: u32, handler: u64, stacks: u3
 }
 
 impl SubKernel {
+    /// The number of key words that are left.
+    pub fn keys_left(&self) -> u32
+        ensures { result ≡ length self.now.keys }
+    {
+        self.keys.left()
+    }
+
     /// The process that a view of a thread shows.
     pub fn shown(&self, thread: u8, view: u16) -> u32
         requires { thread < length self.now.seats }
@@ -148,6 +155,34 @@ impl SubKernel {
         ensures { slice_get self.now.processes process ≡ Some result.now }
     {
         &self.processes[process as usize]
+    }
+
+    /// What the process of a number told as a server, if it did.
+    pub(crate) fn registration(&self, process: u64) -> Option<Registration>
+        ensures { result ≡ registration_of (process_in self.now process) }
+    {
+        let index = process as usize;
+        if index < self.processes.len() {
+            self.processes[index].plain.registration
+        } else {
+            None
+        }
+    }
+
+    /// What is kept of a thread.
+    pub(crate) fn seat(&self, thread: u8) -> &Seat
+        requires { thread < length self.now.seats }
+        ensures { result.now ≡ seat_in self.now thread }
+    {
+        &self.seats[usize::from(thread)]
+    }
+
+    /// The home of a thread.
+    pub(crate) fn home(&self, thread: u8) -> u32
+        requires { thread < length self.now.seats }
+        ensures { result ≡ (seat_in self.now thread).home }
+    {
+        self.seat(thread).home
     }
 
     /// Why the process of a number does not become a server, where so many frames are free.
@@ -231,41 +266,6 @@ impl SubKernel {
         }
         self.make_server(memory, book, root, process, handler, stacks as u32);
         None
-    }
-
-    /// What the process of a number told as a server, if it did.
-    pub(crate) fn registration(&self, process: u64) -> Option<Registration>
-        ensures { result ≡ registration_of (process_in self.now process) }
-    {
-        let index = process as usize;
-        if index < self.processes.len() {
-            self.processes[index].plain.registration
-        } else {
-            None
-        }
-    }
-
-    /// What is kept of a thread.
-    pub(crate) fn seat(&self, thread: u8) -> &Seat
-        requires { thread < length self.now.seats }
-        ensures { result.now ≡ seat_in self.now thread }
-    {
-        &self.seats[usize::from(thread)]
-    }
-
-    /// The home of a thread.
-    pub(crate) fn home(&self, thread: u8) -> u32
-        requires { thread < length self.now.seats }
-        ensures { result ≡ (seat_in self.now thread).home }
-    {
-        self.seat(thread).home
-    }
-
-    /// The number of key words that are left.
-    pub fn keys_left(&self) -> u32
-        ensures { result ≡ length self.now.keys }
-    {
-        self.keys.left()
     }
 
     /// Call 4: a heap page of the process that the view shows gets a mode.
