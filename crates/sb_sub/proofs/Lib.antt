@@ -15,3 +15,11 @@ pub mod SeenAfter
 pub mod Servable
 pub mod Registered
 pub mod Accepting
+pub mod StartPages
+pub mod StartTables
+pub mod StartThreads
+pub mod StartProcesses
+pub mod Begun
+pub mod StartImages
+pub mod StartEntries
+pub mod Started

@@ -9,3 +9,8 @@ pub mod Taking
 pub mod Carries
 pub mod Registering
 pub mod Translations
+pub mod StartPages
+pub mod StartTables
+pub mod StartThreads
+pub mod StartProcesses
+pub mod Start

@@ -35,8 +35,8 @@ use std::marker::Model;
 /// What the Subkernel keeps of a thread.
 #[derive(Debug, Drop)]
 pub struct Seat {
-    home: u32,
-    bindings: Bindings,
+    pub(crate) home: u32,
+    pub(crate) bindings: Bindings,
 }
 
 impl Model for Seat {
@@ -50,9 +50,9 @@ impl Model for Seat {
 /// The processes, the homes and bindings of the threads, and the key words that are left.
 #[derive(Drop)]
 pub struct SubKernel {
-    processes: Vec<Process>,
-    seats: Vec<Seat>,
-    keys: KeyWords,
+    pub(crate) processes: Vec<Process>,
+    pub(crate) seats: Vec<Seat>,
+    pub(crate) keys: KeyWords,
 }
 
 impl Model for SubKernel {
