@@ -22,3 +22,11 @@ pub mod Binding
 pub mod Bound
 pub mod Telling
 pub mod Lists
+pub mod StartPages
+pub mod StartTables
+pub mod StartThreads
+pub mod StartProcesses
+pub mod Begun
+pub mod StartImages
+pub mod StartEntries
+pub mod Started

@@ -12,3 +12,8 @@ pub mod Sharing
 pub mod Binding
 pub mod BindingTold
 pub mod Translations
+pub mod StartPages
+pub mod StartTables
+pub mod StartThreads
+pub mod StartProcesses
+pub mod Start

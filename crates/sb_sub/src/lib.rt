@@ -9,6 +9,7 @@ mod process;
 mod protect;
 mod register;
 mod registers;
+mod start;
 mod sub_kernel;
 mod taking;
 

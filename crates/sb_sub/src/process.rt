@@ -30,6 +30,13 @@ impl Process {
         &self.set
     }
 
+    /// Keeps its page tables.
+    pub(crate) fn put_set(&mut self, set: TableSet)
+        ensures { self.new ≡ record self.old { set = set } }
+    {
+        self.set = set;
+    }
+
     /// Notes the handler of a server, and the number of its stacks.
     pub(crate) fn note_server(&mut self, handler: u64, stacks: u32)
         ensures { self.new ≡ with_entry self.old handler stacks }

@@ -1,0 +1,13 @@
+-- What is built, and what is left.
+use Rattle.std.proofs.Common.{◌≡◌, ◌≤◌, ◌+◌, ◌*◌, ℕ}
+use Rattle.sb_frames.specs.Book.{free_count}
+use Rattle.sb_sub.specs.StartThreads.{HasNoViews}
+use Rattle.sb_sub.proofs.StartEntries.{EntriesLeft}
+use Rattle.sb_sub.proofs.start.build_threads.Given as goal
+
+abbrev pub invariant-loop-thread : goal.invariant-loop-thread
+invariant-loop-thread l = record {
+  left : EntriesLeft l.loaded l.thread l.root l.book l.memory l.processes;
+  none : (thread : ℕ) → l.thread ≤ thread → HasNoViews l.root thread;
+  fewer : free_count l.book + 12 * l.thread ≡ free_count l.fn.book;
+}
