@@ -2,9 +2,9 @@
 //!
 //! `Plain::new` is the machine that a loaded bundle starts: the pages of its processes and threads, the two pages of the
 //! trampoline, and a thread for each core. It has room for a page for each free frame, so no step takes memory. `step` runs
-//! one instruction of a core's thread and says what happened, `end` says how everything stands. To contracts the machine is
-//! the `State` of `sb_state`, and each of the three is equal to its definition: `first_state`, `Steps` of `sb_trace`, and its
-//! `end_of`.
+//! one instruction of a core's thread and says what happened, `ended` says whether that thread has ended, `end` how everything
+//! stands. To contracts the machine is the `State` of `sb_state`, and start, step and end are equal to their definitions:
+//! `first_state`, `Steps` of `sb_trace`, and its `end_of`.
 //!
 //! Inside: the start (`start`), an instruction (`instruction`), a step (`step`), the end (`end`); and the kernel: faults and
 //! the way home (`home`), calls and returns through VMFUNC (`call`) and the landing that stands for them (`flight`), what a

@@ -1,6 +1,9 @@
 //! The plain machine.
 
-use sb_state::PlainState;
+ghost use Rattle.std.specs.Prelude.{◌≡◌, ◌↔◌, IsFalse};
+ghost use Rattle.sb_state.specs.State.{thread_at};
+
+use sb_state::{EndKind, PlainState};
 use std::marker::Model;
 
 /// The plain machine: a state, and steps of it. To contracts it is the state of the definitions.
@@ -15,4 +18,13 @@ impl Model for Plain {
     ghost Value = { State };
 
     ghost view = { λ plain. plain.state };
+}
+
+impl Plain {
+    /// Whether the thread of a core has ended, by itself or by a fault. A core that has none is one whose thread has ended.
+    pub fn ended(&self, core: u8) -> bool
+        ensures { IsFalse result ↔ ((thread_at self.now core).state ≡ EndKind.Running) }
+    {
+        !matches!(self.state.thread(core).state, EndKind::Running)
+    }
 }
