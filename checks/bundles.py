@@ -9,6 +9,7 @@ from typing import List, NamedTuple, Sequence, Tuple
 ROOT = pathlib.Path(__file__).resolve().parent.parent
 sys.path.append(str(ROOT / "tools"))  # for what tools and checks share
 PROGRAM = os.environ.get("PROGRAM", str(ROOT / "crates/skybridge/out/skybridge"))
+CORES = os.environ.get("CORES", str(ROOT / "crates/skycores/out/skycores"))
 
 TEXT = 0x400000
 DATA = 0x800000

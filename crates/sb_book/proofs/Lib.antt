@@ -1,0 +1,3 @@
+pub mod Busy
+pub mod Running
+pub mod Runs

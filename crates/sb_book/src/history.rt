@@ -1,0 +1,169 @@
+//! A machine with its journal.
+
+ghost use Rattle.std.specs.Prelude.{◌≡◌, ◌+◌, ◌<◌, ◌≤◌, ◌↔◌, ◌∷◌, ◌++◌, [], length, IsTrue, IsFalse, vec_len, vec_capacity, IfOk, IfSome, IfNone};
+ghost use Rattle.sb_book.specs.History.{empty_history, IsRunning, AllEnded, IsRun, IsOneStep, IsDone, IsLowest, IsNext};
+
+use sb_load::Loaded;
+use sb_plain::Plain;
+use sb_trace::Line;
+use std::alloc::{AllocError, Global};
+use std::marker::Model;
+
+/// A machine that was started from what was loaded, with one entry and one line for each step that it made.
+#[derive(Drop)]
+pub struct History {
+    loaded: Loaded,
+    machine: Plain,
+    journal: Vec<u8>,
+    lines: Vec<Line>,
+    room: u32,
+}
+
+impl Model for History {
+    ghost use Rattle.std.specs.Prelude.{◌+◌, ◌≤◌, vec_len, vec_capacity};
+    ghost use Rattle.sb_book.specs.History.{History, IsRun};
+
+    ghost Value = { History };
+
+    ghost view = { λ h. record { load = h.loaded; machine = h.machine; journal = h.journal.items; lines = h.lines.items; room = h.room } };
+
+    ghost invariant = { λ h. IsRun (record { load = h.loaded; machine = h.machine; journal = h.journal.items; lines = h.lines.items; room = h.room })
+        × (vec_len h.journal + h.room ≤ vec_capacity h.journal) × (vec_len h.lines + h.room ≤ vec_capacity h.lines) };
+}
+
+/// Appends a value for which there is room.
+fn put<T: Drop>(list: &mut Vec<T>, value: T)
+    requires { vec_len list.old < vec_capacity list.old }
+    ensures items { list.new.items ≡ list.old.items ++ value ∷ [] }
+    ensures len { vec_len list.new ≡ vec_len list.old + 1 }
+    ensures capacity { vec_capacity list.old ≤ vec_capacity list.new }
+{
+    // There is room, so it is no error.
+    let _ = list.push(value);
+}
+
+impl History {
+    /// The machine at its start, with room for so many steps.
+    #[tactic(auto, using(crate::proofs::Runs::cores_started))]
+    pub fn new(alloc: Global, loaded: Loaded, room: u32) -> Result<History, AllocError>
+        ensures { IfOk result (λ history. history ≡ empty_history loaded room) }
+    {
+        let machine = Plain::new(alloc, &loaded)?;
+        let journal = Vec::with_capacity(alloc, room as usize)?;
+        let lines = Vec::with_capacity(alloc, room as usize)?;
+        Ok(History {
+            loaded,
+            machine,
+            journal,
+            lines,
+            room,
+        })
+    }
+
+    /// What the machine started from.
+    pub fn loaded(&self) -> &Loaded
+        ensures { result.now ≡ self.now.load }
+    {
+        &self.loaded
+    }
+
+    /// The machine.
+    pub fn machine(&self) -> &Plain
+        ensures { result.now ≡ self.now.machine }
+    {
+        &self.machine
+    }
+
+    /// The core of each step.
+    pub fn journal(&self) -> &[u8]
+        ensures { result.now ≡ self.now.journal }
+    {
+        &self.journal
+    }
+
+    /// The line of each step: these are the lines of the machine's run under the journal, and none is `idle`.
+    pub fn lines(&self) -> &[Line]
+        ensures lines { result.now ≡ self.now.lines }
+        ensures run { IsRun self.now }
+    {
+        &self.lines
+    }
+
+    /// The journal and the lines, for which no memory is taken.
+    pub fn into_parts(self) -> (Vec<u8>, Vec<Line>)
+        ensures journal { result.0.items ≡ self.journal }
+        ensures lines { result.1.items ≡ self.lines }
+    {
+        (self.journal, self.lines)
+    }
+
+    /// How many further steps there is room for.
+    pub fn room(&self) -> u32
+        ensures { result ≡ self.now.room }
+    {
+        self.room
+    }
+
+    /// The number of cores.
+    pub fn cores(&self) -> u8
+        ensures cores { result ≡ length self.now.machine.threads }
+        ensures bundle { result ≡ length self.now.load.bundle.cores }
+    {
+        self.loaded.bundle().cores.items().len() as u8
+    }
+
+    /// Whether the thread of a core has ended.
+    pub fn ended(&self, core: u8) -> bool
+        ensures { IsFalse result ↔ IsRunning self.now.machine core }
+    {
+        self.machine.ended(core)
+    }
+
+    /// The lowest core whose thread goes on.
+    pub fn running(&self) -> Option<u8>
+        ensures some { IfSome result (λ core. IsLowest self.now.machine core) }
+        ensures none { IfNone result (AllEnded self.now.machine) }
+    {
+        for core in 0..self.cores() {
+            if !self.ended(core) {
+                return Some(core);
+            }
+        }
+        None
+    }
+
+    /// Whether each thread has ended.
+    pub fn all_ended(&self) -> bool
+        ensures { IsTrue result ↔ AllEnded self.now.machine }
+    {
+        self.running().is_none()
+    }
+
+    /// The core whose step a worker of this core makes: its own while its thread runs, else the lowest that runs. `None` where
+    /// nothing is left to do.
+    pub fn next(&self, core: u8) -> Option<u8>
+        ensures some { IfSome result (λ next. IsNext self.now core next) }
+        ensures none { IfNone result (IsDone self.now) }
+    {
+        if self.room == 0 {
+            return None;
+        }
+        if !self.ended(core) {
+            return Some(core);
+        }
+        self.running()
+    }
+
+    /// One step of a core whose thread runs, with its entry and its line. It takes no memory.
+    #[tactic(auto, using(crate::proofs::Busy::busy_steps))]
+    pub fn step(&mut self, core: u8)
+        requires running { IsRunning self.old.machine core }
+        requires room { 0 < self.old.room }
+        ensures { IsOneStep self.old core self.new }
+    {
+        let line = self.machine.step(core);
+        put(&mut self.journal, core);
+        put(&mut self.lines, line);
+        self.room -= 1;
+    }
+}

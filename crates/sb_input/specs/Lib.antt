@@ -1,0 +1,9 @@
+pub use Rattle.sb_port.specs.Port
+pub use Rattle.sb_bundle.specs.Limits
+pub use Rattle.sb_bundle.specs.Spelling
+pub use Rattle.sb_bundle.specs.Reading
+pub use Rattle.sb_load.specs.Loading
+pub mod Told
+pub mod Input
+pub mod Lines
+pub mod Cause
