@@ -2,14 +2,15 @@
 
 import collections
 import html
-from typing import Dict, Iterator, List, NamedTuple, Optional, Tuple
+from typing import Dict, Iterator, List, NamedTuple, Tuple
 
 from timeline import Call, Lane, Mark, Report, Span, lanes_of, servers_at_end
 
 LANE, ROOM = 34, 10  # heights of a lane, and between two
 CALL_TOP, CALL_HEIGHT, BASE_TOP, BASE_HEIGHT = 2, 22, 26, 8  # within a lane
-MOST = 30_000  # spans, and marks, that are drawn
+MOST = 20_000  # spans, and marks, that are drawn
 TOLD = 10  # lines that a title tells
+UNDECIDED = -1  # in place of a binding's index
 COLOURS = (
     "#2f6fb5 #c8641b #2e8b4f #8a56ac #b5364a #1f97a3 #8c6d1f #d06aa7 "
     "#4a5fd0 #6b8e23 #a0522d #008b8b #9932cc #c71585 #556b2f #4682b4"
@@ -229,7 +230,7 @@ class Row(NamedTuple):
     """The calls of a core through one of its bindings."""
 
     core: int
-    binding: Optional[int]
+    binding: int  # UNDECIDED where no call was decided
     server: str
     calls: List[Call]
 
@@ -239,8 +240,9 @@ def rows_of(drawing: Drawing) -> List[Row]:
     found: Dict[Tuple[int, int], List[Call]] = collections.defaultdict(list)
     for lane in drawing.lanes:
         for call in lane.calls:
-            found[lane.core, -1 if call.binding is None else call.binding].append(call)
-    return [Row(core, binding, server_name(calls[0], drawing.servers), calls) for (core, binding), calls in sorted(found.items())]
+            found[lane.core, UNDECIDED if call.binding is None else call.binding].append(call)
+    names = {key: server_name(calls[0], drawing.servers) for key, calls in found.items()}
+    return [Row(core, binding, names[core, binding], calls) for (core, binding), calls in sorted(found.items())]
 
 
 REFUSALS = "wrong key", "pool empty", "unbound", "bad leaf"
@@ -256,5 +258,5 @@ def cells_of(row: Row) -> List[str]:
     counts += [sum(call.ending.startswith(ending) for call in calls) for ending in ENDINGS]
     counts += [sum(call.landing_steps for call in calls), sum(call.server_steps for call in calls)]
     counts.append(max(call.landing_steps + call.server_steps for call in calls))
-    binding = "?" if row.binding == -1 else str(row.binding)
+    binding = "?" if row.binding == UNDECIDED else str(row.binding)
     return [str(row.core), binding, row.server, *(str(count) for count in counts)]

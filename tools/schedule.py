@@ -5,9 +5,11 @@ from typing import Dict, Iterator, List, Optional, Tuple
 import judge
 import timeline
 from description import WORD_MASK, Description, Fault, Place, Statement, expect, number, within
+from elf import TEXT
 from machine import LIMITS, Machine
 
 ENTRIES = "entries of the schedule"
+SYSCALL = b"\x0f\x05"
 FARTHEST = 65536  # steps of a core that are made to find a label
 Labels = Dict[str, int]
 Run = Tuple[Machine, List[Labels]]  # a machine that can be run, and the labels of its processes
@@ -37,25 +39,34 @@ def steps_to(statement: Statement, description: Description, before: List[int], 
     if label not in labels[shown]:
         name = description.processes[shown].name
         raise Fault(statement.place, f"process `{name}` has no label `{label}` in its text")
-    for count in steps_at(machine._replace(schedule=bytes(before)), core, labels[shown][label], shown != home, statement.place):
+    address = labels[shown][label]
+    for count in steps_at(machine._replace(schedule=bytes(before)), core, address, shown, shown != home, statement.place):
         end = report_of(machine._replace(schedule=bytes(before + [core] * count)), statement.place).ends[core]
-        if (end.rip, end.process) == (labels[shown][label], shown):
+        if (end.rip, end.process) == (address, shown):
             within(ENTRIES, len(before) + count, statement.place)
             return [core] * count
     raise Fault(statement.place, f"core {core} does not come to `{statement.words[2]}` within {FARTHEST} steps")
 
 
-def steps_at(machine: Machine, core: int, address: int, is_server: bool, place: Place) -> Iterator[int]:
+def steps_at(machine: Machine, core: int, address: int, process: int, is_server: bool, place: Place) -> Iterator[int]:
     """How many steps of the core after the machine's own may lead to the address, in its home or in a server's view."""
     before = len(machine.schedule)
     longer = machine.schedule + bytes([core]) * FARTHEST
     report = report_of(machine._replace(schedule=longer[: LIMITS[ENTRIES][1]]), place)
+    is_call = machine.processes[process].text[address - TEXT :].startswith(SYSCALL)
     for span in timeline.lanes_of(report)[core].spans:
         if span.last >= before and span.activity == ("server" if is_server else "home"):
             for at in range(max(span.first, before), span.last + 1):
-                kind, word = (report.steps[at][1].split() + [""])[:2]
-                if kind not in ("step", "extra", "stray") or word == f"{address:x}":
+                if report.steps[at][0] == core and may_stand_at(report.steps[at][1], address, is_call):
                     yield at - before
+
+
+def may_stand_at(text: str, address: int, is_call: bool) -> bool:
+    """Whether this may be the line of the instruction at the address. Lines of system calls and faults do not tell theirs."""
+    kind, word = (text.split() + [""])[:2]
+    if is_call:
+        return kind in ("sys", "print", "exit", "server")
+    return kind in ("fault", "server") or kind in ("step", "extra", "stray") and word == f"{address:x}"
 
 
 def report_of(machine: Machine, place: Place) -> timeline.Report:
