@@ -132,12 +132,48 @@ impl Machine {
         }
     }
 
+    /// The pointers to the base and to the three views of thread 0.
+    fn pointers(&mut self) -> [u64; 4] {
+        [
+            BASE,
+            self.pointer(0, 0),
+            self.pointer(0, 1),
+            self.pointer(0, 2),
+        ]
+    }
+
+    /// The answers of walks from four pointers.
+    fn walks(
+        &mut self,
+        pointers: [u64; 4],
+        at: u64,
+        access: Access,
+    ) -> [Option<Result<PhysAddr, EptStop>>; 4] {
+        let [base, home, first, second] = pointers;
+        [
+            self.walk(base, at, access),
+            self.walk(home, at, access),
+            self.walk(first, at, access),
+            self.walk(second, at, access),
+        ]
+    }
+
     fn walk(&mut self, eptp: u64, at: u64, access: Access) -> Option<Result<PhysAddr, EptStop>> {
         if !is_eptp(eptp) || (eptp >> 12) & 0xFF_FFFF_FFFF >= u64::from(self.memory.frames()) {
             return None;
         }
         Some(ept_walk(&mut self.memory, eptp, GuestPhys(at), access))
     }
+}
+
+/// Words of the record and scratch page of the first view.
+fn record_words(memory: &Memory) -> [Option<u64>; 4] {
+    [
+        word_at(memory, 0x20_5000),
+        word_at(memory, 0x20_5028),
+        word_at(memory, 0x20_5030),
+        word_at(memory, 0x20_6000),
+    ]
 }
 
 /// What an address answers by the last entry.
@@ -168,16 +204,6 @@ const VIEWS: [(&str, u64, Access, [Result<PhysAddr, EptStop>; 4]); 14] = [
     ("behind 32 MiB", 0x200_0000, Access::Read, [BEYOND; 4]),
 ];
 
-/// Words of the record and scratch page of the first view.
-fn record_words(memory: &Memory) -> [Option<u64>; 4] {
-    [
-        word_at(memory, 0x20_5000),
-        word_at(memory, 0x20_5028),
-        word_at(memory, 0x20_5030),
-        word_at(memory, 0x20_6000),
-    ]
-}
-
 #[test]
 fn views_differ_in_four_pages(rt: HostRuntime) {
     let mut machine = Machine::new(rt.alloc(), 512).expect(&rt, "memory");
@@ -187,17 +213,16 @@ fn views_differ_in_four_pages(rt: HostRuntime) {
     assert_same(&rt, "server 16", &machine.add_view(0, 18, 16), &Some(Ok(1)));
     assert_same(&rt, "server 17", &machine.add_view(0, 18, 17), &Some(Ok(2)));
     machine.expose(1023, 4);
-    let pointers = [
-        BASE,
-        machine.pointer(0, 0),
-        machine.pointer(0, 1),
-        machine.pointer(0, 2),
-    ];
-    for (shows, at, access, answers) in &VIEWS {
-        for (&pointer, &answer) in pointers.iter().zip(answers) {
-            let found = machine.walk(pointer, *at, *access);
-            assert_same(&rt, shows, &found, &Some(answer));
-        }
+    let pointers = machine.pointers();
+    for &(shows, at, access, answers) in &VIEWS {
+        let found = machine.walks(pointers, at, access);
+        let [base, home, first, second] = answers;
+        assert_same(
+            &rt,
+            shows,
+            &found,
+            &[Some(base), Some(home), Some(first), Some(second)],
+        );
     }
     let expected = [Some(0x1122_3344_5566_7788), Some(2), Some(0), Some(0)];
     assert_same(&rt, "records", &record_words(&machine.memory), &expected);
