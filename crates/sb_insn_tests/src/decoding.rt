@@ -1,5 +1,6 @@
 //! What bytes are decoded as, how long it is, and which are short or undecoded.
 
+use crate::same::assert_same;
 use sb_decode::{DecodeFault, decode};
 use sb_insn::{Disp, Imm, Insn, Op};
 
@@ -23,6 +24,11 @@ const RET: Insn = Insn {
     imm: Imm::None,
 };
 
+/// Decodes bytes, without the contract of `decode`, which tests do not need.
+fn decoded(bytes: &[u8]) -> Result<(Insn, usize), DecodeFault> {
+    decode(bytes)
+}
+
 /// Names, bytes, their instruction, and its length.
 #[rattlefmt::skip]
 const FIELDS: [(&str, &[u8], Insn, usize); 7] = [
@@ -37,8 +43,8 @@ const FIELDS: [(&str, &[u8], Insn, usize); 7] = [
 
 #[test]
 fn reads_every_field(rt: HostRuntime) {
-    for (name, bytes, insn, length) in FIELDS {
-        assert_eq!(rt; decode(bytes), Ok((insn, length)), "{name}");
+    for &(name, bytes, insn, length) in &FIELDS {
+        assert_same(&rt, name, &decoded(bytes), &Ok((insn, length)));
     }
 }
 
@@ -59,8 +65,9 @@ const LENGTHS: [(&str, &[u8], usize); 10] = [
 
 #[test]
 fn tells_where_an_instruction_ends(rt: HostRuntime) {
-    for (name, bytes, length) in LENGTHS {
-        assert_eq!(rt; decode(bytes).map(|found| found.1), Ok(length), "{name}");
+    for &(name, bytes, length) in &LENGTHS {
+        let found = decoded(bytes).map(|found| found.1);
+        assert_same(&rt, name, &found, &Ok(length));
     }
 }
 
@@ -108,10 +115,10 @@ const UNDECODED: [(&str, &[u8]); 21] = [
 
 #[test]
 fn tells_short_from_undecoded(rt: HostRuntime) {
-    for (name, bytes) in SHORT {
-        assert_eq!(rt; decode(bytes), Err(DecodeFault::Short), "{name}");
+    for (name, bytes) in &SHORT {
+        assert_same(&rt, name, &decoded(bytes), &Err(DecodeFault::Short));
     }
-    for (name, bytes) in UNDECODED {
-        assert_eq!(rt; decode(bytes), Err(DecodeFault::Undecoded), "{name}");
+    for (name, bytes) in &UNDECODED {
+        assert_same(&rt, name, &decoded(bytes), &Err(DecodeFault::Undecoded));
     }
 }

@@ -1,8 +1,14 @@
 //! How instructions are encoded, and that what was read is encoded as it was read.
 
+use crate::same::assert_same;
 use sb_decode::decode;
 use sb_encode::encode;
 use sb_insn::{Disp, Imm, Insn, Op};
+
+/// Whether an instruction is valid, and these bytes spell it.
+fn is_spelled(insn: &Insn, bytes: &[u8]) -> bool {
+    insn.is_valid() && encode(insn).as_slice() == bytes
+}
 
 #[test]
 fn spells_every_field(rt: HostRuntime) {
@@ -18,11 +24,7 @@ fn spells_every_field(rt: HostRuntime) {
     let bytes: [u8; 13] = [
         0xF0, 0x48, 0x81, 0x84, 0x25, 0, 0, 0x80, 0, 0xFE, 0xFF, 0xFF, 0xFF,
     ];
-    let valid = insn.is_valid();
-    assert!(rt; valid);
-    if valid {
-        assert_eq!(rt; encode(&insn).as_slice(), &bytes[..]);
-    }
+    assert_same(&rt, "every field", &is_spelled(&insn, &bytes), &true);
 }
 
 /// Names, and the bytes of one instruction.
@@ -40,14 +42,17 @@ const SPELLINGS: [(&str, &[u8]); 10] = [
     ("XOR EAX, EAX by reg, rm", &[0x33, 0xC0]),
 ];
 
+/// Whether bytes are one instruction, whose encoding they are.
+fn are_spelled_again(bytes: &[u8]) -> bool {
+    match decode(bytes) {
+        Ok((insn, length)) => length == bytes.len() && encode(&insn).as_slice() == bytes,
+        Err(_) => false,
+    }
+}
+
 #[test]
 fn spells_again_what_was_read(rt: HostRuntime) {
-    for (name, bytes) in SPELLINGS {
-        let found = decode(bytes);
-        assert!(rt; found.is_ok(), "{name}");
-        if let Ok((insn, length)) = found {
-            assert_eq!(rt; length, bytes.len(), "{name}");
-            assert_eq!(rt; encode(&insn).as_slice(), bytes, "{name}");
-        }
+    for (name, bytes) in &SPELLINGS {
+        assert_same(&rt, name, &are_spelled_again(bytes), &true);
     }
 }

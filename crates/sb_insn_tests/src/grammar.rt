@@ -1,5 +1,6 @@
 //! Which instructions are valid, how long they are, what the maps call them, and where direct jumps lead.
 
+use crate::same::assert_same;
 use sb_insn::{
     Disp, Flags, Imm, Insn, Mnemonic, Op, OperandForm, base, index, instruction_of, mod_field,
     modrm_opcode_of, reg_field, rex_b, rex_r, rex_w, rex_x, rm_field, scale,
@@ -86,9 +87,9 @@ const LENGTHS: [(&str, Insn, bool, usize); 21] = [
 
 #[test]
 fn knows_valid_instructions_and_lengths(rt: HostRuntime) {
-    for (name, insn, valid, length) in LENGTHS {
-        assert_eq!(rt; insn.is_valid(), valid, "{name}");
-        assert_eq!(rt; insn.length(), length, "{name}");
+    for (name, insn, valid, length) in &LENGTHS {
+        assert_same(&rt, name, &insn.is_valid(), valid);
+        assert_same(&rt, name, &insn.length(), length);
     }
 }
 
@@ -105,14 +106,13 @@ const LISTED: [(&str, Insn, Option<(Mnemonic, OperandForm)>); 6] = [
 
 #[test]
 fn finds_instructions_in_the_maps(rt: HostRuntime) {
-    for (name, insn, expected) in LISTED {
-        let found = instruction_of(&insn).map(|found| (found.mnemonic, found.form));
-        assert_eq!(rt; found, expected, "{name}");
+    for (name, insn, expected) in &LISTED {
+        let found = instruction_of(insn).map(|found| (found.mnemonic, found.form));
+        assert_same(&rt, name, &found, expected);
     }
-    assert!(rt;
-        modrm_opcode_of(&MOV_BYTE).is_some_and(|operand| operand.byte_reg && operand.byte_rm)
-    );
-    assert!(rt; modrm_opcode_of(&RET).is_none());
+    let of_bytes = modrm_opcode_of(&MOV_BYTE).map(|operand| (operand.byte_reg, operand.byte_rm));
+    assert_same(&rt, "MOV of a byte", &of_bytes, &Some((true, true)));
+    assert_same(&rt, "RET", &modrm_opcode_of(&RET).is_none(), &true);
 }
 
 /// Names, instructions, their addresses, and where they lead.
@@ -127,25 +127,35 @@ const JUMPS: [(&str, Insn, u64, Option<u64>); 5] = [
 
 #[test]
 fn tells_where_direct_jumps_lead(rt: HostRuntime) {
-    for (name, insn, at, target) in JUMPS {
-        assert_eq!(rt; insn.direct_target(at), target, "{name}");
-        assert_eq!(rt; insn.is_direct(), target.is_some(), "{name}");
+    for (name, insn, at, target) in &JUMPS {
+        assert_same(&rt, name, &insn.direct_target(*at), target);
+        assert_same(&rt, name, &insn.is_direct(), &target.is_some());
     }
 }
 
+/// W, R, X and B of a REX byte.
+fn bits_of(rex: Option<u8>) -> [u8; 4] {
+    [rex_w(rex), rex_r(rex), rex_x(rex), rex_b(rex)]
+}
+
+/// REX bytes, and their W, R, X and B.
+const REX_BITS: [(&str, Option<u8>, [u8; 4]); 5] = [
+    ("W", Some(0x48), [1, 0, 0, 0]),
+    ("R", Some(0x44), [0, 1, 0, 0]),
+    ("X", Some(0x42), [0, 0, 1, 0]),
+    ("B", Some(0x41), [0, 0, 0, 1]),
+    ("no REX", None, [0, 0, 0, 0]),
+];
+
 #[test]
 fn splits_bytes_into_fields(rt: HostRuntime) {
-    assert_eq!(rt;
-        (mod_field(0x9C), reg_field(0x9C), rm_field(0x9C)),
-        (2, 3, 4)
-    );
-    assert_eq!(rt; (scale(0x9C), index(0x9C), base(0x9C)), (2, 3, 4));
-    let bits = |rex| (rex_w(rex), rex_r(rex), rex_x(rex), rex_b(rex));
-    assert_eq!(rt; bits(Some(0x48)), (1, 0, 0, 0));
-    assert_eq!(rt; bits(Some(0x44)), (0, 1, 0, 0));
-    assert_eq!(rt; bits(Some(0x42)), (0, 0, 1, 0));
-    assert_eq!(rt; bits(Some(0x41)), (0, 0, 0, 1));
-    assert_eq!(rt; bits(None), (0, 0, 0, 0));
+    let modrm = (mod_field(0x9C), reg_field(0x9C), rm_field(0x9C));
+    assert_same(&rt, "ModRM", &modrm, &(2, 3, 4));
+    let sib = (scale(0x9C), index(0x9C), base(0x9C));
+    assert_same(&rt, "SIB", &sib, &(2, 3, 4));
+    for (name, rex, bits) in &REX_BITS {
+        assert_same(&rt, name, &bits_of(*rex), bits);
+    }
 }
 
 #[test]
@@ -157,6 +167,6 @@ fn puts_the_flags_at_their_places(rt: HostRuntime) {
         sf: true,
         of: true,
     };
-    assert_eq!(rt; all.image(), 0x8C5);
-    assert_eq!(rt; Flags::CLEAR.image(), 0);
+    assert_same(&rt, "all", &all.image(), &0x8C5);
+    assert_same(&rt, "none", &Flags::CLEAR.image(), &0);
 }

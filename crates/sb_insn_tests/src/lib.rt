@@ -10,3 +10,5 @@ mod decoding;
 mod encoding;
 #[cfg(test)]
 mod grammar;
+#[cfg(test)]
+mod same;

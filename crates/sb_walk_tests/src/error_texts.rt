@@ -1,5 +1,6 @@
 //! What the errors of instructions, memory, walks and views say.
 
+use crate::same::{assert_same, text_of};
 use sb_bus::{BusStop, FaultKind};
 use sb_decode::DecodeFault;
 use sb_memory::{EptStop, Frame, Linear, Missing};
@@ -20,13 +21,13 @@ const EPT: [(EptStop, &str); 7] = [
 
 #[test]
 fn refusals_of_the_ept_have_texts(rt: HostRuntime) -> Result<(), Fail> {
-    for (stop, text) in EPT {
-        assert_eq!(rt; format!(in rt.alloc(); "{stop}")?.as_str(), text);
+    for &(stop, text) in &EPT {
+        assert_same(&rt, "EPT", &text_of(rt.alloc(), &stop)?.as_str(), &text);
         // A walk through tables that the EPT refuses says what the EPT says.
         let table = WalkStop::Table(TableStop::Ept(stop));
-        assert_eq!(rt; format!(in rt.alloc(); "{table}")?.as_str(), text);
+        assert_same(&rt, "table", &text_of(rt.alloc(), &table)?.as_str(), &text);
         let page = NestedStop::Page(stop);
-        assert_eq!(rt; format!(in rt.alloc(); "{page}")?.as_str(), text);
+        assert_same(&rt, "page", &text_of(rt.alloc(), &page)?.as_str(), &text);
     }
     Ok(())
 }
@@ -42,10 +43,15 @@ const WALKS: [(WalkStop, &str); 5] = [
 
 #[test]
 fn refusals_of_walks_have_texts(rt: HostRuntime) -> Result<(), Fail> {
-    for (stop, text) in WALKS {
-        assert_eq!(rt; format!(in rt.alloc(); "{stop}")?.as_str(), text);
+    for &(stop, text) in &WALKS {
+        assert_same(&rt, "walk", &text_of(rt.alloc(), &stop)?.as_str(), &text);
         let nested = NestedStop::Walk(stop);
-        assert_eq!(rt; format!(in rt.alloc(); "{nested}")?.as_str(), text);
+        assert_same(
+            &rt,
+            "nested",
+            &text_of(rt.alloc(), &nested)?.as_str(),
+            &text,
+        );
     }
     Ok(())
 }
@@ -61,8 +67,8 @@ const ACCESSES: [(BusStop, &str); 5] = [
 
 #[test]
 fn refused_accesses_have_texts(rt: HostRuntime) -> Result<(), Fail> {
-    for (stop, text) in ACCESSES {
-        assert_eq!(rt; format!(in rt.alloc(); "{stop}")?.as_str(), text);
+    for (stop, text) in &ACCESSES {
+        assert_same(&rt, "access", &text_of(rt.alloc(), stop)?.as_str(), text);
     }
     Ok(())
 }
@@ -70,12 +76,14 @@ fn refused_accesses_have_texts(rt: HostRuntime) -> Result<(), Fail> {
 #[test]
 fn what_is_missing_is_named(rt: HostRuntime) -> Result<(), Fail> {
     let alloc = rt.alloc();
-    let missing = Missing { frame: Frame(575) };
-    assert_eq!(rt; format!(in alloc; "{missing}")?.as_str(), "no frame 575");
-    let few = NoFrames { need: 10, have: 9 };
-    assert_eq!(rt;
-        format!(in alloc; "{few}")?.as_str(),
-        "10 frames are needed, and 9 are free"
+    let missing = text_of(alloc, &Missing { frame: Frame(575) })?;
+    assert_same(&rt, "frame", &missing.as_str(), &"no frame 575");
+    let few = text_of(alloc, &NoFrames { need: 10, have: 9 })?;
+    assert_same(
+        &rt,
+        "frames",
+        &few.as_str(),
+        &"10 frames are needed, and 9 are free",
     );
     Ok(())
 }
@@ -83,12 +91,15 @@ fn what_is_missing_is_named(rt: HostRuntime) -> Result<(), Fail> {
 #[test]
 fn bytes_that_are_no_instruction_have_texts(rt: HostRuntime) -> Result<(), Fail> {
     let alloc = rt.alloc();
-    let short = format!(in alloc; "{}", DecodeFault::Short)?;
-    assert_eq!(rt; short.as_str(), "the bytes end inside an instruction");
-    let unknown = format!(in alloc; "{}", DecodeFault::Undecoded)?;
-    assert_eq!(rt;
-        unknown.as_str(),
-        "no instruction of the subset begins with these bytes"
+    let short = text_of(alloc, &DecodeFault::Short)?;
+    assert_same(
+        &rt,
+        "short",
+        &short.as_str(),
+        &"the bytes end inside an instruction",
     );
+    let unknown = text_of(alloc, &DecodeFault::Undecoded)?;
+    let expected = "no instruction of the subset begins with these bytes";
+    assert_same(&rt, "undecoded", &unknown.as_str(), &expected);
     Ok(())
 }

@@ -20,6 +20,8 @@ mod paging;
 #[cfg(test)]
 mod root;
 #[cfg(test)]
+mod same;
+#[cfg(test)]
 mod sparse;
 #[cfg(test)]
 mod trampoline;

@@ -2,6 +2,7 @@
 
 ghost use Rattle.std.specs.Prelude.{◌≡◌, ◌==◌, ◌||◌};
 
+use crate::same::assert_same;
 use crate::sparse::{Sparse, put, some_memory};
 use sb_bus::{Bus, BusStop, FaultKind};
 use sb_eptwalk::is_eptp;
@@ -37,7 +38,7 @@ const TREES: [(u64, u64); 12] = [
 
 /// Puts the words of both trees.
 fn put_trees(memory: &mut Memory) {
-    for (place, word) in TREES {
+    for &(place, word) in &TREES {
         put(memory, place, word);
     }
 }
@@ -55,62 +56,59 @@ fn walk_from<P: Phys>(
     Some(translate(phys, eptp, CR3, Linear(at), access))
 }
 
-/// A refusal of the guest's walk.
-fn guest(stop: WalkStop) -> Result<PhysAddr, NestedStop> {
-    Err(NestedStop::Walk(stop))
-}
+/// The byte of the address, where both trees permit the access.
+const PAGE: Result<PhysAddr, NestedStop> = Ok(PhysAddr(0xC123));
 
-/// A refusal of the EPT at an entry of the guest's tables.
-fn at_entry(stop: EptStop) -> Result<PhysAddr, NestedStop> {
-    guest(WalkStop::Table(TableStop::Ept(stop)))
-}
+/// A word that is put over one of the trees, an access, and the answer of its walk.
+type Refusal = (&'static str, u64, u64, Access, Result<PhysAddr, NestedStop>);
 
-/// A refusal of the EPT at the last address.
-fn at_page(stop: EptStop) -> Result<PhysAddr, NestedStop> {
-    Err(NestedStop::Page(stop))
-}
+/// Each level of each tree may refuse.
+#[rattlefmt::skip]
+const REFUSALS: [Refusal; 21] = [
+    ("a read", 0x40A0, 0xC037, Access::Read, PAGE),
+    ("a write", 0x40A0, 0xC037, Access::Write, PAGE),
+    ("a fetch", 0x40A0, 0xC037, Access::Fetch, PAGE),
+    ("the guest's level 4", 0x8008, 0, Access::Read, Err(NestedStop::Walk(WalkStop::NotPresent { level: 4 }))),
+    ("the guest's level 3", 0x9010, 0x12003, Access::Read, Err(NestedStop::Walk(WalkStop::Denied { level: 3 }))),
+    ("the guest's level 2", 0xA018, 0x13087, Access::Read, Err(NestedStop::Walk(WalkStop::Large { level: 2 }))),
+    ("the guest's level 1", 0xB020, 0x14005, Access::Write, Err(NestedStop::Walk(WalkStop::Denied { level: 1 }))),
+    ("level 4 of the EPT", 0x1000, 0, Access::Read,
+        Err(NestedStop::Walk(WalkStop::Table(TableStop::Ept(EptStop::NotPresent { level: 4 }))))),
+    ("level 3 of the EPT", 0x2000, 0x3006, Access::Read,
+        Err(NestedStop::Walk(WalkStop::Table(TableStop::Ept(EptStop::Misconfigured { level: 3 }))))),
+    ("level 2 of the EPT", 0x3000, 0x4087, Access::Read,
+        Err(NestedStop::Walk(WalkStop::Table(TableStop::Ept(EptStop::Large { level: 2 }))))),
+    ("level 1 of the EPT, for the guest's level 4", 0x4080, 0x10037, Access::Read,
+        Err(NestedStop::Walk(WalkStop::Table(TableStop::Ept(EptStop::Outside { level: 1 }))))),
+    ("level 1 of the EPT, for the guest's level 3", 0x4088, 0x9034, Access::Fetch,
+        Err(NestedStop::Walk(WalkStop::Table(TableStop::Ept(EptStop::Denied { level: 1 }))))),
+    ("level 1 of the EPT, for the guest's level 2", 0x4090, 0xA007, Access::Read,
+        Err(NestedStop::Walk(WalkStop::Table(TableStop::Ept(EptStop::Misconfigured { level: 1 }))))),
+    ("level 1 of the EPT, for the guest's level 1", 0x4098, 0xB030, Access::Read,
+        Err(NestedStop::Walk(WalkStop::Table(TableStop::Ept(EptStop::NotPresent { level: 1 }))))),
+    ("level 1 of the EPT, for the page", 0x40A0, 0xC034, Access::Read, Err(NestedStop::Page(EptStop::Denied { level: 1 }))),
+    ("a page to fetch alone", 0x40A0, 0xC034, Access::Fetch, PAGE),
+    ("a page to read alone", 0x40A0, 0xC031, Access::Write, Err(NestedStop::Page(EptStop::Denied { level: 1 }))),
+    ("no fetch at level 2 of the EPT, which entries do not need", 0x3000, 0x4003, Access::Fetch,
+        Err(NestedStop::Page(EptStop::Denied { level: 2 }))),
+    ("a write through tables that can only be read", 0x4098, 0xB031, Access::Write, PAGE),
+    ("a table past 48 bits", 0x8008, 0x0001_0000_0000_0007, Access::Read,
+        Err(NestedStop::Walk(WalkStop::Table(TableStop::Ept(EptStop::TooWide))))),
+    ("a page past 48 bits", 0xB020, 0x0001_0000_0000_0007, Access::Read, Err(NestedStop::Page(EptStop::TooWide))),
+];
 
 #[test]
-#[rattlefmt::skip]
 fn each_level_of_each_tree_may_refuse(rt: HostRuntime) {
     let mut memory = some_memory(rt.alloc(), 16).expect(&rt, "memory");
-    let page = Ok(PhysAddr(0xC123));
-    let rows = [
-        ("a read", 0x40A0, 0xC037, Access::Read, page),
-        ("a write", 0x40A0, 0xC037, Access::Write, page),
-        ("a fetch", 0x40A0, 0xC037, Access::Fetch, page),
-        ("the guest's level 4", 0x8008, 0, Access::Read, guest(WalkStop::NotPresent {level: 4 })),
-        ("the guest's level 3", 0x9010, 0x12003, Access::Read, guest(WalkStop::Denied {level: 3 })),
-        ("the guest's level 2", 0xA018, 0x13087, Access::Read, guest(WalkStop::Large {level: 2 })),
-        ("the guest's level 1", 0xB020, 0x14005, Access::Write, guest(WalkStop::Denied {level: 1 })),
-        ("level 4 of the EPT", 0x1000, 0, Access::Read, at_entry(EptStop::NotPresent {level: 4 })),
-        ("level 3 of the EPT", 0x2000, 0x3006, Access::Read, at_entry(EptStop::Misconfigured {level: 3 })),
-        ("level 2 of the EPT", 0x3000, 0x4087, Access::Read, at_entry(EptStop::Large {level: 2 })),
-        ("level 1 of the EPT, for the guest's level 4", 0x4080, 0x10037, Access::Read, at_entry(EptStop::Outside {level: 1 })),
-        ("level 1 of the EPT, for the guest's level 3", 0x4088, 0x9034, Access::Fetch, at_entry(EptStop::Denied {level: 1 })),
-        ("level 1 of the EPT, for the guest's level 2", 0x4090, 0xA007, Access::Read, at_entry(EptStop::Misconfigured {level: 1 })),
-        ("level 1 of the EPT, for the guest's level 1", 0x4098, 0xB030, Access::Read, at_entry(EptStop::NotPresent {level: 1 })),
-        ("level 1 of the EPT, for the page", 0x40A0, 0xC034, Access::Read, at_page(EptStop::Denied {level: 1 })),
-        ("a page to fetch alone", 0x40A0, 0xC034, Access::Fetch, page),
-        ("a page to read alone", 0x40A0, 0xC031, Access::Write, at_page(EptStop::Denied {level: 1 })),
-        ("no fetch at level 2 of the EPT, which entries do not need", 0x3000, 0x4003, Access::Fetch, at_page(EptStop::Denied {level: 2 })),
-        ("a write through tables that can only be read", 0x4098, 0xB031, Access::Write, page),
-        ("a table past 48 bits", 0x8008, 0x0001_0000_0000_0007, Access::Read, at_entry(EptStop::TooWide)),
-        ("a page past 48 bits", 0xB020, 0x0001_0000_0000_0007, Access::Read, at_page(EptStop::TooWide)),
-    ];
-    for (shows, place, word, access, answer) in rows {
+    for &(shows, place, word, access, answer) in &REFUSALS {
         put_trees(&mut memory);
         put(&mut memory, place, word);
-        assert_eq!(rt;
-            walk_from(&mut memory, EPTP, AT, access),
-            Some(answer),
-            "{shows}"
-        );
+        let found = walk_from(&mut memory, EPTP, AT, access);
+        assert_same(&rt, shows, &found, &Some(answer));
     }
-    assert_eq!(rt;
-        walk_from(&mut memory, EPTP, 0x8000_0000_0000, Access::Read),
-        Some(guest(WalkStop::NonCanonical))
-    );
+    let found = walk_from(&mut memory, EPTP, 0x8000_0000_0000, Access::Read);
+    let refused = Some(Err(NestedStop::Walk(WalkStop::NonCanonical)));
+    assert_same(&rt, "not canonical", &found, &refused);
 }
 
 /// The answer of a walk for the address in a memory that misses a frame, and the places of the first words that it read.
@@ -123,29 +121,32 @@ fn walk_without(
     (answer, sparse.places)
 }
 
-#[test]
+/// The places of the first words, where no table is missing for them.
+const FIRST: [u64; 8] = [
+    0x1000, 0x2000, 0x3000, 0x4080, 0x8008, 0x1000, 0x2000, 0x3000,
+];
+
+/// Missing frames, the answers of walks for the address, and the places of the first words that they read.
 #[rattlefmt::skip]
+const READS: [(&str, u32, Result<PhysAddr, NestedStop>, [u64; 8]); 6] = [
+    ("no table is missing", 15, PAGE, FIRST),
+    ("the page itself is not read", 12, PAGE, FIRST),
+    ("the guest's table of level 1", 11, Err(NestedStop::Walk(WalkStop::Table(TableStop::Missing(Frame(11))))), FIRST),
+    ("the guest's table of level 3", 9, Err(NestedStop::Walk(WalkStop::Table(TableStop::Missing(Frame(9))))), FIRST),
+    ("the guest's table of level 4", 8,
+        Err(NestedStop::Walk(WalkStop::Table(TableStop::Missing(Frame(8))))), [0x1000, 0x2000, 0x3000, 0x4080, 0x8008, 0, 0, 0]),
+    ("the table of level 2 of the EPT", 3,
+        Err(NestedStop::Walk(WalkStop::Table(TableStop::Ept(EptStop::Missing(Frame(3)))))),
+        [0x1000, 0x2000, 0x3000, 0, 0, 0, 0, 0]),
+];
+
+#[test]
 fn reads_each_entry_through_the_ept(rt: HostRuntime) {
     let mut memory = some_memory(rt.alloc(), 16).expect(&rt, "memory");
     put_trees(&mut memory);
-    let first = [
-        0x1000, 0x2000, 0x3000, 0x4080, 0x8008, 0x1000, 0x2000, 0x3000,
-    ];
-    let table = |frame| guest(WalkStop::Table(TableStop::Missing(Frame(frame))));
-    let rows = [
-        ("no table is missing", 15, Ok(PhysAddr(0xC123)), first),
-        ("the page itself is not read", 12, Ok(PhysAddr(0xC123)), first),
-        ("the guest's table of level 1", 11, table(11), first),
-        ("the guest's table of level 3", 9, table(9), first),
-        ("the guest's table of level 4", 8, table(8), [0x1000, 0x2000, 0x3000, 0x4080, 0x8008, 0, 0, 0]),
-        ("the table of level 2 of the EPT", 3, at_entry(EptStop::Missing(Frame(3))), [0x1000, 0x2000, 0x3000, 0, 0, 0, 0, 0]),
-    ];
-    for (shows, frame, answer, places) in rows {
-        assert_eq!(rt;
-            walk_without(&mut memory, frame),
-            (Some(answer), places),
-            "{shows}"
-        );
+    for &(shows, frame, answer, places) in &READS {
+        let found = walk_without(&mut memory, frame);
+        assert_same(&rt, shows, &found, &(Some(answer), places));
     }
 }
 
@@ -191,27 +192,30 @@ fn call_on<P: Phys>(phys: &mut P, at: u64, what: Call) -> Option<Result<u64, Bus
     make_call(&mut NestedBus::new(phys, EPTP, CR3), at, what)
 }
 
-#[test]
+/// Calls one after another, and their answers.
 #[rattlefmt::skip]
+const CALLS: [(&str, u64, Call, Result<u64, BusStop>); 11] = [
+    ("a whole word", 0x80_8060_4120, Call::Store(8, 0x8877_6655_4433_2211), Ok(0)),
+    ("its third byte", 0x80_8060_4122, Call::Load(1), Ok(0x33)),
+    ("four bytes in it", AT, Call::Load(4), Ok(0x7766_5544)),
+    ("a byte to run", AT, Call::Fetch, Ok(0x44)),
+    ("eight bytes of two words", 0x80_8060_4124, Call::Store(8, 0x0102_0304_0506_0708), Ok(0)),
+    ("the first word now", 0x80_8060_4120, Call::LoadForWrite(8), Ok(0x0506_0708_4433_2211)),
+    ("the second word now", 0x80_8060_4128, Call::Load(8), Ok(0x0102_0304)),
+    ("a store over the end of the page", 0x80_8060_4FFD, Call::Store(4, 7),
+        Err(BusStop::Fault(FaultKind::Memory, Linear(0x80_8060_5000)))),
+    ("nothing of it is written", 0x80_8060_4FFD, Call::Load(1), Ok(0)),
+    ("a whole word where no page is", 0x80_8060_5000, Call::Store(8, 7),
+        Err(BusStop::Fault(FaultKind::Memory, Linear(0x80_8060_5000)))),
+    ("not canonical", 0x8000_0000_0000, Call::Load(8), Err(BusStop::Fault(FaultKind::Canon, Linear(0x8000_0000_0000)))),
+];
+
+#[test]
 fn instructions_see_memory_through_both_walks(rt: HostRuntime) {
     let mut memory = some_memory(rt.alloc(), 16).expect(&rt, "memory");
     put_trees(&mut memory);
-    let fault = |at| Err(BusStop::Fault(FaultKind::Memory, Linear(at)));
-    let rows = [
-        ("a whole word", 0x80_8060_4120, Call::Store(8, 0x8877_6655_4433_2211), Ok(0)),
-        ("its third byte", 0x80_8060_4122, Call::Load(1), Ok(0x33)),
-        ("four bytes in it", AT, Call::Load(4), Ok(0x7766_5544)),
-        ("a byte to run", AT, Call::Fetch, Ok(0x44)),
-        ("eight bytes of two words", 0x80_8060_4124, Call::Store(8, 0x0102_0304_0506_0708), Ok(0)),
-        ("the first word now", 0x80_8060_4120, Call::LoadForWrite(8), Ok(0x0506_0708_4433_2211)),
-        ("the second word now", 0x80_8060_4128, Call::Load(8), Ok(0x0102_0304)),
-        ("a store over the end of the page", 0x80_8060_4FFD, Call::Store(4, 7), fault(0x80_8060_5000)),
-        ("nothing of it is written", 0x80_8060_4FFD, Call::Load(1), Ok(0)),
-        ("a whole word where no page is", 0x80_8060_5000, Call::Store(8, 7), fault(0x80_8060_5000)),
-        ("not canonical", 0x8000_0000_0000, Call::Load(8), Err(BusStop::Fault(FaultKind::Canon, Linear(0x8000_0000_0000)))),
-    ];
-    for (shows, at, what, answer) in rows {
-        assert_eq!(rt; call_on(&mut memory, at, what), Some(answer), "{shows}");
+    for &(shows, at, what, answer) in &CALLS {
+        assert_same(&rt, shows, &call_on(&mut memory, at, what), &Some(answer));
     }
 }
 
@@ -226,26 +230,24 @@ fn call_without(
     call_on(&mut sparse, at, what)
 }
 
-#[test]
+/// Missing frames, calls, and their answers.
 #[rattlefmt::skip]
+const MISSING: [(&str, u32, u64, Call, Result<u64, BusStop>); 7] = [
+    ("the page, a load", 12, AT, Call::Load(8), Err(BusStop::Missing(Frame(12)))),
+    ("the page, a fetch", 12, AT, Call::Fetch, Err(BusStop::Missing(Frame(12)))),
+    ("the page, a whole word", 12, 0x80_8060_4120, Call::Store(8, 7), Err(BusStop::Missing(Frame(12)))),
+    ("the page, eight bytes of two words", 12, 0x80_8060_4124, Call::Store(8, 7), Err(BusStop::Missing(Frame(12)))),
+    ("a table of the guest", 9, AT, Call::Store(1, 7), Err(BusStop::Missing(Frame(9)))),
+    ("a table of the EPT", 3, AT, Call::Store(4, 7), Err(BusStop::Missing(Frame(3)))),
+    ("another frame", 15, 0x80_8060_4120, Call::Store(8, 7), Ok(0)),
+];
+
+#[test]
 fn a_missing_frame_is_no_fault(rt: HostRuntime) {
     let mut memory = some_memory(rt.alloc(), 16).expect(&rt, "memory");
     put_trees(&mut memory);
-    let gone = |frame| Err(BusStop::Missing(Frame(frame)));
-    let rows = [
-        ("the page, a load", 12, AT, Call::Load(8), gone(12)),
-        ("the page, a fetch", 12, AT, Call::Fetch, gone(12)),
-        ("the page, a whole word", 12, 0x80_8060_4120, Call::Store(8, 7), gone(12)),
-        ("the page, eight bytes of two words", 12, 0x80_8060_4124, Call::Store(8, 7), gone(12)),
-        ("a table of the guest", 9, AT, Call::Store(1, 7), gone(9)),
-        ("a table of the EPT", 3, AT, Call::Store(4, 7), gone(3)),
-        ("another frame", 15, 0x80_8060_4120, Call::Store(8, 7), Ok(0)),
-    ];
-    for (shows, frame, at, what, answer) in rows {
-        assert_eq!(rt;
-            call_without(&mut memory, frame, at, what),
-            Some(answer),
-            "{shows}"
-        );
+    for &(shows, frame, at, what, answer) in &MISSING {
+        let found = call_without(&mut memory, frame, at, what);
+        assert_same(&rt, shows, &found, &Some(answer));
     }
 }

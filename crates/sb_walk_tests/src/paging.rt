@@ -2,6 +2,7 @@
 
 ghost use Rattle.std.specs.Prelude.{◌≤◌};
 
+use crate::same::assert_same;
 use crate::sparse::some_memory;
 use sb_memory::{Access, EptStop, Frame, GuestPhys, Linear, Memory, Phys};
 use sb_pagewalk::{Direct, TableSet, TableStop, Tables, WalkStop, walk};
@@ -31,35 +32,46 @@ fn build_with_one_page(memory: &mut Memory) -> Option<TableSet> {
     Some(set)
 }
 
-#[test]
+/// The answer of a walk from a root.
+fn walk_from(
+    memory: &mut Memory,
+    root: u64,
+    at: u64,
+    access: Access,
+) -> Result<GuestPhys, WalkStop> {
+    walk(&mut Direct::new(memory), root, Linear(at), access)
+}
+
+/// Addresses, and the answers of their walks.
 #[rattlefmt::skip]
+const ADDRESSES: [(&str, u64, Access, Result<GuestPhys, WalkStop>); 9] = [
+    ("fetch in the page", 0x400123, Access::Fetch, Ok(GuestPhys(0x258123))),
+    ("read in the page", 0x400FFF, Access::Read, Ok(GuestPhys(0x258FFF))),
+    ("write to a page without the right", 0x400123, Access::Write, Err(WalkStop::Denied { level: 1 })),
+    ("the next page", 0x401000, Access::Read, Err(WalkStop::NotPresent { level: 1 })),
+    ("no window", 0x600000, Access::Read, Err(WalkStop::NotPresent { level: 2 })),
+    ("past the second GiB", 0x80000000, Access::Read, Err(WalkStop::NotPresent { level: 3 })),
+    ("past the first PML4 entry", 0x8000000000, Access::Read, Err(WalkStop::NotPresent { level: 4 })),
+    ("the upper half", 0xFFFF_FFFF_FFFF_F000, Access::Read, Err(WalkStop::NotPresent { level: 4 })),
+    ("not canonical", 0x800000000000, Access::Read, Err(WalkStop::NonCanonical)),
+];
+
+#[test]
 fn walks_through_a_set_with_one_page(rt: HostRuntime) {
     let mut memory = some_memory(rt.alloc(), 611).expect(&rt, "memory");
-    assert!(rt; build_with_one_page(&mut memory).is_some());
-    let mut tables = Direct::new(&mut memory);
-    let rows = [
-        ("fetch in the page", 0x400123, Access::Fetch, Ok(GuestPhys(0x258123))),
-        ("read in the page", 0x400FFF, Access::Read, Ok(GuestPhys(0x258FFF))),
-        ("write to a page without the right", 0x400123, Access::Write, Err(WalkStop::Denied {level: 1 })),
-        ("the next page", 0x401000, Access::Read, Err(WalkStop::NotPresent {level: 1 })),
-        ("no window", 0x600000, Access::Read, Err(WalkStop::NotPresent {level: 2 })),
-        ("past the second GiB", 0x80000000, Access::Read, Err(WalkStop::NotPresent {level: 3 })),
-        ("past the first PML4 entry", 0x8000000000, Access::Read, Err(WalkStop::NotPresent {level: 4 })),
-        ("the upper half", 0xFFFF_FFFF_FFFF_F000, Access::Read, Err(WalkStop::NotPresent {level: 4 })),
-        ("not canonical", 0x800000000000, Access::Read, Err(WalkStop::NonCanonical)),
-    ];
-    for (shows, linear, access, answer) in rows {
-        assert_eq!(rt;
-            walk(&mut tables, 0x10000, Linear(linear), access),
-            answer,
-            "{shows}"
-        );
+    assert_same(
+        &rt,
+        "built",
+        &build_with_one_page(&mut memory).is_some(),
+        &true,
+    );
+    for &(shows, at, access, answer) in &ADDRESSES {
+        let found = walk_from(&mut memory, 0x10000, at, access);
+        assert_same(&rt, shows, &found, &answer);
     }
     let outside = Err(WalkStop::Table(TableStop::Ept(EptStop::Outside { level: 1 })));
-    assert_eq!(rt;
-        walk(&mut tables, 0x263000, Linear(0x400123), Access::Read),
-        outside
-    );
+    let found = walk_from(&mut memory, 0x263000, 0x400123, Access::Read);
+    assert_same(&rt, "a root past the memory", &found, &outside);
 }
 
 /// Words from place 0 on, which note the places of the first reads.
@@ -122,25 +134,29 @@ fn walk_first(entries: [u64; 4], access: Access) -> (Result<GuestPhys, WalkStop>
     (answer, tables.count)
 }
 
-#[test]
+/// The byte of the address 123 in the last page.
+const PAGE: Result<GuestPhys, WalkStop> = Ok(GuestPhys(0x5123));
+
+/// Entries from level 4 down, an access, the answer of its walk, and how many entries it reads.
 #[rattlefmt::skip]
+const ENTRIES: [(&str, [u64; 4], Access, Result<GuestPhys, WalkStop>, usize); 12] = [
+    ("all rights", [0x1007, 0x2007, 0x3007, 0x5007], Access::Write, PAGE, 4),
+    ("bits 62 to 52 are no address", [0x1007, 0x2007, 0x3007, 0x7FF0_0000_0000_5007], Access::Fetch, PAGE, 4),
+    ("bit 7 at levels 4 and 1", [0x1087, 0x2007, 0x3007, 0x5087], Access::Read, PAGE, 4),
+    ("bit 7 at level 3", [0x1007, 0x2087, 0x3007, 0x5007], Access::Read, Err(WalkStop::Large { level: 3 }), 2),
+    ("bit 7 at level 2", [0x1007, 0x2007, 0x3087, 0x5007], Access::Read, Err(WalkStop::Large { level: 2 }), 3),
+    ("not present before large", [0x1007, 0x2086, 0x3007, 0x5007], Access::Read, Err(WalkStop::NotPresent { level: 3 }), 2),
+    ("large before denied", [0x1007, 0x2081, 0x3007, 0x5007], Access::Read, Err(WalkStop::Large { level: 3 }), 2),
+    ("not writable at level 4", [0x1005, 0x2007, 0x3007, 0x5007], Access::Write, Err(WalkStop::Denied { level: 4 }), 1),
+    ("not user at level 2", [0x1007, 0x2007, 0x3003, 0x5007], Access::Read, Err(WalkStop::Denied { level: 2 }), 3),
+    ("bit 63 at level 3", [0x1007, 0x8000_0000_0000_2007, 0x3007, 0x5007], Access::Fetch, Err(WalkStop::Denied { level: 3 }), 2),
+    ("bit 63 forbids no read", [0x1007, 0x8000_0000_0000_2007, 0x3007, 0x5007], Access::Read, PAGE, 4),
+    ("no table there", [0x1007, 0x2007, 0x4007, 0x5007], Access::Read, Err(WalkStop::Table(TableStop::Ept(EptStop::TooWide))), 4),
+];
+
+#[test]
 fn the_first_refusal_is_the_answer(rt: HostRuntime) {
-    let page = Ok(GuestPhys(0x5123));
-    let rows = [
-        ("all rights", [0x1007, 0x2007, 0x3007, 0x5007], Access::Write, page, 4),
-        ("bits 62 to 52 are no address", [0x1007, 0x2007, 0x3007, 0x7FF0_0000_0000_5007], Access::Fetch, page, 4),
-        ("bit 7 at levels 4 and 1", [0x1087, 0x2007, 0x3007, 0x5087], Access::Read, page, 4),
-        ("bit 7 at level 3", [0x1007, 0x2087, 0x3007, 0x5007], Access::Read, Err(WalkStop::Large {level: 3 }), 2),
-        ("bit 7 at level 2", [0x1007, 0x2007, 0x3087, 0x5007], Access::Read, Err(WalkStop::Large {level: 2 }), 3),
-        ("not present before large", [0x1007, 0x2086, 0x3007, 0x5007], Access::Read, Err(WalkStop::NotPresent {level: 3 }), 2),
-        ("large before denied", [0x1007, 0x2081, 0x3007, 0x5007], Access::Read, Err(WalkStop::Large {level: 3 }), 2),
-        ("not writable at level 4", [0x1005, 0x2007, 0x3007, 0x5007], Access::Write, Err(WalkStop::Denied {level: 4 }), 1),
-        ("not user at level 2", [0x1007, 0x2007, 0x3003, 0x5007], Access::Read, Err(WalkStop::Denied {level: 2 }), 3),
-        ("bit 63 at level 3", [0x1007, 0x8000_0000_0000_2007, 0x3007, 0x5007], Access::Fetch, Err(WalkStop::Denied {level: 3 }), 2),
-        ("bit 63 forbids no read", [0x1007, 0x8000_0000_0000_2007, 0x3007, 0x5007], Access::Read, page, 4),
-        ("no table there", [0x1007, 0x2007, 0x4007, 0x5007], Access::Read, Err(WalkStop::Table(TableStop::Ept(EptStop::TooWide))), 4),
-    ];
-    for (shows, entries, access, answer, reads) in rows {
-        assert_eq!(rt; walk_first(entries, access), (answer, reads), "{shows}");
+    for &(shows, entries, access, answer, reads) in &ENTRIES {
+        assert_same(&rt, shows, &walk_first(entries, access), &(answer, reads));
     }
 }

@@ -4,6 +4,8 @@ ghost use Rattle.std.specs.Prelude.{◌≡◌, ◌+◌, length, IfOk};
 ghost use Rattle.sb_memory.specs.Physical.{frame_count};
 ghost use Rattle.sb_root.specs.Standing.{IsBooked, Stands};
 
+use crate::same::assert_same;
+use crate::sparse::word_at;
 use sb_eptwalk::{EptStop, ept_walk, is_eptp};
 use sb_frames::{FrameBook, Kind};
 use sb_memory::{Access, Frame, GuestPhys, Memory, Missing, Phys, PhysAddr};
@@ -130,19 +132,48 @@ impl Machine {
         }
     }
 
+    /// The pointers to the base and to the three views of thread 0.
+    fn pointers(&mut self) -> [u64; 4] {
+        [
+            BASE,
+            self.pointer(0, 0),
+            self.pointer(0, 1),
+            self.pointer(0, 2),
+        ]
+    }
+
+    /// The answers of walks from four pointers.
+    fn walks(
+        &mut self,
+        pointers: [u64; 4],
+        at: u64,
+        access: Access,
+    ) -> [Option<Result<PhysAddr, EptStop>>; 4] {
+        let [base, home, first, second] = pointers;
+        [
+            self.walk(base, at, access),
+            self.walk(home, at, access),
+            self.walk(first, at, access),
+            self.walk(second, at, access),
+        ]
+    }
+
     fn walk(&mut self, eptp: u64, at: u64, access: Access) -> Option<Result<PhysAddr, EptStop>> {
         if !is_eptp(eptp) || (eptp >> 12) & 0xFF_FFFF_FFFF >= u64::from(self.memory.frames()) {
             return None;
         }
         Some(ept_walk(&mut self.memory, eptp, GuestPhys(at), access))
     }
+}
 
-    fn word(&self, place: u64) -> Option<u64> {
-        if place >= 4096 * u64::from(self.memory.frames()) || place % 8 != 0 {
-            return None;
-        }
-        Some(self.memory.word(PhysAddr(place)))
-    }
+/// Words of the record and scratch page of the first view.
+fn record_words(memory: &Memory) -> [Option<u64>; 4] {
+    [
+        word_at(memory, 0x20_5000),
+        word_at(memory, 0x20_5028),
+        word_at(memory, 0x20_5030),
+        word_at(memory, 0x20_6000),
+    ]
 }
 
 /// What an address answers by the last entry.
@@ -152,118 +183,135 @@ const DENIED: Result<PhysAddr, EptStop> = Err(EptStop::Denied { level: 1 });
 
 const BEYOND: Result<PhysAddr, EptStop> = Err(EptStop::NotPresent { level: 2 });
 
-fn to(place: u64) -> Result<PhysAddr, EptStop> {
-    Ok(PhysAddr(place))
-}
+/// Accesses, and what they answer by the base and by the three views of thread 0.
+#[rattlefmt::skip]
+const VIEWS: [(&str, u64, Access, [Result<PhysAddr, EptStop>; 4]); 14] = [
+    ("CR3", 0x1_2008, Access::Read,
+        [Ok(PhysAddr(0x1_2008)), Ok(PhysAddr(0x1_2008)), Ok(PhysAddr(0x1_0008)), Ok(PhysAddr(0x1_1008))]),
+    ("CR3 written", 0x1_2008, Access::Write, [DENIED; 4]),
+    ("another root", 0x1_F000, Access::Read, [Ok(PhysAddr(0x1_F000)); 4]),
+    ("trampoline", 0x1040, Access::Fetch,
+        [Ok(PhysAddr(0x1040)), Ok(PhysAddr(0x1040)), Ok(PhysAddr(0x4040)), Ok(PhysAddr(0x4040))]),
+    ("trampoline read", 0x1040, Access::Read, [DENIED; 4]),
+    ("record", 0x2020, Access::Read, [NOTHING, Ok(PhysAddr(0x20_5020)), Ok(PhysAddr(0x20_B020)), Ok(PhysAddr(0x21_1020))]),
+    ("record written", 0x2020, Access::Write, [NOTHING, DENIED, DENIED, DENIED]),
+    ("scratch", 0x3FFF, Access::Write, [NOTHING, Ok(PhysAddr(0x20_6FFF)), Ok(PhysAddr(0x20_CFFF)), Ok(PhysAddr(0x21_2FFF))]),
+    ("scratch fetched", 0x3000, Access::Fetch, [NOTHING, DENIED, DENIED, DENIED]),
+    ("exposed before", 0x25_8123, Access::Write, [Ok(PhysAddr(0x25_8123)); 4]),
+    ("exposed later", 0x3F_F001, Access::Fetch, [Ok(PhysAddr(0x3F_F001)); 4]),
+    ("not exposed", 0x25_9000, Access::Read, [NOTHING; 4]),
+    ("a list", 0x20_0000, Access::Read, [NOTHING; 4]),
+    ("behind 32 MiB", 0x200_0000, Access::Read, [BEYOND; 4]),
+];
 
 #[test]
-#[rattlefmt::skip]
 fn views_differ_in_four_pages(rt: HostRuntime) {
     let mut machine = Machine::new(rt.alloc(), 512).expect(&rt, "memory");
     machine.expose(600, 3);
-    assert_eq!(rt; machine.add_list(0), Some(Ok(())));
-    assert_eq!(rt; machine.add_view(0, 18, 18), Some(Ok(0)));
-    assert_eq!(rt; machine.add_view(0, 18, 16), Some(Ok(1)));
-    assert_eq!(rt; machine.add_view(0, 18, 17), Some(Ok(2)));
+    assert_same(&rt, "list", &machine.add_list(0), &Some(Ok(())));
+    assert_same(&rt, "home", &machine.add_view(0, 18, 18), &Some(Ok(0)));
+    assert_same(&rt, "server 16", &machine.add_view(0, 18, 16), &Some(Ok(1)));
+    assert_same(&rt, "server 17", &machine.add_view(0, 18, 17), &Some(Ok(2)));
     machine.expose(1023, 4);
-    let pointers = [
-        BASE,
-        machine.pointer(0, 0),
-        machine.pointer(0, 1),
-        machine.pointer(0, 2),
-    ];
-    let rows = [
-        ("CR3", 0x1_2008, Access::Read, [to(0x1_2008), to(0x1_2008), to(0x1_0008), to(0x1_1008)]),
-        ("CR3 written", 0x1_2008, Access::Write, [DENIED; 4]),
-        ("another root", 0x1_F000, Access::Read, [to(0x1_F000); 4]),
-        ("trampoline", 0x1040, Access::Fetch, [to(0x1040), to(0x1040), to(0x4040), to(0x4040)]),
-        ("trampoline read", 0x1040, Access::Read, [DENIED; 4]),
-        ("record", 0x2020, Access::Read, [NOTHING, to(0x20_5020), to(0x20_B020), to(0x21_1020)]),
-        ("record written", 0x2020, Access::Write, [NOTHING, DENIED, DENIED, DENIED]),
-        ("scratch", 0x3FFF, Access::Write, [NOTHING, to(0x20_6FFF), to(0x20_CFFF), to(0x21_2FFF)]),
-        ("scratch fetched", 0x3000, Access::Fetch, [NOTHING, DENIED, DENIED, DENIED]),
-        ("exposed before", 0x25_8123, Access::Write, [to(0x25_8123); 4]),
-        ("exposed later", 0x3F_F001, Access::Fetch, [to(0x3F_F001); 4]),
-        ("not exposed", 0x25_9000, Access::Read, [NOTHING; 4]),
-        ("a list", 0x20_0000, Access::Read, [NOTHING; 4]),
-        ("behind 32 MiB", 0x200_0000, Access::Read, [BEYOND; 4]),
-    ];
-    for (shows, at, access, answers) in rows {
-        for view in 0..4 {
-            assert_eq!(rt;
-                machine.walk(pointers[view], at, access),
-                Some(answers[view]),
-                "{shows}"
-            );
-        }
+    let pointers = machine.pointers();
+    for &(shows, at, access, answers) in &VIEWS {
+        let found = machine.walks(pointers, at, access);
+        let [base, home, first, second] = answers;
+        assert_same(
+            &rt,
+            shows,
+            &found,
+            &[Some(base), Some(home), Some(first), Some(second)],
+        );
     }
-    assert_eq!(rt; machine.word(0x20_5000), Some(0x1122_3344_5566_7788));
-    assert_eq!(rt; machine.word(0x20_5028), Some(2));
-    assert_eq!(rt; machine.word(0x20_5030), Some(0));
-    assert_eq!(rt; machine.word(0x20_6000), Some(0));
+    let expected = [Some(0x1122_3344_5566_7788), Some(2), Some(0), Some(0)];
+    assert_same(&rt, "records", &record_words(&machine.memory), &expected);
 }
 
 #[test]
 fn a_cleared_entry_is_used_again(rt: HostRuntime) {
     let mut machine = Machine::new(rt.alloc(), 512).expect(&rt, "memory");
-    assert_eq!(rt; machine.add_list(31), Some(Ok(())));
-    assert_eq!(rt; machine.add_view(31, 16, 16), Some(Ok(0)));
-    assert_eq!(rt; machine.add_view(31, 16, 17), Some(Ok(1)));
-    machine.clear_entry(31, 0);
-    assert_eq!(rt; machine.switch(31, 0, 0), Some(Ok(Switch::Unbound)));
-    assert_eq!(rt; machine.book.free(), 499);
-    assert_eq!(rt; machine.add_view(31, 16, 18), Some(Ok(0)));
-    assert_eq!(rt; machine.book.free(), 493);
-    let pointer = machine.pointer(31, 0);
-    assert_eq!(rt;
-        machine.walk(pointer, 0x1_0000, Access::Read),
-        Some(to(0x1_2000))
+    assert_same(&rt, "list", &machine.add_list(31), &Some(Ok(())));
+    assert_same(&rt, "home", &machine.add_view(31, 16, 16), &Some(Ok(0)));
+    assert_same(
+        &rt,
+        "server 17",
+        &machine.add_view(31, 16, 17),
+        &Some(Ok(1)),
     );
+    machine.clear_entry(31, 0);
+    assert_same(
+        &rt,
+        "cleared",
+        &machine.switch(31, 0, 0),
+        &Some(Ok(Switch::Unbound)),
+    );
+    assert_same(&rt, "free", &machine.book.free(), &499);
+    assert_same(
+        &rt,
+        "server 18",
+        &machine.add_view(31, 16, 18),
+        &Some(Ok(0)),
+    );
+    assert_same(&rt, "free", &machine.book.free(), &493);
+    let pointer = machine.pointer(31, 0);
+    let found = machine.walk(pointer, 0x1_0000, Access::Read);
+    assert_same(&rt, "its view", &found, &Some(Ok(PhysAddr(0x1_2000))));
 }
 
 #[test]
 fn frames_taken_away_are_reached_no_more(rt: HostRuntime) {
     let mut machine = Machine::new(rt.alloc(), 512).expect(&rt, "memory");
     machine.expose(700, 1);
-    assert_eq!(rt;
-        machine.walk(BASE, 0x2B_C000, Access::Read),
-        Some(to(0x2B_C000))
-    );
+    let found = machine.walk(BASE, 0x2B_C000, Access::Read);
+    assert_same(&rt, "exposed", &found, &Some(Ok(PhysAddr(0x2B_C000))));
     machine.expose(700, 0);
-    assert_eq!(rt; machine.walk(BASE, 0x2B_C000, Access::Read), Some(NOTHING));
+    let found = machine.walk(BASE, 0x2B_C000, Access::Read);
+    assert_same(&rt, "taken away", &found, &Some(NOTHING));
 }
 
-#[test]
+/// How many frames are free, and what adding a list and a view answers.
+type Want = (
+    &'static str,
+    u32,
+    Option<Result<(), NoFrames>>,
+    Option<Result<u16, NoFrames>>,
+);
+
 #[rattlefmt::skip]
+const WANTS: [Want; 4] = [
+    ("a list of none", 0, Some(Err(NoFrames { need: 1, have: 0 })), None),
+    ("a view of none", 1, Some(Ok(())), Some(Err(NoFrames { need: 6, have: 0 }))),
+    ("a view of five", 6, Some(Ok(())), Some(Err(NoFrames { need: 6, have: 5 }))),
+    ("a view of six", 7, Some(Ok(())), Some(Ok(0))),
+];
+
+#[test]
 fn wants_frames(rt: HostRuntime) {
-    let rows = [
-        ("a list of none", 0, Some(Err(NoFrames {need: 1, have: 0 })), None),
-        ("a view of none", 1, Some(Ok(())), Some(Err(NoFrames {need: 6, have: 0 }))),
-        ("a view of five", 6, Some(Ok(())), Some(Err(NoFrames {need: 6, have: 5 }))),
-        ("a view of six", 7, Some(Ok(())), Some(Ok(0))),
-    ];
-    for (shows, free, list, view) in rows {
-        let mut machine = Machine::new(rt.alloc(), free).expect(&rt, "memory");
-        assert_eq!(rt; machine.add_list(3), list, "{shows}");
-        assert_eq!(rt; machine.add_view(3, 16, 16), view, "{shows}");
+    for (shows, free, list, view) in &WANTS {
+        let mut machine = Machine::new(rt.alloc(), *free).expect(&rt, "memory");
+        assert_same(&rt, shows, &machine.add_list(3), list);
+        assert_same(&rt, shows, &machine.add_view(3, 16, 16), view);
     }
 }
 
-#[test]
+/// EAX, ECX, and where a switch of the thread with one view leads.
 #[rattlefmt::skip]
+const SWITCHES: [(&str, u32, u32, Switch); 6] = [
+    ("the home view", 0, 0, Switch::To { eptp: 0x20_101E }),
+    ("a zero entry", 0, 1, Switch::Unbound),
+    ("the last entry", 0, 511, Switch::Unbound),
+    ("behind the list", 0, 512, Switch::Unbound),
+    ("another leaf", 1, 0, Switch::BadLeaf),
+    ("another leaf behind the list", 1, 512, Switch::BadLeaf),
+];
+
+#[test]
 fn switches_by_the_list(rt: HostRuntime) {
     let mut machine = Machine::new(rt.alloc(), 512).expect(&rt, "memory");
-    assert_eq!(rt; machine.add_list(0), Some(Ok(())));
-    assert_eq!(rt; machine.add_view(0, 16, 16), Some(Ok(0)));
-    let rows = [
-        ("the home view", 0, 0, Switch::To {eptp: 0x20_101E }),
-        ("a zero entry", 0, 1, Switch::Unbound),
-        ("the last entry", 0, 511, Switch::Unbound),
-        ("behind the list", 0, 512, Switch::Unbound),
-        ("another leaf", 1, 0, Switch::BadLeaf),
-        ("another leaf behind the list", 1, 512, Switch::BadLeaf),
-    ];
-    for (shows, eax, ecx, answer) in rows {
-        assert_eq!(rt; machine.switch(0, eax, ecx), Some(Ok(answer)), "{shows}");
+    assert_same(&rt, "list", &machine.add_list(0), &Some(Ok(())));
+    assert_same(&rt, "home", &machine.add_view(0, 16, 16), &Some(Ok(0)));
+    for &(shows, eax, ecx, answer) in &SWITCHES {
+        assert_same(&rt, shows, &machine.switch(0, eax, ecx), &Some(Ok(answer)));
     }
 }

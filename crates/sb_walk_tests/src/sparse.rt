@@ -18,6 +18,14 @@ pub fn put(memory: &mut Memory, place: u64, word: u64) {
     }
 }
 
+/// The word at a place, if it is a place for words.
+pub fn word_at(memory: &Memory, place: u64) -> Option<u64> {
+    if place >= PAGE_SIZE * u64::from(memory.frames()) || place % 8 != 0 {
+        return None;
+    }
+    Some(memory.word(PhysAddr(place)))
+}
+
 /// A memory without one of its frames, which notes the places of its first calls.
 #[derive(Drop)]
 pub struct Sparse<'a> {

@@ -1,13 +1,12 @@
 //! Runs of the top call over a source and a sink in memory.
 
-ghost use Rattle.std.specs.Prelude.{◌<◌, ◌^◌, length};
-
 use crate::help::described;
 use crate::{Refusal, Status, bridge};
 use sb_bundle::BundleRefusal;
 use sb_load::LoadRefusal;
 use sb_port::{MemorySink, MemorySource};
 use std::alloc::Global;
+use std::process::Abort;
 use std::test::Fail;
 
 /// Prints 7 and ends with status 7, in five instructions.
@@ -99,15 +98,13 @@ Statuses:
 
 /// A bundle of one process and one core, with so many frames, this text, an entry so far behind its first byte, and so
 /// many steps.
-fn bundle(alloc: Global, frames: u32, text: &[u8], entry: u8, steps: u32) -> Result<Vec<u8>, Fail>
-    requires { length text.now < 2 ^ 32 }
-{
+fn bundle(alloc: Global, frames: u32, text: &[u8], entry: u8, steps: u32) -> Result<Vec<u8>, Fail> {
     let mut bytes = Vec::new(alloc);
     bytes.extend_from_slice(b"SKYB\x01\x00\x01\x01")?;
     bytes.extend_from_slice(&frames.to_le_bytes())?;
     bytes.extend_from_slice(&[0; 4])?;
     bytes.extend_from_slice(&steps.to_le_bytes())?;
-    bytes.extend_from_slice(&(text.len() as u32).to_le_bytes())?;
+    bytes.extend_from_slice(&u32::try_from(text.len())?.to_le_bytes())?;
     bytes.extend_from_slice(&[0; 8])?;
     bytes.extend_from_slice(text)?;
     bytes.extend_from_slice(&[0, 0, 0, 0, entry, 0, 0x40, 0, 0, 0, 0, 0])?;
@@ -158,32 +155,39 @@ fn quiet_outcome(alloc: Global, words: &str, bytes: Vec<u8>) -> Result<(Status, 
     outcome(alloc, words, bytes, Vec::new(alloc), Vec::new(alloc))
 }
 
+/// Stops the test where the status or what is written is another, and says at which row.
+fn assert_told(rt: &impl Abort, name: &str, found: &(Status, Vec<u8>), status: Status, text: &str) {
+    assert_eq!(rt; found.0, status, "{name}");
+    assert_eq!(rt; found.1.as_slice(), text.as_bytes(), "{name}");
+}
+
+/// Texts, steps, and the lines of the report between its first and the count of free frames.
+#[rattlefmt::skip]
+const RUNS: [(&str, &[u8], u32, &str); 7] = [
+    ("prints 7 and ends with status 7", &FIVE, 5,
+        "0 step 400000\n0 step 400005\n0 print 7\n0 step 40000c\n0 exit 7\nthread 0 home 0 view 0 at 0 ended 7\nregs 0 rip 400010 flags 44 0 400010 0 0 3008000 0 0 7 0 0 0 246 0 0 0 0\n"),
+    ("a thread that has ended is idle", &FIVE, 7,
+        "0 step 400000\n0 step 400005\n0 print 7\n0 step 40000c\n0 exit 7\n0 idle\n0 idle\nthread 0 home 0 view 0 at 0 ended 7\nregs 0 rip 400010 flags 44 0 400010 0 0 3008000 0 0 7 0 0 0 246 0 0 0 0\n"),
+    ("no entry of the schedule, no step", &FIVE, 0,
+        "thread 0 home 0 view 0 at 0 running\nregs 0 rip 400000 flags 0 0 0 0 0 3008000 0 0 0 0 0 0 0 0 0 0 0\n"),
+    ("ends with status 0", &[0x31, 0xC0, 0x0F, 5], 2,
+        "0 step 400000\n0 exit 0\nthread 0 home 0 view 0 at 0 ended 0\nregs 0 rip 400004 flags 44 0 400004 0 0 3008000 0 0 0 0 0 0 246 0 0 0 0\n"),
+    ("runs into the filler behind its text", &EIGHT_XORS, 9,
+        "0 step 400000\n0 step 400002\n0 step 400004\n0 step 400006\n0 step 400008\n0 step 40000a\n0 step 40000c\n0 step 40000e\n0 fault undefined 400010\nthread 0 home 0 view 0 at 0 faulted undefined 400010\nregs 0 rip 400010 flags 44 0 0 0 0 3008000 0 0 0 0 0 0 0 0 0 0 0\n"),
+    ("a number that is no call is answered 21", &[0xB8, 5, 0, 0, 0, 0x0F, 5], 2,
+        "0 step 400000\n0 sys 5 21\nthread 0 home 0 view 0 at 0 running\nregs 0 rip 400007 flags 0 15 400007 0 0 3008000 0 0 0 0 0 0 202 0 0 0 0\n"),
+    ("no instruction starts at the handler of a register call", &[0xB8, 2, 0, 0, 0, 0x0F, 5], 2,
+        "0 step 400000\n0 sys 2 12\nthread 0 home 0 view 0 at 0 running\nregs 0 rip 400007 flags 0 c 400007 0 0 3008000 0 0 0 0 0 0 202 0 0 0 0\n"),
+];
+
 #[test]
 fn threads_run_to_their_report(rt: HostRuntime) -> Result<(), Fail> {
     let alloc = rt.alloc();
-    #[rattlefmt::skip]
-    let rows: [(&str, &[u8], u32, &str); 7] = [
-        ("prints 7 and ends with status 7", &FIVE, 5,
-            "0 step 400000\n0 step 400005\n0 print 7\n0 step 40000c\n0 exit 7\nthread 0 home 0 view 0 at 0 ended 7\nregs 0 rip 400010 flags 44 0 400010 0 0 3008000 0 0 7 0 0 0 246 0 0 0 0\n"),
-        ("a thread that has ended is idle", &FIVE, 7,
-            "0 step 400000\n0 step 400005\n0 print 7\n0 step 40000c\n0 exit 7\n0 idle\n0 idle\nthread 0 home 0 view 0 at 0 ended 7\nregs 0 rip 400010 flags 44 0 400010 0 0 3008000 0 0 7 0 0 0 246 0 0 0 0\n"),
-        ("no entry of the schedule, no step", &FIVE, 0,
-            "thread 0 home 0 view 0 at 0 running\nregs 0 rip 400000 flags 0 0 0 0 0 3008000 0 0 0 0 0 0 0 0 0 0 0\n"),
-        ("ends with status 0", &[0x31, 0xC0, 0x0F, 5], 2,
-            "0 step 400000\n0 exit 0\nthread 0 home 0 view 0 at 0 ended 0\nregs 0 rip 400004 flags 44 0 400004 0 0 3008000 0 0 0 0 0 0 246 0 0 0 0\n"),
-        ("runs into the filler behind its text", &EIGHT_XORS, 9,
-            "0 step 400000\n0 step 400002\n0 step 400004\n0 step 400006\n0 step 400008\n0 step 40000a\n0 step 40000c\n0 step 40000e\n0 fault undefined 400010\nthread 0 home 0 view 0 at 0 faulted undefined 400010\nregs 0 rip 400010 flags 44 0 0 0 0 3008000 0 0 0 0 0 0 0 0 0 0 0\n"),
-        ("a number that is no call is answered 21", &[0xB8, 5, 0, 0, 0, 0x0F, 5], 2,
-            "0 step 400000\n0 sys 5 21\nthread 0 home 0 view 0 at 0 running\nregs 0 rip 400007 flags 0 15 400007 0 0 3008000 0 0 0 0 0 0 202 0 0 0 0\n"),
-        ("no instruction starts at the handler of a register call", &[0xB8, 2, 0, 0, 0, 0x0F, 5], 2,
-            "0 step 400000\n0 sys 2 12\nthread 0 home 0 view 0 at 0 running\nregs 0 rip 400007 flags 0 c 400007 0 0 3008000 0 0 0 0 0 0 202 0 0 0 0\n"),
-    ];
-    for (name, text, steps, lines) in rows {
+    for &(name, text, steps, lines) in &RUNS {
         let report = format!(in alloc; "skybridge report 1\n{lines}free 39\nkeys 0\nend\n")?;
         for word in ["replay", "plain"] {
-            let (status, held) = quiet_outcome(alloc, word, bundle(alloc, 576, text, 0, steps)?)?;
-            assert_eq!(rt; status, Status::Done, "{name}");
-            assert_eq!(rt; held.as_slice(), report.as_bytes(), "{name}");
+            let found = quiet_outcome(alloc, word, bundle(alloc, 576, text, 0, steps)?)?;
+            assert_told(&rt, name, &found, Status::Done, &report);
         }
     }
     Ok(())
@@ -329,11 +333,10 @@ end
 #[test]
 fn threads_switch_to_their_report(rt: HostRuntime) -> Result<(), Fail> {
     let alloc = rt.alloc();
-    for (name, bytes, report) in SWITCHES {
+    for &(name, bytes, report) in &SWITCHES {
         for word in ["replay", "plain"] {
-            let (status, held) = quiet_outcome(alloc, word, Vec::from_slice(alloc, bytes)?)?;
-            assert_eq!(rt; status, Status::Done, "{name}");
-            assert_eq!(rt; held.as_slice(), report.as_bytes(), "{name}");
+            let found = quiet_outcome(alloc, word, Vec::from_slice(alloc, bytes)?)?;
+            assert_told(&rt, name, &found, Status::Done, report);
         }
     }
     Ok(())
@@ -342,37 +345,61 @@ fn threads_switch_to_their_report(rt: HostRuntime) -> Result<(), Fail> {
 #[test]
 fn each_process_has_its_own_memory(rt: HostRuntime) -> Result<(), Fail> {
     let alloc = rt.alloc();
-    let (status, held) = quiet_outcome(alloc, "replay", two_memories(alloc)?)?;
-    assert_eq!(rt; status, Status::Done);
-    assert_eq!(rt; held.as_slice(), TWO_MEMORIES_REPORT.as_bytes());
+    let found = quiet_outcome(alloc, "replay", two_memories(alloc)?)?;
+    assert_told(
+        &rt,
+        "two memories",
+        &found,
+        Status::Done,
+        TWO_MEMORIES_REPORT,
+    );
     Ok(())
+}
+
+/// What of a bundle of one process and one core is other: frames, text, entry, steps, and how many bytes its end lacks.
+type Input = (u32, &'static [u8], u8, u32, usize);
+
+/// Words, the input, which may be empty, the status, and the line that is written.
+type Refused = (
+    &'static str,
+    &'static str,
+    Option<Input>,
+    Status,
+    &'static str,
+);
+
+#[rattlefmt::skip]
+const REFUSED: [Refused; 11] = [
+    ("another word", "run", Some((576, &FIVE, 0, 5, 0)), Status::BadWords, "usage: skybridge --help\n"),
+    ("a number with a leading zero", "gen 042", None, Status::BadWords, "usage: skybridge --help\n"),
+    ("a number with a sign", "gen +42", None, Status::BadWords, "usage: skybridge --help\n"),
+    ("2^64", "gen 18446744073709551616 --bundle", None, Status::BadWords, "usage: skybridge --help\n"),
+    ("a word too many", "gen 42 --bundle check", None, Status::BadWords, "usage: skybridge --help\n"),
+    ("no bytes", "replay", None, Status::BundleRefused, "bundle Short 0\n"),
+    ("no schedule", "replay", Some((576, &FIVE, 0, 5, 5)), Status::BundleRefused, "bundle Short 60\n"),
+    ("the bytes of VMFUNC in a call through memory", "replay",
+        Some((576, &[0xFF, 0x94, 0x24, 0x0F, 1, 0xD4, 0], 0, 0, 0)), Status::LoadRefused, "process 0 Unmovable 400000\n"),
+    ("an entry inside an instruction", "replay", Some((576, &FIVE, 1, 5, 0)), Status::LoadRefused, "entry 0 400001\n"),
+    ("one frame too few", "replay", Some((536, &FIVE, 0, 5, 0)), Status::LoadRefused, "frames 25 24\n"),
+    ("the same for the other word", "plain", Some((536, &FIVE, 0, 5, 0)), Status::LoadRefused, "frames 25 24\n"),
+];
+
+/// The bytes of an input.
+fn bytes_of(alloc: Global, input: Option<Input>) -> Result<Vec<u8>, Fail> {
+    let Some((frames, text, entry, steps, lacks)) = input else {
+        return Ok(Vec::new(alloc));
+    };
+    let mut bytes = bundle(alloc, frames, text, entry, steps)?;
+    bytes.truncate(bytes.len().saturating_sub(lacks));
+    Ok(bytes)
 }
 
 #[test]
 fn refusals_write_one_line(rt: HostRuntime) -> Result<(), Fail> {
     let alloc = rt.alloc();
-    let five = bundle(alloc, 576, &FIVE, 0, 5)?;
-    #[rattlefmt::skip]
-    let rows: [(&str, &str, Vec<u8>, Status, &str); 11] = [
-        ("another word", "run", Vec::from_slice(alloc, &five)?, Status::BadWords, "usage: skybridge --help\n"),
-        ("a number with a leading zero", "gen 042", Vec::new(alloc), Status::BadWords, "usage: skybridge --help\n"),
-        ("a number with a sign", "gen +42", Vec::new(alloc), Status::BadWords, "usage: skybridge --help\n"),
-        ("2^64", "gen 18446744073709551616 --bundle", Vec::new(alloc), Status::BadWords, "usage: skybridge --help\n"),
-        ("a word too many", "gen 42 --bundle check", Vec::new(alloc), Status::BadWords, "usage: skybridge --help\n"),
-        ("no bytes", "replay", Vec::new(alloc), Status::BundleRefused, "bundle Short 0\n"),
-        ("no schedule", "replay", Vec::from_slice(alloc, &five[..five.len().saturating_sub(5)])?, Status::BundleRefused,
-            "bundle Short 60\n"),
-        ("the bytes of VMFUNC in a call through memory", "replay",
-            bundle(alloc, 576, &[0xFF, 0x94, 0x24, 0x0F, 1, 0xD4, 0], 0, 0)?, Status::LoadRefused,
-            "process 0 Unmovable 400000\n"),
-        ("an entry inside an instruction", "replay", bundle(alloc, 576, &FIVE, 1, 5)?, Status::LoadRefused, "entry 0 400001\n"),
-        ("one frame too few", "replay", bundle(alloc, 536, &FIVE, 0, 5)?, Status::LoadRefused, "frames 25 24\n"),
-        ("the same for the other word", "plain", bundle(alloc, 536, &FIVE, 0, 5)?, Status::LoadRefused, "frames 25 24\n"),
-    ];
-    for (name, word, bytes, wanted, line) in rows {
-        let (status, held) = quiet_outcome(alloc, word, bytes)?;
-        assert_eq!(rt; status, wanted, "{name}");
-        assert_eq!(rt; held.as_slice(), line.as_bytes(), "{name}");
+    for &(name, words, input, status, line) in &REFUSED {
+        let found = quiet_outcome(alloc, words, bytes_of(alloc, input)?)?;
+        assert_told(&rt, name, &found, status, line);
     }
     Ok(())
 }
@@ -386,28 +413,30 @@ const REFUSALS: [(Refusal, &str); 3] = [
 
 #[test]
 fn refusals_have_texts(rt: HostRuntime) -> Result<(), Fail> {
-    for (refusal, text) in REFUSALS {
-        assert_eq!(rt; format!(in rt.alloc(); "{refusal}")?.as_str(), text);
+    for (refusal, text) in &REFUSALS {
+        let told = format!(in rt.alloc(); "{refusal}")?;
+        assert_eq!(rt; told.as_str(), *text);
     }
     Ok(())
 }
 
+/// Words, the text of one process, and what is written.
+#[rattlefmt::skip]
+const CHECKS: [(&str, &str, &[u8], &str); 5] = [
+    ("the frames that a bundle takes and has", "check", &FIVE, "ok 25 64\n"),
+    ("no edit", "rewrite", &FIVE, "process 0\nend\n"),
+    ("VMFUNC", "rewrite", &[0x0F, 1, 0xD4], "process 0\nedit 400000 0f01d4 909090\nend\n"),
+    ("in place", "rewrite", &[0x6A, 0x0F, 1, 0xD4], "process 0\nedit 400002 01d4 03e2\nend\n"),
+    ("moved", "rewrite", &[5, 0x0F, 1, 0xD4, 0],
+        "process 0\nedit 400000 050f01d400 e9fb0fc0ff\nslot 1000 48890c250040007048c7c10f00d400488d890001000001c8488b0c2500400070e9e0ef3f00\nend\n"),
+];
+
 #[test]
 fn texts_are_checked_and_rewritten(rt: HostRuntime) -> Result<(), Fail> {
     let alloc = rt.alloc();
-    #[rattlefmt::skip]
-    let rows: [(&str, &str, &[u8], &str); 5] = [
-        ("the frames that a bundle takes and has", "check", &FIVE, "ok 25 64\n"),
-        ("no edit", "rewrite", &FIVE, "process 0\nend\n"),
-        ("VMFUNC", "rewrite", &[0x0F, 1, 0xD4], "process 0\nedit 400000 0f01d4 909090\nend\n"),
-        ("in place", "rewrite", &[0x6A, 0x0F, 1, 0xD4], "process 0\nedit 400002 01d4 03e2\nend\n"),
-        ("moved", "rewrite", &[5, 0x0F, 1, 0xD4, 0],
-            "process 0\nedit 400000 050f01d400 e9fb0fc0ff\nslot 1000 48890c250040007048c7c10f00d400488d890001000001c8488b0c2500400070e9e0ef3f00\nend\n"),
-    ];
-    for (name, word, text, wanted) in rows {
-        let (status, held) = quiet_outcome(alloc, word, bundle(alloc, 576, text, 0, 0)?)?;
-        assert_eq!(rt; status, Status::Done, "{name}");
-        assert_eq!(rt; held.as_slice(), wanted.as_bytes(), "{name}");
+    for &(name, word, text, wanted) in &CHECKS {
+        let found = quiet_outcome(alloc, word, bundle(alloc, 576, text, 0, 0)?)?;
+        assert_told(&rt, name, &found, Status::Done, wanted);
     }
     Ok(())
 }
@@ -416,9 +445,8 @@ fn texts_are_checked_and_rewritten(rt: HostRuntime) -> Result<(), Fail> {
 fn a_generated_bundle_has_one_summary(rt: HostRuntime) -> Result<(), Fail> {
     let alloc = rt.alloc();
     for _ in 0..2 {
-        let (status, held) = quiet_outcome(alloc, "gen 42", Vec::new(alloc))?;
-        assert_eq!(rt; status, Status::Done);
-        assert_eq!(rt; held.as_slice(), SUMMARY_OF_42.as_bytes());
+        let found = quiet_outcome(alloc, "gen 42", Vec::new(alloc))?;
+        assert_told(&rt, "gen 42", &found, Status::Done, SUMMARY_OF_42);
     }
     Ok(())
 }
@@ -432,10 +460,9 @@ fn a_generated_bundle_is_read_back(rt: HostRuntime) -> Result<(), Fail> {
         "gen 18446744073709551615 --bundle",
     ] {
         let (status, bytes) = quiet_outcome(alloc, words, Vec::new(alloc))?;
-        assert_eq!(rt; status, Status::Done, "{words}");
-        let (status, held) = quiet_outcome(alloc, "check", bytes)?;
-        assert_eq!(rt; status, Status::Done, "{words}");
-        assert_eq!(rt; held.as_slice(), b"ok 203 512\n".as_slice(), "{words}");
+        let found = quiet_outcome(alloc, "check", bytes)?;
+        assert_told(&rt, words, &found, Status::Done, "ok 203 512\n");
+        assert!(rt; status == Status::Done, "{words}");
     }
     Ok(())
 }
@@ -443,35 +470,44 @@ fn a_generated_bundle_is_read_back(rt: HostRuntime) -> Result<(), Fail> {
 #[test]
 fn the_help_text_names_each_command(rt: HostRuntime) -> Result<(), Fail> {
     let alloc = rt.alloc();
-    let (status, held) = quiet_outcome(alloc, "--help", Vec::new(alloc))?;
-    assert_eq!(rt; status, Status::Done);
-    assert_eq!(rt; held.as_slice(), HELP.as_bytes());
+    let found = quiet_outcome(alloc, "--help", Vec::new(alloc))?;
+    assert_told(&rt, "--help", &found, Status::Done, HELP);
     Ok(())
+}
+
+/// Words, and whether the description takes them.
+#[rattlefmt::skip]
+const WORDS: [(&[&str], bool); 10] = [
+    (&["replay"], true),
+    (&["plain"], true),
+    (&["check"], true),
+    (&["rewrite"], true),
+    (&["gen", "42"], true),
+    (&["gen", "42", "--bundle"], true),
+    (&["gen"], false),
+    (&["replay", "42"], false),
+    (&["run"], false),
+    (&["-h"], false),
+];
+
+/// Whether the description of the words that the program takes, as `clap` reads it, takes these.
+fn are_described(alloc: Global, words: &[&str]) -> Result<bool, Fail> {
+    let mut named: Vec<&str> = Vec::new(alloc);
+    named.push("skybridge")?;
+    named.extend_from_slice(words)?;
+    Ok(
+        described(alloc)?
+            .try_get_matches_from(named.as_slice())
+            .is_ok(),
+    )
 }
 
 /// `clap` describes the words that the program takes, but for the form of a number.
 #[test]
 fn the_help_text_describes_the_words(rt: HostRuntime) -> Result<(), Fail> {
     let alloc = rt.alloc();
-    #[rattlefmt::skip]
-    let rows: [(&[&str], bool); 10] = [
-        (&["replay"], true),
-        (&["plain"], true),
-        (&["check"], true),
-        (&["rewrite"], true),
-        (&["gen", "42"], true),
-        (&["gen", "42", "--bundle"], true),
-        (&["gen"], false),
-        (&["replay", "42"], false),
-        (&["run"], false),
-        (&["-h"], false),
-    ];
-    for (words, described_so) in rows {
-        let mut named: Vec<&str> = Vec::new(alloc);
-        named.push("skybridge")?;
-        named.extend_from_slice(words)?;
-        let matches = described(alloc)?.try_get_matches_from(named.as_slice());
-        assert_eq!(rt; matches.is_ok(), described_so);
+    for (words, described_so) in &WORDS {
+        assert!(rt; are_described(alloc, words)? == *described_so, "{words:?}");
     }
     Ok(())
 }
@@ -479,12 +515,10 @@ fn the_help_text_describes_the_words(rt: HostRuntime) -> Result<(), Fail> {
 #[test]
 fn exactly_enough_frames_are_enough(rt: HostRuntime) -> Result<(), Fail> {
     let alloc = rt.alloc();
-    let (status, held) = quiet_outcome(alloc, "replay", bundle(alloc, 537, &FIVE, 0, 0)?)?;
-    assert_eq!(rt; status, Status::Done);
-    assert_eq!(rt;
-        held.as_slice(),
-        b"skybridge report 1\nthread 0 home 0 view 0 at 0 running\nregs 0 rip 400000 flags 0 0 0 0 0 3008000 0 0 0 0 0 0 0 0 0 0 0\nfree 0\nkeys 0\nend\n".as_slice()
-    );
+    let found = quiet_outcome(alloc, "replay", bundle(alloc, 537, &FIVE, 0, 0)?)?;
+    let report =
+        "skybridge report 1\nthread 0 home 0 view 0 at 0 running\nregs 0 rip 400000 flags 0 0 0 0 0 3008000 0 0 0 0 0 0 0 0 0 0 0\nfree 0\nkeys 0\nend\n";
+    assert_told(&rt, "no frame is left", &found, Status::Done, report);
     Ok(())
 }
 
@@ -492,9 +526,14 @@ fn exactly_enough_frames_are_enough(rt: HostRuntime) -> Result<(), Fail> {
 fn a_fault_of_the_source_is_told(rt: HostRuntime) -> Result<(), Fail> {
     let alloc = rt.alloc();
     let five = bundle(alloc, 576, &FIVE, 0, 5)?;
-    let (status, held) = outcome(alloc, "replay", five, vec![in alloc; 1]?, Vec::new(alloc))?;
-    assert_eq!(rt; status, Status::ReadFault);
-    assert_eq!(rt; held.as_slice(), b"read fault\n".as_slice());
+    let found = outcome(alloc, "replay", five, vec![in alloc; 1]?, Vec::new(alloc))?;
+    assert_told(
+        &rt,
+        "the first call",
+        &found,
+        Status::ReadFault,
+        "read fault\n",
+    );
     Ok(())
 }
 
@@ -503,21 +542,12 @@ fn a_fault_of_the_sink_leaves_a_prefix(rt: HostRuntime) -> Result<(), Fail> {
     let alloc = rt.alloc();
     // The sink takes 16 bytes a call, and its third call fails.
     let five = bundle(alloc, 576, &FIVE, 0, 5)?;
-    let (status, held) = outcome(alloc, "replay", five, Vec::new(alloc), vec![in alloc; 3]?)?;
-    assert_eq!(rt; status, Status::WriteFault);
-    assert_eq!(rt;
-        held.as_slice(),
-        b"skybridge report 1\n0 step 400000".as_slice()
-    );
+    let found = outcome(alloc, "replay", five, Vec::new(alloc), vec![in alloc; 3]?)?;
+    let prefix = "skybridge report 1\n0 step 400000";
+    assert_told(&rt, "the third call", &found, Status::WriteFault, prefix);
     // A refusal keeps its status where its line is not written whole.
-    let (status, held) = outcome(
-        alloc,
-        "replay",
-        Vec::new(alloc),
-        Vec::new(alloc),
-        vec![in alloc; 1]?,
-    )?;
-    assert_eq!(rt; status, Status::BundleRefused);
-    assert_eq!(rt; held.as_slice(), b"".as_slice());
+    let empty = Vec::new(alloc);
+    let found = outcome(alloc, "replay", empty, Vec::new(alloc), vec![in alloc; 1]?)?;
+    assert_told(&rt, "a refusal", &found, Status::BundleRefused, "");
     Ok(())
 }
