@@ -24,7 +24,7 @@ pub use laws::{
     added_pages_are_new, flights_decide, landings_can_be_dropped, one_pattern, runs_have_one_text,
     start_is_sound, steps_change, steps_keep_sound,
 };
-pub use report::report_text;
+pub use report::{push_end, push_line, report_head, report_text};
 pub use sb_abi::VMFUNC_PHASE;
 pub use sb_state::{
     Binding, Bindings, Decision, EndKind, Flight, Mode, Page, PageBytes, PageName, Registration,

@@ -12,8 +12,11 @@ use sb_insn::Regs;
 use sb_text::{push_decimal, push_hex};
 use std::alloc::{AllocError, Global};
 
-/// As many bytes as most lines have.
+/// As many bytes as most lines of steps have.
 const LINE_SIZE: usize = 14;
+
+/// Room for the head line, the threads at the end and the counts.
+const FRAME_SIZE: usize = 4096;
 
 /// Puts words, an address behind them, and a line feed.
 fn push_address_line(out: &mut String, words: &str, at: u64) -> Result<(), AllocError>
@@ -36,8 +39,8 @@ fn push_landing(out: &mut String, phase: u8) -> Result<(), AllocError>
     out.push_str("\n")
 }
 
-/// Puts the line of one step. The lines of which a run has most go without a formatter.
-fn push_line(out: &mut String, line: &Line) -> Result<(), AllocError>
+/// Puts the line of one step and a line feed behind a text. The lines of which a run has most go without a formatter.
+pub fn push_line(out: &mut String, line: &Line) -> Result<(), AllocError>
     ensures { OnOk result (string_bytes out.new ≡ string_bytes out.old ++ whole_line line.now) }
 {
     push_decimal(out, u64::from(line.core))?;
@@ -130,14 +133,30 @@ fn push_counts(out: &mut String, end: &EndState) -> Result<(), AllocError>
     Ok(())
 }
 
+/// Puts the last lines of the report behind a text: the threads at the end, and the counts of what is left.
+pub fn push_end(out: &mut String, end: &EndState) -> Result<(), AllocError>
+    ensures { OnOk result (string_bytes out.new ≡ string_bytes out.old ++ (threads_text 0 end.now.threads ++ counts_text end.now)) }
+{
+    push_threads(out, end.threads.items())?;
+    push_counts(out, end)
+}
+
+/// The head line of the report, with room behind it for the lines of so many steps.
+pub fn report_head(alloc: Global, steps: usize) -> Result<String, AllocError>
+    ensures { IfOk result (λ text. string_bytes text ≡ codes "skybridge report 1\n") }
+{
+    let room = steps.saturating_mul(LINE_SIZE).saturating_add(FRAME_SIZE);
+    let mut out = String::with_capacity(alloc, room)?;
+    out.push_str("skybridge report 1\n")?;
+    Ok(out)
+}
+
 /// The report: a head line, a line for each step, the threads at the end, and the counts of what is left.
 pub fn report_text(alloc: Global, lines: &Lines, end: &EndState) -> Result<String, AllocError>
     ensures { IfOk result (λ text. string_bytes text ≡ report_text lines.now end.now) }
 {
-    let mut out = String::with_capacity(alloc, lines.items().len().saturating_mul(LINE_SIZE))?;
-    out.push_str("skybridge report 1\n")?;
+    let mut out = report_head(alloc, lines.items().len())?;
     push_lines(&mut out, lines.items())?;
-    push_threads(&mut out, end.threads.items())?;
-    push_counts(&mut out, end)?;
+    push_end(&mut out, end)?;
     Ok(out)
 }

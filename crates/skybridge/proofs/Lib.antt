@@ -4,3 +4,4 @@ pub mod Apart
 pub mod Limit
 pub mod Lawful
 pub mod Numbers
+pub mod LineTexts

@@ -1,10 +1,10 @@
 //! From the bytes of an input to what a command writes of it, or why there is nothing to write.
 
-ghost use Rattle.std.specs.Prelude.{IfOk, string_bytes};
+ghost use Rattle.std.specs.Prelude.{IfOk, OnOk, string_bytes};
 ghost use Rattle.sb_trace.specs.Run.{RunBy};
 ghost use Rattle.sb_trace.specs.Step.{Steps};
 ghost use Rattle.sb_load.specs.Loading.{IsLoadable};
-ghost use Rattle.skybridge.specs.Runs.{LoadRunsTo};
+ghost use Rattle.skybridge.specs.Runs.{LoadRunsTo, RunsWithText};
 ghost use Rattle.skybridge.specs.Output.{IsReport, IsOutput};
 ghost use Rattle.skybridge.specs.Answer.{Reports, ReportsBundle};
 ghost use Rattle.sb_bundle.specs.Limits.{IsBundle};
@@ -14,7 +14,7 @@ use crate::words::BundleCommand;
 use sb_bundle::{Bundle, BundleRefusal, read_bundle};
 use sb_load::{LoadRefusal, Loaded, load};
 use sb_plain::Plain;
-use sb_trace::{EndState, Lines, report_text};
+use sb_trace::{EndState, Lines, push_end, push_line, report_head};
 use std::alloc::{AllocError, Global};
 use thiserror::Error;
 
@@ -54,13 +54,28 @@ pub fn whole_run(alloc: Global, loaded: &Loaded) -> Result<(Lines, EndState), Al
     Ok((lines, end))
 }
 
+/// A step for each entry of the schedule, whose line goes behind the text at once.
+fn push_run(out: &mut String, plain: &mut Plain, schedule: &[u8]) -> Result<(), AllocError>
+    ensures { OnOk result (RunsWithText plain.old schedule.now plain.new (string_bytes out.old) (string_bytes out.new)) }
+{
+    for core in schedule {
+        push_line(out, &plain.step(*core))?;
+    }
+    Ok(())
+}
+
 /// The report of the plain machine's run on the bundle's schedule.
 fn report(alloc: Global, loaded: &Loaded) -> Result<String, AllocError>
     requires { IsLoadable loaded.now }
     ensures { IfOk result (λ text. IsReport loaded.now.bundle (string_bytes text)) }
 {
-    let (lines, end) = whole_run(alloc, loaded)?;
-    report_text(alloc, &lines, &end)
+    let mut plain = Plain::new(alloc, loaded)?;
+    let schedule = loaded.bundle().schedule.items();
+    let mut out = report_head(alloc, schedule.len())?;
+    push_run(&mut out, &mut plain, schedule)?;
+    let end = plain.end(alloc)?;
+    push_end(&mut out, &end)?;
+    Ok(out)
 }
 
 /// What the command writes of the loaded bundle.
