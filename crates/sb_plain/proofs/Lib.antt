@@ -1,5 +1,4 @@
 pub mod ByThread
-pub mod Faults
 pub mod Starting
 pub mod InPage
 pub mod RefusedCall

@@ -6,7 +6,7 @@ ghost use Rattle.sb_exec.specs.Execution.{execution_of};
 ghost use Rattle.sb_exec.specs.Fetching.{FetchesOn};
 ghost use Rattle.sb_exec.specs.Rows.{row_of};
 ghost use Rattle.sb_state.specs.PlainMemory.{plain};
-ghost use Rattle.sb_plain.specs.Faults.{IsFault};
+ghost use Rattle.sb_trace.specs.Faults.{IsFault};
 
 use sb_exec::{BusStop, Effect, execute, fetch_insn, first_insn};
 use sb_insn::{Insn, Regs};

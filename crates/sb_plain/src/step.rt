@@ -10,7 +10,7 @@ ghost use Rattle.sb_trace.specs.Changes.{StepChanges};
 ghost use Rattle.sb_trace.specs.Laws.{HasOneSwitch};
 ghost use Rattle.sb_trace.specs.Sound.{IsSound};
 ghost use Rattle.sb_plain.specs.RefusedCall.{IsRefusedCall, LeavesAll};
-ghost use Rattle.sb_plain.specs.Faults.{IsFault};
+ghost use Rattle.sb_trace.specs.Faults.{IsFault};
 
 use crate::fault::fault;
 use crate::flight::{landing_step, vmfunc};

@@ -5,6 +5,7 @@ use Rattle.sb_calls.specs.SyscallRegisters.{after_syscall, server_fault_regs}
 use Rattle.sb_memory.specs.Physical.{Physical}
 use Rattle.sb_frames.specs.Book.{Book}
 use Rattle.sb_root.specs.declared.root_kernel.RootKernel.{RootKernel}
+use Rattle.sb_root.specs.Root.{IsSet, eptp_list_frame, list_entry}
 use Rattle.sb_trace.specs.declared.event.Event.{Event}
 use Rattle.sb_trace.specs.declared.event.Event.TheVariants as event
 use Rattle.sb_trace.specs.State.{State, thread_at}
@@ -49,6 +50,11 @@ abbrev pub ServesBy : (State → ℕ → Regs → Outcome) → Kernel → RootKe
 ServesBy outcome kernel root book memory kernel' root' book' memory' thread view answer old new =
     (state : State) → StandsFor kernel root book memory state → (thread_at state thread).view ≡ view
     → Serves kernel' root' book' memory' thread answer new (outcome state thread (entered old))
+
+-- Each list stays in its frame, and so does each entry that is set.
+pub record KeepsLists (old new : RootKernel) : Type 0 where
+  pub lists : (thread : ℕ) → eptp_list_frame new thread ≡ eptp_list_frame old thread
+  pub entries : (thread index : ℕ) → IsSet old thread index → list_entry new thread index ≡ list_entry old thread index
 
 -- what exit answers, and the registers that it leaves
 abbrev pub exit_answer : ℕ → ℕ → Answer

@@ -33,3 +33,4 @@ pub mod Sound
 pub mod Changes
 pub mod Laws
 pub mod End
+pub mod Faults

@@ -1,7 +1,7 @@
 use Rattle.std.proofs.Common.{rules}
 use Rattle.sb_exec.specs.Fetching.{FetchesOn}
 use Rattle.sb_state.specs.PlainMemory.{plain}
-use Rattle.sb_plain.proofs.Faults.{fetch_faults}
+use Rattle.sb_trace.proofs.Faults.{fetch_faults}
 use Rattle.sb_plain.proofs.instruction.fetch_next.Goals as goal
 
 pub returns-clause-fault : goal.returns-clause-fault

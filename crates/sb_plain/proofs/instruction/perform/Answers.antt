@@ -1,7 +1,7 @@
 use Rattle.std.proofs.Common.{rules}
 use Rattle.sb_exec.specs.Rows.{row_of}
 use Rattle.sb_plain.proofs.ByThread.{performed}
-use Rattle.sb_plain.proofs.Faults.{execution_faults}
+use Rattle.sb_trace.proofs.Faults.{execution_faults}
 use Rattle.sb_plain.proofs.instruction.perform.Goals as goal
 
 pub returns-clause-answer : goal.returns-clause-answer

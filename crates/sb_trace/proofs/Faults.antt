@@ -16,7 +16,7 @@ use Rattle.sb_state.specs.PageName.{permits}
 use Rattle.sb_state.specs.State.{State}
 use Rattle.sb_state.specs.Windows.{page_for}
 use Rattle.sb_state.specs.PlainMemory.{plain, plain_byte, byte_seen, is_canonical, fault_at}
-use Rattle.sb_plain.specs.Faults.{IsFault}
+use Rattle.sb_trace.specs.Faults.{IsFault}
 
 by_test : (test : Bool) (byte address : ℕ) (kind : FaultKind)
     → IfErr (if test then Ok byte else Err (fault_at kind address)) IsFault
