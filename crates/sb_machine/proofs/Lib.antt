@@ -2,6 +2,7 @@ pub mod Cores
 pub mod Present
 pub mod Afterwards
 pub mod Seen
+pub mod Places
 pub mod Frames
 pub mod Seats
 pub mod Moved
@@ -15,5 +16,6 @@ pub mod Phases
 pub mod FlightAfter
 pub mod InFlight
 pub mod GoingHome
+pub mod Counted
 pub mod Steps
 pub mod Shown

@@ -38,9 +38,10 @@ use Rattle.sb_shows.specs.Shows.{present_index}
 use Rattle.sb_machine.specs.Machine.{Machine, core_at, state_at}
 use Rattle.sb_machine.specs.Outcomes.{Outcome}
 use Rattle.sb_machine.specs.StandsFor.{IsMachineOf}
-use Rattle.sb_machine.specs.Written.{FetchesNext, StopsWith, PerformsBy, Performs, FollowsFetch, RunsOn, StepsBy, execution_on}
+use Rattle.sb_machine.specs.Written.{FetchesNext, Works, StopsWith, PerformsBy, Performs, FollowsFetch, RunsOn, StepsBy, execution_on}
 use Rattle.sb_machine.specs.Laws.{Follows, StepsArePlain}
 use Rattle.sb_machine.proofs.Called.{call_follows}
+use Rattle.sb_machine.proofs.Counted.{counted}
 use Rattle.sb_machine.proofs.Faulted.{fault_follows}
 use Rattle.sb_machine.proofs.Going.{next_follows}
 use Rattle.sb_machine.proofs.GoingHome.{home_follows}
@@ -193,8 +194,19 @@ module _ (machine : Machine) (state : State) (is : IsMachineOf machine state) (n
         stands = is;
       })
 
-pub steps_are_plain : StepsStayBeside → StepsArePlain
-steps_are_plain law old number event new state there is works =
+works_are_plain : StepsStayBeside → (old : Machine) (number : ℕ) (event : Event) (new : Machine) (state : State)
+    → number < length old.cores → IsMachineOf old state → Works old number event new → Follows new state number event
+works_are_plain law old number event new state there is works =
     let end : (core_at old number).end ≡ (thread_at state number).state = (is.cores number).end in
     by_end old state is number there law (thread_at state number).state refl (event, new)
     (subst (λ (one : EndKind). StepsBy old number one (event, new)) end works)
+
+pub steps_are_plain : StepsStayBeside → StepsArePlain
+steps_are_plain law old number event new state there is steps =
+    let follows = works_are_plain law old number event steps.0 state there is steps.1 in
+    record {
+      next = follows.next;
+      steps = follows.steps;
+      stands = subst (λ (machine : Machine). IsMachineOf machine follows.next) (sym steps.2)
+          (counted steps.0 follows.next number follows.stands);
+    }

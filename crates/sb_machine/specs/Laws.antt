@@ -5,7 +5,7 @@ use Rattle.sb_trace.specs.State.{State}
 use Rattle.sb_trace.specs.Step.{Steps as PlainSteps}
 use Rattle.sb_shows.specs.Shows.{Shows}
 use Rattle.sb_machine.specs.Machine.{Machine, words_of}
-use Rattle.sb_machine.specs.Written.{Works}
+use Rattle.sb_machine.specs.Written.{Steps}
 use Rattle.sb_machine.specs.StandsFor.{IsMachineOf}
 
 -- the plain machine has a step with this line, and the machine stands for the state after it
@@ -18,7 +18,7 @@ pub record Follows (new : Machine) (state : State) (number : ℕ) (event : Event
 abbrev pub StepsArePlain : Type 0
 StepsArePlain =
     (old : Machine) (number : ℕ) (event : Event) (new : Machine) (state : State) → number < length old.cores
-    → IsMachineOf old state → Works old number event new → Follows new state number event
+    → IsMachineOf old state → Steps old number event new → Follows new state number event
 
 -- a machine shows the state for which it stands
 abbrev pub MachinesShow : Type 0

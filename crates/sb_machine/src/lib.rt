@@ -6,13 +6,15 @@
 //! its bytes, the tables of its kernels and its cores, and a step is `Steps` of the definitions. Where it stands for a state of the
 //! plain machine, the plain machine has a step with the same line, and the machine stands for the state after it.
 //!
-//! Inside: cores (`processor`), the machine (`parts`), an instruction (`instruction`), what follows it (`outcome`), VMFUNC (`vmfunc`),
+//! Inside: cores (`processor`), the machine (`machine`) and its parts
+//! (`parts`), an instruction (`instruction`), what follows it (`outcome`), VMFUNC (`vmfunc`),
 //! system calls (`system_call`), and the step (`step`). Not inside: the walks (`sb_nested`), the kernels' tables (`sb_root`, `sb_sub`),
 //! and what the plain machine does (`sb_trace`).
 #![tactic(auto)]
 
 mod instruction;
 mod laws;
+mod machine;
 mod outcome;
 mod parts;
 mod phase;
@@ -22,5 +24,5 @@ mod system_call;
 mod vmfunc;
 
 pub use laws::steps_are_plain;
-pub use parts::Parts;
+pub use machine::Machine;
 pub use processor::{Core, CoreState, Origin};

@@ -1,11 +1,11 @@
 //! What follows an instruction: its line, the way home, and faults.
 
 ghost use Rattle.std.specs.Prelude.{◌≡◌, ◌<◌, length};
-ghost use Rattle.sb_abi.specs.declared.frames.TheConstants.{KEPT_FRAMES};
 ghost use Rattle.sb_memory.specs.Physical.{IsWordPlace};
 ghost use Rattle.sb_walks.specs.Entry.{entry_in};
+ghost use Rattle.sb_trace.specs.State.{State};
 ghost use Rattle.sb_landing.specs.Lands.{line_of};
-ghost use Rattle.sb_machine.specs.Machine.{core_at, state_at};
+ghost use Rattle.sb_machine.specs.StandsFor.{IsMachineOf};
 ghost use Rattle.sb_machine.specs.Outcomes.{line_by, origin_behind, core_behind, next_outcome, home_eptp, home_state, machine_at_home, fault_outcome};
 
 use crate::processor::{Core, CoreState, Origin};
@@ -112,9 +112,10 @@ pub fn home_state(eptp: u64, state: &CoreState, regs: Regs) -> CoreState
 }
 
 /// Sends the thread of a core home from a server's view. The stack that it has of the server stays taken.
+#[tactic(auto, using(crate::proofs::Places::home_word))]
 fn send_home(parts: &mut Parts, number: u8)
     requires there { number < length parts.old.cores }
-    requires list { IsWordPlace parts.old.memory (entry_in (state_at parts.old number).list.0 0) }
+    requires stands { (state : State) × IsMachineOf parts.old state }
     ensures { parts.new ≡ machine_at_home parts.old number }
 {
     let state = parts.core(number).state;
@@ -125,7 +126,7 @@ fn send_home(parts: &mut Parts, number: u8)
 /// A fault of the thread of a core, and its line. At home it ends the thread; in a server's view it sends it home.
 pub fn fault(parts: &mut Parts, number: u8, kind: FaultKind, at: u64) -> Event
     requires there { number < length parts.old.cores }
-    requires list { IsWordPlace parts.old.memory (entry_in (state_at parts.old number).list.0 0) }
+    requires stands { (state : State) × IsMachineOf parts.old state }
     ensures { (result, parts.new) ≡ fault_outcome parts.old number kind at }
 {
     let core = parts.core(number);

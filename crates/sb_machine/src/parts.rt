@@ -1,7 +1,7 @@
 //! The parts of a machine.
 
 ghost use Rattle.std.specs.Prelude.{◌≡◌, ◌<◌, length};
-ghost use Rattle.sb_machine.specs.Machine.{core_at, with_core, with_state, state_at, with_line};
+ghost use Rattle.sb_machine.specs.Machine.{core_at, with_core, with_state};
 
 use crate::processor::{Core, CoreState};
 use sb_frames::FrameBook;

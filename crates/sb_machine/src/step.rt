@@ -1,18 +1,17 @@
 //! A step of the machine.
 
 ghost use Rattle.std.specs.Prelude.{◌≡◌, ◌<◌, length};
-ghost use Rattle.sb_memory.specs.Physical.{IsWordPlace};
 ghost use Rattle.sb_insn.specs.Grammar.{IsValid};
-ghost use Rattle.sb_walks.specs.Entry.{entry_in};
 ghost use Rattle.sb_trace.specs.Faults.{IsFault};
 ghost use Rattle.sb_trace.specs.State.{State};
-ghost use Rattle.sb_machine.specs.Machine.{state_at};
+ghost use Rattle.sb_machine.specs.Outcomes.{with_line};
 ghost use Rattle.sb_machine.specs.StandsFor.{IsMachineOf};
-ghost use Rattle.sb_machine.specs.Written.{Performs, RunsOn, StopsWith, Works};
+ghost use Rattle.sb_machine.specs.Written.{Performs, RunsOn, Steps, StopsWith, Works};
 
 use crate::instruction::{fetch_next, perform};
 use crate::outcome::{fault, go_on};
 use crate::parts::Parts;
+use crate::processor::CoreState;
 use crate::system_call::system_call;
 use crate::vmfunc::vmfunc;
 use sb_bus::{BusStop, FaultKind};
@@ -24,7 +23,7 @@ use sb_trace::Event;
 /// A refused access is a fault.
 fn stop_thread(parts: &mut Parts, number: u8, stop: BusStop) -> Event
     requires there { number < length parts.old.cores }
-    requires list { IsWordPlace parts.old.memory (entry_in (state_at parts.old number).list.0 0) }
+    requires stands { (state : State) × IsMachineOf parts.old state }
     requires fault { IsFault stop }
     ensures { StopsWith parts.old number stop (result, parts.new) }
 {
@@ -43,7 +42,7 @@ fn execute_next(parts: &mut Parts, number: u8, insn: &Insn) -> Event
 {
     let state = parts.core(number).state;
     let mut regs = state.regs;
-    match perform(&mut parts.memory, &state, insn, &mut regs) {
+    match perform(parts, number, insn, &mut regs) {
         Ok(Effect::Next) => go_on(parts, number, regs),
         Ok(Effect::Syscall) => system_call(parts, number, insn),
         Ok(Effect::Switch) => vmfunc(parts, number, insn),
@@ -58,8 +57,7 @@ fn run(parts: &mut Parts, number: u8) -> Event
     requires stands { (state : State) × IsMachineOf parts.old state }
     ensures { RunsOn parts.old number (result, parts.new) }
 {
-    let state = parts.core(number).state;
-    match fetch_next(&mut parts.memory, &state) {
+    match fetch_next(parts, number) {
         Ok(insn) => execute_next(parts, number, &insn),
         Err(stop) => stop_thread(parts, number, stop),
     }
@@ -75,4 +73,25 @@ fn work(parts: &mut Parts, number: u8) -> Event
         EndKind::Running => run(parts, number),
         EndKind::Ended(_) | EndKind::Faulted(_, _) => Event::Idle,
     }
+}
+
+/// The core has made one line more.
+fn count_line(parts: &mut Parts, number: u8)
+    requires { number < length parts.old.cores }
+    ensures { parts.new ≡ with_line parts.old number }
+{
+    let state = parts.core(number).state;
+    let made = state.made.wrapping_add(1);
+    parts.set_state(number, CoreState { made, ..state });
+}
+
+/// A step of a core.
+pub fn step(parts: &mut Parts, number: u8) -> Event
+    requires there { number < length parts.old.cores }
+    requires stands { (state : State) × IsMachineOf parts.old state }
+    ensures { Steps parts.old number result parts.new }
+{
+    let event = work(parts, number);
+    count_line(parts, number);
+    event
 }

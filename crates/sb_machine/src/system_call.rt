@@ -1,17 +1,11 @@
 //! A system call of a core.
 
-ghost use Rattle.std.specs.Prelude.{◌≡◌, ◌≢◌, ◌<◌, length};
-ghost use Rattle.sb_abi.specs.Numbers.{call_number};
-ghost use Rattle.sb_abi.specs.declared.call.Call.TheVariants.{Bind};
-ghost use Rattle.sb_memory.specs.Physical.{IsWordPlace};
+ghost use Rattle.std.specs.Prelude.{◌≡◌, ◌<◌, length};
 ghost use Rattle.sb_insn.specs.Grammar.{IsValid};
-ghost use Rattle.sb_walks.specs.Entry.{entry_in};
 ghost use Rattle.sb_trace.specs.State.{State};
-ghost use Rattle.sb_trace.specs.Registers.{rax};
-ghost use Rattle.sb_sub.specs.StandsFor.{StandsFor};
 ghost use Rattle.sb_sub.specs.Serving.{line_of};
-ghost use Rattle.sb_machine.specs.Machine.{state_at};
 ghost use Rattle.sb_machine.specs.Outcomes.{core_after_call};
+ghost use Rattle.sb_machine.specs.StandsFor.{IsMachineOf};
 ghost use Rattle.sb_machine.specs.Written.{Calls};
 
 use crate::processor::{Core, CoreState};
@@ -58,14 +52,11 @@ fn core_after_call(answer: Answer, home: u64, core: &Core, regs: Regs) -> Core
 }
 
 /// SYSCALL of a core, and its line.
+#[tactic(auto, using(crate::proofs::Places::home_word, crate::proofs::Places::kernel_stands, crate::proofs::Places::seat_there))]
 pub fn system_call(parts: &mut Parts, number: u8, insn: &Insn) -> Event
     requires there { number < length parts.old.cores }
-    requires seat { number < length parts.old.kernel.seats }
     requires valid { IsValid insn.now }
-    requires list { IsWordPlace parts.old.memory (entry_in (state_at parts.old number).list.0 0) }
-    requires stands { (state : State)
-        × StandsFor parts.old.kernel parts.old.root parts.old.book parts.old.memory state }
-    requires built { rax (state_at parts.old number).regs ≢ call_number Bind }
+    requires stands { (state : State) × IsMachineOf parts.old state }
     ensures { Calls parts.old number insn.now result parts.new }
 {
     let core = parts.core(number);

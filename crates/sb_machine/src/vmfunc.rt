@@ -2,11 +2,10 @@
 
 ghost use Rattle.std.specs.Prelude.{◌≡◌, ◌<◌, length};
 ghost use Rattle.sb_abi.specs.Numbers.{status_number};
-ghost use Rattle.sb_memory.specs.Physical.{IsWordPlace, frame_count};
 ghost use Rattle.sb_insn.specs.Grammar.{IsValid};
-ghost use Rattle.sb_walks.specs.Entry.{entry_in};
 ghost use Rattle.sb_trace.specs.KernelCall.{refusal_regs};
-ghost use Rattle.sb_machine.specs.Machine.{core_at, state_at};
+ghost use Rattle.sb_trace.specs.State.{State};
+ghost use Rattle.sb_machine.specs.StandsFor.{IsMachineOf};
 ghost use Rattle.sb_machine.specs.Outcomes.{refusal_outcome, regs_behind, home_line, homecoming, core_in_flight, departure, switch_outcome};
 
 use crate::processor::{Core, CoreState, Origin};
@@ -39,7 +38,7 @@ fn refusal_regs(regs: &Regs, status: CallStatus) -> Regs
 /// A switch that the kernel refuses, with its line: at home with a status, in a server's view as a fault at the VMFUNC.
 fn refuse(parts: &mut Parts, number: u8, line: Event, status: CallStatus) -> Event
     requires there { number < length parts.old.cores }
-    requires list { IsWordPlace parts.old.memory (entry_in (state_at parts.old number).list.0 0) }
+    requires stands { (state : State) × IsMachineOf parts.old state }
     ensures { (result, parts.new) ≡ refusal_outcome parts.old number line (status_number status) }
 {
     let state = parts.core(number).state;
@@ -116,11 +115,11 @@ fn depart(parts: &mut Parts, number: u8, insn: &Insn, index: u16, eptp: u64) -> 
 }
 
 /// VMFUNC of a core, and its line.
-#[tactic(auto, unfolding(sb_root::specs::Switch::switch_result))]
+#[tactic(auto, using(crate::proofs::Places::list_frame), unfolding(sb_root::specs::Switch::switch_result))]
 pub fn vmfunc(parts: &mut Parts, number: u8, insn: &Insn) -> Event
     requires there { number < length parts.old.cores }
     requires valid { IsValid insn.now }
-    requires list { (state_at parts.old number).list.0 < frame_count parts.old.memory }
+    requires stands { (state : State) × IsMachineOf parts.old state }
     ensures { (result, parts.new) ≡ switch_outcome parts.old number insn.now }
 {
     let state = parts.core(number).state;
