@@ -53,7 +53,7 @@ absent_process pages process image name text area initial heap pool none =
 pub record HasNoPagesFrom (pages : List Page) (first : ℕ) : Type 0 where
   pub none : (process : ℕ) → first ≤ process → HasNoPages pages process
 
-other_process : (pages : List Page) (process number : ℕ) (image : ProcessImage) → process ≢ number → HasNoPages pages number
+pub other_process : (pages : List Page) (process number : ℕ) (image : ProcessImage) → process ≢ number → HasNoPages pages number
     → HasNoPages (pages ++ process_pages process image) number
 other_process pages process number image differ none = record {
   area = λ page. absent_process pages process image (Area number page) (λ one e. cc)

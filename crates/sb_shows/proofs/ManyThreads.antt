@@ -52,7 +52,7 @@ absent_thread pages thread home name words scratch save stack none =
 pub record HasNoThreadsFrom (pages : List Page) (first : ℕ) : Type 0 where
   pub none : (thread : ℕ) → first ≤ thread → HasNoThreadPages pages thread
 
-other_thread : (pages : List Page) (thread number home : ℕ) → thread ≢ number → HasNoThreadPages pages number
+pub other_thread : (pages : List Page) (thread number home : ℕ) → thread ≢ number → HasNoThreadPages pages number
     → HasNoThreadPages (pages ++ pages_of_thread thread home) number
 other_thread pages thread number home differ none = record {
   words = absent_thread pages thread home (Record number 0) (λ e. differ (let same : thread ≡ number = cc in same)) (λ e. cc)
@@ -76,7 +76,7 @@ with_entries state thread entries = record state {
   pages = state.pages ++ pages_of_threads thread entries;
 }
 
-joined_pages : (pages : List Page) (thread home : ℕ)
+pub joined_pages : (pages : List Page) (thread home : ℕ)
     → ((pages ++ page_with (Record thread 0) (record_bytes (home_words thread home)) ∷ []) ++ page_with (Scratch thread 0) zeros
     ∷ []) ++ save_and_stack thread ≡ pages ++ pages_of_thread thread home
 joined_pages pages thread home =

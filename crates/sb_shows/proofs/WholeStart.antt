@@ -179,7 +179,7 @@ module _ (images : List ProcessImage) (entries : List ThreadEntry) (name : PageN
 
 -- ---- what is not there yet
 
-no_process_yet : HasNoPagesFrom trampoline_pages 0
+pub no_process_yet : HasNoPagesFrom trampoline_pages 0
 no_process_yet = record {
   none = λ process above. record {
     area = λ page. none_apart kind 0 trampoline_pages (Area process page) trampoline_kind (λ e. cc);
@@ -199,7 +199,7 @@ no_page_yet images name is =
     (none_apart kind 0 trampoline_pages name trampoline_kind (λ same. let e : 2 ≡ 0 = sym is ∙ same in cc))
     ∙ none_apart kind 1 (images_pages 0 images) name (images_kind images 0) (λ same. let e : 2 ≡ 1 = sym is ∙ same in cc))
 
-no_thread_yet : (images : List ProcessImage) → HasNoThreadsFrom (trampoline_pages ++ images_pages 0 images) 0
+pub no_thread_yet : (images : List ProcessImage) → HasNoThreadsFrom (trampoline_pages ++ images_pages 0 images) 0
 no_thread_yet images = record {
   none = λ thread above. record {
     words = no_page_yet images (Record thread 0) refl;
@@ -212,7 +212,7 @@ no_thread_yet images = record {
 
 -- ---- the start
 
-start_sight : (images : List ProcessImage) (entries : List ThreadEntry) (free : ℕ) (keys : List ℕ)
+pub start_sight : (images : List ProcessImage) (entries : List ThreadEntry) (free : ℕ) (keys : List ℕ)
     → SameSight (with_entries (with_images (state_before_processes free keys) 0 images) 0 entries)
     (start_state images entries free keys)
 unfolding thread_at

@@ -75,7 +75,7 @@ accepted_entry kernel free view process handler stacks is =
 
 module _ (kernel : Kernel) (root : RootKernel) (book : Book) (memory : Physical) (state : State)
     (stands : StandsFor kernel root book memory state) (process : ℕ) where
-  found_same : process_in kernel process ≡ process_at state process
+  pub found_same : process_in kernel process ≡ process_at state process
   unfolding process_at
   found_same =
       sym (slice_get-map process_of kernel.processes process)

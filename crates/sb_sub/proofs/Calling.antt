@@ -88,7 +88,7 @@ module _ (state : State) (number : ℕ) (next : Regs) (process page mode : ℕ) 
 
 -- ---- the thread
 
-moved_regs : (state : State) (number : ℕ) (regs : Regs) → IsMoved state (with_regs state number regs)
+pub moved_regs : (state : State) (number : ℕ) (regs : Regs) → IsMoved state (with_regs state number regs)
 unfolding with_regs thread_at
 moved_regs state number regs = record {
   pages = refl;
@@ -99,7 +99,7 @@ moved_regs state number regs = record {
   keys = refl;
 }
 
-count_same : (kernel : Kernel) (root : RootKernel) (book : Book) (memory : Physical) (state : State)
+pub count_same : (kernel : Kernel) (root : RootKernel) (book : Book) (memory : Physical) (state : State)
     → StandsFor kernel root book memory state → length kernel.seats ≡ length state.threads
 count_same kernel root book memory state stands = ap length (sym stands.seats) ∙ length-map state.threads seat_of
 

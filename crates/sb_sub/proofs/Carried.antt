@@ -1,10 +1,9 @@
 -- A page that was taken, filled, mapped and exposed is a page of the state.
-use Rattle.std.proofs.Common.{◌≡◌, ◌∙◌, sym, ap, subst, ℕ, ◌*◌, ◌<◌, ◌==◌, Bool, true, false, [], ◌∷◌, ◌++◌, length, refl, arith}
+use Rattle.std.proofs.Common.{◌≡◌, ◌∙◌, sym, ap, subst, ℕ, ◌*◌, ◌<◌, ◌==◌, Bool, true, false, List, [], ◌∷◌, ◌++◌, length, refl, arith}
 use Rattle.std.specs.Prelude.{if◌then◌else◌}
 use Rattle.std.proofs.lemmas.Bool.{ne_eqb}
 use Rattle.sb_memory.specs.Physical.{Physical}
 use Rattle.sb_frames.specs.Book.{Book}
-use Rattle.sb_frames.specs.declared.kind.Kind.TheVariants.{Writable}
 use Rattle.sb_pagewalk.specs.TableSet.{table_frame}
 use Rattle.sb_pagewalk.specs.Standing.{IsApart as IsSetApart}
 use Rattle.sb_root.specs.declared.root_kernel.RootKernel.{RootKernel}
@@ -13,17 +12,15 @@ use Rattle.sb_root.specs.Calls.{IsFree}
 use Rattle.sb_root.proofs.Frames.{only_one}
 use Rattle.sb_state.specs.declared.page.PageName.{PageName}
 use Rattle.sb_state.specs.declared.page.Page.{Page}
-use Rattle.sb_state.specs.declared.page.Mode.{Mode}
-use Rattle.sb_state.specs.declared.page.Mode.TheVariants.{ReadWrite}
 use Rattle.sb_trace.specs.PageName.{same_name, mode_of}
 use Rattle.sb_trace.specs.State.{State, find_page, page_with}
 use Rattle.sb_state.proofs.Names.{name_same}
-use Rattle.sb_shows.specs.Placement.{Placement, Unused, GuestTable, Holds, IsThere, leaf_for, rights_for}
-use Rattle.sb_shows.specs.Calls.{SetsPage, ExposesFrame, AddsPage, placed_with, IsNewPage}
+use Rattle.sb_shows.specs.Placement.{Placement, Unused, GuestTable, Holds, IsThere, rights_for}
+use Rattle.sb_shows.specs.Calls.{ExposesFrame, AddsPage, placed_with, IsNewPage}
 use Rattle.sb_shows.specs.Windows.{page_number}
 use Rattle.sb_shows.proofs.Protecting.{guest_root_apart, base_sets_apart}
 use Rattle.sb_shows.proofs.AddingPages.{page_added}
-use Rattle.sb_sub.specs.Taking.{CanTake, TakesPage, top_bytes}
+use Rattle.sb_sub.specs.Taking.{CanTake, TakesPage, page_kind}
 use Rattle.sb_sub.specs.Carries.{Carries, StaysPlaced}
 use Rattle.sb_sub.proofs.Taken.{free_before, can_new}
 
@@ -66,27 +63,20 @@ module _ (placement : Placement) (root : RootKernel) (book : Book) (memory : Phy
 
   -- ---- afterwards
 
-  module _ (name : PageName) (owner top : ℕ) (book' : Book) (new : Physical)
-      (takes : TakesPage (placement.sets process) root book book' memory new owner (4096 * page_number name) top)
-      (is : IsNewPage state.threads (length state.processes) state.pages (process ∷ []) (page_with name (top_bytes top)))
-      (writable : mode_of name false ≡ ReadWrite) where
+  module _ (name : PageName) (owner : ℕ) (bytes : List ℕ) (book' : Book) (new : Physical)
+      (takes : TakesPage (placement.sets process) root book book' memory new owner (4096 * page_number name)
+      (mode_of name false) bytes)
+      (is : IsNewPage state.threads (length state.processes) state.pages (process ∷ []) (page_with name bytes)) where
     abbrev page : Page
-    page = page_with name (top_bytes top)
+    page = page_with name bytes
 
     abbrev frame : ℕ
     frame = takes.frame.0
 
-    entry_set : SetsPage (placement.sets process) takes.filled takes.mapped (4096 * page_number name)
-        (leaf_for frame (mode_of name false))
-    entry_set =
-        subst (λ (mode : Mode). SetsPage (placement.sets process) takes.filled takes.mapped (4096 * page_number name)
-        (leaf_for frame mode)) (sym writable) takes.set_page
-
     frame_exposed : ExposesFrame placement.root takes.mapped new frame (rights_for (mode_of name false))
     frame_exposed =
         subst (λ (one : RootKernel). ExposesFrame one takes.mapped new frame (rights_for (mode_of name false)))
-        (sym carries.rooted)
-        (subst (λ (mode : Mode). ExposesFrame root takes.mapped new frame (rights_for mode)) (sym writable) takes.exposed)
+        (sym carries.rooted) takes.exposed
 
     pub adds : AddsPage placement (process ∷ []) page memory new
     adds = record {
@@ -97,7 +87,7 @@ module _ (placement : Placement) (root : RootKernel) (book : Book) (memory : Phy
       filled = takes.filled;
       fills = record { same = takes.same; held = takes.held };
       mapped = takes.mapped;
-      sets = (takes.mapped, entry_set, refl);
+      sets = (takes.mapped, takes.set_page, refl);
       exposed = frame_exposed;
     }
 
@@ -105,13 +95,13 @@ module _ (placement : Placement) (root : RootKernel) (book : Book) (memory : Phy
     booked =
         (can_new (placement.sets process) root book memory takes.filled frame can_take takes.free takes.same takes.mapped
         (4096 * page_number name) _ takes.set_page.written
-        new book' 3 (Writable, owner) takes.set_page.tables takes.exposed.written takes.exposed.stands takes.taken).booked
+        new book' (rights_for (mode_of name false)) (page_kind (mode_of name false), owner) takes.set_page.tables takes.exposed.written takes.exposed.stands takes.taken).booked
 
     unused_now : (other : ℕ) → IsFree book' other → (if other == frame then Holds name else placement.purpose other) ≡ Unused
     unused_now other free =
         let before =
         free_before book frame other (
-          Writable,
+          page_kind (mode_of name false),
           owner,
         ) takes.free.0 (subst (λ (one : Book). IsFree one other) takes.taken free) in
         ap (λ (test : Bool). if test then Holds name else placement.purpose other) (ne_eqb other frame before.1)

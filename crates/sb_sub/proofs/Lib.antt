@@ -15,3 +15,10 @@ pub mod SeenAfter
 pub mod Servable
 pub mod Registered
 pub mod Accepting
+pub mod Sharing
+pub mod SharedPages
+pub mod BoundTable
+pub mod Binding
+pub mod Bound
+pub mod Telling
+pub mod Lists

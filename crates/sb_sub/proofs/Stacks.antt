@@ -11,6 +11,7 @@ use Rattle.sb_root.specs.declared.root_kernel.RootKernel.{RootKernel}
 use Rattle.sb_state.specs.declared.page.PageName.{PageName}
 use Rattle.sb_state.specs.declared.page.PageName.TheVariants.{ServerStack}
 use Rattle.sb_state.specs.declared.page.Page.{Page}
+use Rattle.sb_state.specs.declared.page.Mode.{Mode}
 use Rattle.sb_state.specs.declared.page.Mode.TheVariants.{ReadWrite}
 use Rattle.sb_trace.specs.PageName.{mode_of}
 use Rattle.sb_trace.specs.PageWords.{zeros}
@@ -52,7 +53,7 @@ address : (process page : ℕ) → 4096 * page_number (ServerStack process page)
 unfolding page_number
 address process page = refl
 
-pages_snoc : (page : ℕ → Page) (first count : ℕ)
+pub pages_snoc : (page : ℕ → Page) (first count : ℕ)
     → pages_from page first (suc count) ≡ pages_from page first count ++ page (first + count) ∷ []
 pages_snoc page first zero = ap (λ (n : ℕ). page n ∷ []) (omega arith)
 pages_snoc page first (suc count) =
@@ -103,25 +104,32 @@ module _ (placement : Placement) (root : RootKernel) (memory : Physical) (state 
 
   one_more : (count : ℕ) (before book' : Book) (mid new : Physical) → count < 512
       → StacksCarried placement root before mid state process count
-      → TakesPage (placement.sets process) root before book' mid new owner (stack_at count) (stack_top count)
+      → TakesPage (placement.sets process) root before book' mid new owner (stack_at count) ReadWrite
+      (top_bytes (stack_top count))
       → StacksCarried placement root book' new state process (suc count)
   one_more count before book' mid new few carried takes =
       let moved : TakesPage (carried.after.sets process) root before book' mid new owner
-      (4096 * page_number (ServerStack process count)) (stack_top count) =
-      subst (λ (at : ℕ). TakesPage (carried.after.sets process) root before book' mid new owner at (stack_top count))
+      (4096 * page_number (ServerStack process count)) (mode_of (ServerStack process count) false)
+      (top_bytes (stack_top count)) =
+      subst (λ (mode : Mode). TakesPage (carried.after.sets process) root before book' mid new owner
+      (4096 * page_number (ServerStack process count)) mode (top_bytes (stack_top count)))
+      (sym (writable process count))
+      (subst (λ (at : ℕ). TakesPage (carried.after.sets process) root before book' mid new owner at ReadWrite
+      (top_bytes (stack_top count)))
       (sym (address process count))
-      (subst (λ (set : TableSet). TakesPage set root before book' mid new owner (stack_at count) (stack_top count))
-      (sym (carried.stays.sets process)) takes) in
+      (subst (λ (set : TableSet). TakesPage set root before book' mid new owner (stack_at count) ReadWrite
+      (top_bytes (stack_top count)))
+      (sym (carried.stays.sets process)) takes)) in
       let absent = carried.absent count (omega arith) in
       let fresh =
       subst (IsNewPage state.threads (length state.processes) (with_stacks count) (process ∷ []))
       (sym (stack_page process count)) (new_page count (with_stacks count) few absent) in
       let now =
       page_carried carried.after root before mid (record state { pages = with_stacks count }) carried.carries process there
-      (ServerStack process count) owner (stack_top count) book' new moved fresh (writable process count) in
+      (ServerStack process count) owner (top_bytes (stack_top count)) book' new moved fresh in
       let stay =
       page_stays carried.after root before mid (record state { pages = with_stacks count }) carried.carries process there
-      (ServerStack process count) owner (stack_top count) book' new moved fresh (writable process count) in
+      (ServerStack process count) owner (top_bytes (stack_top count)) book' new moved fresh in
       let pages = ap (λ (page : Page). with_stacks count ++ page ∷ []) (stack_page process count) ∙ more count in
       record {
         after = placed_with carried.after (ServerStack process count) moved.frame.0;

@@ -56,7 +56,7 @@ free_before book frame other held inside free = free_by book frame other held in
 
 -- ---- the memories between
 
-set_word : (set : TableSet) (memory new : Physical) (at entry : ℕ)
+pub set_word : (set : TableSet) (memory new : Physical) (at entry : ℕ)
     → new ≡ with_bytes memory (put_word memory.bytes (page_place set at) entry)
     → SameOutside (table_frame set (page_table_of (region_of at)) ∷ []) memory new
 set_word set memory new at entry written =

@@ -13,7 +13,8 @@ use Rattle.sb_state.specs.declared.page.PageName.{PageName}
 use Rattle.sb_trace.specs.State.{State}
 use Rattle.sb_shows.specs.Placement.{Placement, IsThere, Unused}
 use Rattle.sb_shows.specs.Keeping.{Keeps}
-use Rattle.sb_sub.specs.Taking.{TakesPage}
+use Rattle.sb_state.specs.declared.page.Mode.TheVariants.{ReadWrite}
+use Rattle.sb_sub.specs.Taking.{TakesPage, top_bytes}
 
 -- The bytes keep a state by a placement over this root kernel, and a free frame of the book is used for nothing.
 pub record Carries (placement : Placement) (root : RootKernel) (book : Book) (memory : Physical) (state : State) : Type 0 where
@@ -40,4 +41,5 @@ abbrev pub TakesStacks : TableSet → RootKernel → Book → Book → Physical 
 TakesStacks set root book book' old new owner zero = (book' ≡ book) × (new ≡ old)
 TakesStacks set root book book' old new owner (suc count) =
     (between : Book) × (mid : Physical) × TakesStacks set root book between old mid owner count
-    × TakesPage set root between book' mid new owner (stack_at count) (stack_top count)
+    × TakesPage set root between book' mid new owner (stack_at count) ReadWrite
+    (top_bytes (stack_top count))

@@ -29,8 +29,12 @@ seat_of thread = record { home = thread.home; bindings = thread.bindings }
 
 -- ---- the process that a view shows
 
+-- what is kept of a thread among these
+abbrev pub seat_among : List Seat → ℕ → Seat
+seat_among seats thread = unwrap_or (slice_get seats thread) (seat_of no_thread)
+
 abbrev pub seat_in : Kernel → ℕ → Seat
-seat_in kernel thread = unwrap_or (slice_get kernel.seats thread) (seat_of no_thread)
+seat_in kernel thread = seat_among kernel.seats thread
 
 -- view 0 shows the home, each other view the server of that binding
 abbrev pub shown_from : ℕ → Seat → Option ℕ

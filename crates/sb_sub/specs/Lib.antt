@@ -8,4 +8,7 @@ pub mod Laws
 pub mod Taking
 pub mod Carries
 pub mod Registering
+pub mod Sharing
+pub mod Binding
+pub mod BindingTold
 pub mod Translations

@@ -2,6 +2,7 @@
 #![tactic(auto)]
 
 mod answer;
+mod bind;
 mod heap;
 mod laws;
 mod process;

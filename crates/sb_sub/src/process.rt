@@ -23,6 +23,13 @@ impl Model for Process {
 }
 
 impl Process {
+    /// Its page tables.
+    pub(crate) fn tables(&self) -> &TableSet
+        ensures { result.now ≡ self.now.set }
+    {
+        &self.set
+    }
+
     /// Notes the handler of a server, and the number of its stacks.
     pub(crate) fn note_server(&mut self, handler: u64, stacks: u32)
         ensures { self.new ≡ with_entry self.old handler stacks }

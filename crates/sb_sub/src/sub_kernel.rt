@@ -4,15 +4,15 @@ ghost use Rattle.std.specs.Prelude.{◌≡◌, ◌≢◌, ◌+◌, ◌*◌, ◌<
 ghost use Rattle.sb_abi.specs.declared.space.TheConstants.{MAX_STACKS, STACK_PAGES};
 ghost use Rattle.sb_abi.specs.Numbers.{call_number};
 ghost use Rattle.sb_abi.specs.declared.call.Call.TheVariants.{Register, Bind, Protect};
-ghost use Rattle.sb_trace.specs.State.{State};
+ghost use Rattle.sb_trace.specs.State.{State, registration_of};
 ghost use Rattle.sb_trace.specs.Registers.{rax, rdi};
 ghost use Rattle.sb_trace.specs.Syscall.{syscall_outcome};
 ghost use Rattle.sb_frames.specs.Book.{Book, free_count};
-ghost use Rattle.sb_sub.specs.Kernel.{shown_in};
+ghost use Rattle.sb_sub.specs.Kernel.{seat_in, shown_in};
 ghost use Rattle.sb_sub.specs.StandsFor.{StandsFor};
-ghost use Rattle.sb_sub.specs.Serving.{IsRefused, ServesBy, exit_answer, exit_regs};
+ghost use Rattle.sb_sub.specs.Serving.{IsRefused, KeepsLists, ServesBy, exit_answer, exit_regs};
 ghost use Rattle.sb_sub.specs.Outcomes.{ProtectsBy, RegistersBy};
-ghost use Rattle.sb_sub.specs.Refusals.{answer_by, number_by, server_refusal};
+ghost use Rattle.sb_sub.specs.Refusals.{answer_by, number_by, process_in, server_refusal};
 ghost use Rattle.sb_sub.specs.Registering.{RegistersPages, with_server_entry};
 ghost use Rattle.sb_sub.specs.Translations.{PlacesStay};
 
@@ -20,7 +20,7 @@ use crate::answer::Answer;
 use crate::process::Process;
 use crate::protect::protect;
 use crate::register::register_pages;
-use crate::registers::{entered, go_on};
+use crate::registers::{entered, go_on, tell_binding};
 use sb_abi::{Call, CallRefusal};
 use sb_calls::{register_refusal, server_fault_regs};
 use sb_frames::FrameBook;
@@ -28,6 +28,7 @@ use sb_insn::Regs;
 use sb_insn::registers::{RAX, RDI, RSI};
 use sb_memory::Memory;
 use sb_root::RootKernel;
+use sb_state::Registration;
 use sb_trace::Bindings;
 use sb_tramp::KeyWords;
 use std::marker::Model;
@@ -35,8 +36,8 @@ use std::marker::Model;
 /// What the Subkernel keeps of a thread.
 #[derive(Debug, Drop)]
 pub struct Seat {
-    home: u32,
-    bindings: Bindings,
+    pub(crate) home: u32,
+    pub(crate) bindings: Bindings,
 }
 
 impl Model for Seat {
@@ -50,9 +51,9 @@ impl Model for Seat {
 /// The processes, the homes and bindings of the threads, and the key words that are left.
 #[derive(Drop)]
 pub struct SubKernel {
-    processes: Vec<Process>,
-    seats: Vec<Seat>,
-    keys: KeyWords,
+    pub(crate) processes: Vec<Process>,
+    pub(crate) seats: Vec<Seat>,
+    pub(crate) keys: KeyWords,
 }
 
 impl Model for SubKernel {
@@ -70,6 +71,8 @@ const EXIT: u64 = Call::Exit as u64;
 const PRINT: u64 = Call::Print as u64;
 
 const REGISTER: u64 = Call::Register as u64;
+
+const BIND: u64 = Call::Bind as u64;
 
 const PROTECT: u64 = Call::Protect as u64;
 
@@ -119,6 +122,13 @@ fn note_server(processes: &mut [Process], process: u32, handler: u64, stacks: u3
 }
 
 impl SubKernel {
+    /// The number of key words that are left.
+    pub fn keys_left(&self) -> u32
+        ensures { result ≡ length self.now.keys }
+    {
+        self.keys.left()
+    }
+
     /// The process that a view of a thread shows.
     pub fn shown(&self, thread: u8, view: u16) -> u32
         requires { thread < length self.now.seats }
@@ -140,11 +150,39 @@ impl SubKernel {
     }
 
     /// The process of this number.
-    fn process(&self, process: u32) -> &Process
+    pub(crate) fn process(&self, process: u32) -> &Process
         requires { process < length self.now.processes }
         ensures { slice_get self.now.processes process ≡ Some result.now }
     {
         &self.processes[process as usize]
+    }
+
+    /// What the process of a number told as a server, if it did.
+    pub(crate) fn registration(&self, process: u64) -> Option<Registration>
+        ensures { result ≡ registration_of (process_in self.now process) }
+    {
+        let index = process as usize;
+        if index < self.processes.len() {
+            self.processes[index].plain.registration
+        } else {
+            None
+        }
+    }
+
+    /// What is kept of a thread.
+    pub(crate) fn seat(&self, thread: u8) -> &Seat
+        requires { thread < length self.now.seats }
+        ensures { result.now ≡ seat_in self.now thread }
+    {
+        &self.seats[usize::from(thread)]
+    }
+
+    /// The home of a thread.
+    pub(crate) fn home(&self, thread: u8) -> u32
+        requires { thread < length self.now.seats }
+        ensures { result ≡ (seat_in self.now thread).home }
+    {
+        self.seat(thread).home
     }
 
     /// Why the process of a number does not become a server, where so many frames are free.
@@ -266,12 +304,13 @@ impl SubKernel {
     ) -> Answer
         requires stands { (state : State) × StandsFor self.old root.old book.old memory.old state }
         requires thread { thread < length self.old.seats }
-        requires built { rax regs.old ≢ call_number Bind }
         ensures served { ServesBy syscall_outcome self.old root.old book.old memory.old self.new root.new book.new memory.new
             thread view result regs.old regs.new }
         ensures refused { IsRefused result
             → (self.new ≡ self.old) × (root.new ≡ root.old) × (book.new ≡ book.old) × (memory.new ≡ memory.old) }
-        ensures memory { rax regs.old ≢ call_number Protect → rax regs.old ≢ call_number Register → memory.new ≡ memory.old }
+        ensures memory { rax regs.old ≢ call_number Protect → rax regs.old ≢ call_number Register → rax regs.old ≢ call_number Bind
+            → memory.new ≡ memory.old }
+        ensures lists { KeepsLists root.old root.new }
         ensures places { rax regs.old ≢ call_number Protect
             → PlacesStay self.old root.old book.old memory.old memory.new }
     {
@@ -289,6 +328,12 @@ impl SubKernel {
                 let refusal = self.register(memory, book, root, view, process, handler, stacks);
                 let answer = number_of(refusal);
                 go_on(regs, answer, 0);
+                Answer::Back { number, answer }
+            }
+            BIND => {
+                let server = regs.general[RDI];
+                let bound = self.bind(memory, book, root, thread, view, server);
+                let answer = tell_binding(regs, thread, bound);
                 Answer::Back { number, answer }
             }
             PROTECT => {

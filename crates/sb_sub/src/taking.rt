@@ -25,7 +25,7 @@ pub const DATA: u64 = 7 + (1 << 63);
 const STACK: u32 = STACK_PAGES as u32;
 
 /// Fills a frame with zeros, and puts a word at its top if it is not 0.
-fn fill(memory: &mut Memory, frame: Frame, top: u64)
+pub fn fill(memory: &mut Memory, frame: Frame, top: u64)
     requires inside { frame.0 < frame_count memory.old }
     requires size { HasSize memory.old }
     ensures same { SameOutside (frame.0 ∷ []) memory.old memory.new }
@@ -39,7 +39,7 @@ fn fill(memory: &mut Memory, frame: Frame, top: u64)
 
 /// The lowest entry for a writable page.
 #[tactic(auto, unfolding(sb_shows::specs::Placement::leaf_for))]
-fn data_entry(frame: Frame) -> u64
+pub fn data_entry(frame: Frame) -> u64
     ensures { result ≡ leaf_for frame.0 ReadWrite }
 {
     PAGE_SIZE * u64::from(frame.0) + DATA
@@ -59,7 +59,7 @@ pub fn add_page(
     requires some { 0 < free_count book.old }
     requires can { CanTake set.now root.old book.old memory.old }
     ensures root { root.new ≡ root.old }
-    ensures added { TakesPage set.now root.old book.old book.new memory.old memory.new owner at.0 top }
+    ensures added { TakesPage set.now root.old book.old book.new memory.old memory.new owner at.0 ReadWrite (top_bytes top) }
     ensures can { CanTake set.now root.new book.new memory.new }
 {
     let frame = book.take_free(Kind::Writable, owner);

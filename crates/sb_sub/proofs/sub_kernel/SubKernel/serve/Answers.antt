@@ -5,6 +5,7 @@ use Rattle.sb_trace.specs.declared.event.Event.TheVariants as event
 use Rattle.sb_sub.specs.Serving.{Serves, entered}
 use Rattle.sb_sub.specs.declared.answer.Answer.TheVariants.{Back, Printed}
 use Rattle.sb_sub.proofs.Calling.{called_print, called_none, exit_served, goes_on, protect_served, register_served, rax_entered, rdi_entered, shown_same}
+use Rattle.sb_sub.proofs.Telling.{bind_served}
 use Rattle.sb_sub.proofs.sub_kernel.SubKernel.serve.Goals as goal
 
 pub returns-in-1-clause-served : goal.returns-in-1-clause-served
@@ -32,13 +33,14 @@ returns-in_default-clause-served c = λ state stands view.
     let zeroth : rax c.args.regs.now ≢ 0 = search rules in
     let first : rax c.args.regs.now ≢ 1 = search rules in
     let second : rax c.args.regs.now ≢ 2 = search rules in
+    let third : rax c.args.regs.now ≢ 3 = search rules in
     let fourth : rax c.args.regs.now ≢ 4 = search rules in
     let now = rw c.number-answer.ensures at c.go_on-in_default.ensures in
     rw c.number-answer.ensures
     (subst (Serves c.args.self.now c.args.root.now c.args.book.now c.args.memory.now c.args.thread
     (Back (rax c.args.regs.now) 21) c.go_on-in_default.new.regs)
     (sym (called_none state c.args.thread (entered c.args.regs.now) (λ is. zeroth (sym same ∙ is)) (λ is. first (sym same ∙ is))
-    (λ is. second (sym same ∙ is)) (λ is. c.requires.built (sym same ∙ is)) (λ is. fourth (sym same ∙ is))))
+    (λ is. second (sym same ∙ is)) (λ is. third (sym same ∙ is)) (λ is. fourth (sym same ∙ is))))
     (goes_on _ _ _ _ state c.args.thread (entered c.args.regs.now) c.go_on-in_default.new.regs 21 0 stands c.requires.thread
     now (Back (rax c.args.regs.now) 21) _ (ap (λ (call : ℕ). event.Sys call 21) (sym same))))
 
@@ -60,3 +62,12 @@ returns-in-2-clause-served c = λ state stands view.
     c.args.regs.now c.go_on-in-2.new.regs c.args.view c.shown-process.result by
     (subst (λ (seats : List Seat). c.args.thread < length seats) (sym c.register-refusal.ensures.seats) c.requires.thread)
     view shows c.in-2.is now)
+
+pub returns-in-3-clause-served : goal.returns-in-3-clause-served
+returns-in-3-clause-served c = λ state stands view.
+    let by = c.bind-bound.ensures.served state stands view in
+    rw c.tell_binding-answer.ensures.answer
+    (bind_served c.bind-bound.result c.bind-bound.new.self c.bind-bound.new.root c.bind-bound.new.book c.bind-bound.new.memory
+    state c.args.thread c.args.regs.now c.tell_binding-answer.new.regs by
+    (subst (λ (n : ℕ). c.args.thread < n) (sym c.bind-bound.ensures.seats) c.requires.thread)
+    c.in-3.is c.tell_binding-answer.ensures.regs)
