@@ -1,0 +1,6 @@
+pub mod Machine
+pub mod Phase
+pub mod Outcomes
+pub mod Written
+pub mod StandsFor
+pub mod Laws
