@@ -21,6 +21,13 @@ impl Model for Plain {
 }
 
 impl Plain {
+    /// Lends the state, whose pages can be read.
+    pub fn state(&self) -> &PlainState
+        ensures { result.now ≡ self.now }
+    {
+        &self.state
+    }
+
     /// Whether the thread of a core has ended, by itself or by a fault. A core that has none is one whose thread has ended.
     pub fn ended(&self, core: u8) -> bool
         ensures { IsFalse result ↔ ((thread_at self.now core).state ≡ EndKind.Running) }
