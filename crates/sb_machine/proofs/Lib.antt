@@ -19,3 +19,4 @@ pub mod GoingHome
 pub mod Counted
 pub mod Steps
 pub mod Shown
+pub mod Begun

@@ -3,4 +3,5 @@ pub mod Phase
 pub mod Outcomes
 pub mod Written
 pub mod StandsFor
+pub mod Start
 pub mod Laws

@@ -8,7 +8,7 @@
 //!
 //! Inside: cores (`processor`), the machine (`machine`) and its parts
 //! (`parts`), an instruction (`instruction`), what follows it (`outcome`), VMFUNC (`vmfunc`),
-//! system calls (`system_call`), and the step (`step`). Not inside: the walks (`sb_nested`), the kernels' tables (`sb_root`, `sb_sub`),
+//! system calls (`system_call`), the start (`start`), and the step (`step`). Not inside: the walks (`sb_nested`), the kernels' tables (`sb_root`, `sb_sub`),
 //! and what the plain machine does (`sb_trace`).
 #![tactic(auto)]
 
@@ -19,6 +19,7 @@ mod outcome;
 mod parts;
 mod phase;
 mod processor;
+mod start;
 mod step;
 mod system_call;
 mod vmfunc;

@@ -1,6 +1,7 @@
 //! The machine.
 
-ghost use Rattle.std.specs.Prelude.{◌≡◌, ◌<◌, length};
+ghost use Rattle.std.specs.Prelude.{◌≡◌, ◌<◌, IfOk, length};
+ghost use Rattle.sb_load.specs.FirstState.{first_state};
 ghost use Rattle.sb_trace.specs.State.{State};
 ghost use Rattle.sb_machine.specs.Laws.{Follows};
 ghost use Rattle.sb_machine.specs.StandsFor.{IsMachineOf};
@@ -8,8 +9,11 @@ ghost use Rattle.sb_machine.specs.Written.{Steps};
 
 use crate::laws::steps_are_plain;
 use crate::parts::Parts;
+use crate::start::first_parts;
 use crate::step::step;
+use sb_load::Loaded;
 use sb_trace::Line;
+use std::alloc::{AllocError, Global};
 use std::marker::Model;
 
 /// A machine with page tables that stands for a state of the plain machine. To contracts it is its memory, what its kernels
@@ -32,6 +36,18 @@ impl Model for Machine {
 }
 
 impl Machine {
+    /// The machine at the start of a loaded bundle: it stands for the start of the plain machine, and no core has made a line.
+    ///
+    /// # Errors
+    ///
+    /// Want of memory alone.
+    pub fn new(alloc: Global, loaded: &Loaded) -> Result<Machine, AllocError>
+        ensures { IfOk result (λ machine. IsMachineOf machine (first_state loaded.now)) }
+    {
+        let parts = first_parts(alloc, loaded)?;
+        Ok(Machine { parts })
+    }
+
     /// One step of a core: its line. It takes no memory.
     ///
     /// The step is the written one, through the walks of the core's own words, and counts one line. From each state for which the
