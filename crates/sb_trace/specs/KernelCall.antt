@@ -16,7 +16,7 @@ use Rattle.sb_state.specs.State.{State, thread_at, with_view, registration_at}
 use Rattle.sb_state.specs.PageWords.{word_in, with_word}
 pub use Rattle.sb_state.specs.Bindings.{binding_with}
 use Rattle.sb_state.specs.Registers.{eax, ecx, rsi, zero_flags}
-pub use Rattle.sb_state.specs.Registers.{refusal_regs}
+unfoldable pub use Rattle.sb_state.specs.Registers.{refusal_regs}
 use Rattle.sb_trace.specs.Home.{Outcome, home_address, fault_outcome}
 
 -- ---- what a call looks at
