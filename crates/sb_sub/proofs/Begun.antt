@@ -1,30 +1,28 @@
 -- Memory before there are processes and threads: the root kernel was built, and the trampoline put into its frames.
-use Rattle.std.proofs.Common.{◌≡◌, ◌≢◌, ◌∙◌, sym, ap, subst, ℕ, zero, suc, ◌+◌, ◌*◌, ◌<◌, ◌≤◌, ◌==◌, ◌⊎◌, inl, inr, Bool, true, false, List, [], ◌∷◌, length, get_or, refl, lit<, arith}
-use Rattle.std.specs.Prelude.{None, Some, replicate, if◌then◌else◌}
+use Rattle.std.proofs.Common.{◌≡◌, ◌∙◌, sym, ap, subst, ℕ, zero, suc, ◌+◌, ◌*◌, ◌<◌, ◌≤◌, ◌==◌, ◌⊎◌, inl, inr, false, List, [], ◌∷◌, length, get_or, refl, arith}
+use Rattle.std.specs.Prelude.{None, Some, replicate}
 use Rattle.std.specs.List.{Contains}
 use Rattle.std.proofs.lemmas.Bool.{ne_eqb}
-use Rattle.sb_memory.specs.Physical.{Physical, HasSize, HoldsBytes, frame_count, frame_of}
+use Rattle.sb_memory.specs.Physical.{Physical, HasSize, HoldsBytes, frame_count}
 use Rattle.sb_memory.specs.Changes.{SameOutside}
 use Rattle.sb_memory.specs.Reading.{with_bytes}
 use Rattle.sb_memory.specs.Words.{put_bytes}
-use Rattle.sb_memory.proofs.Changes.{same_outside_then, size_kept}
 use Rattle.sb_frames.specs.Book.{Book}
 use Rattle.sb_pagewalk.specs.declared.table_set.TableSet.{TableSet}
 use Rattle.sb_root.specs.declared.root_kernel.RootKernel.{RootKernel}
 use Rattle.sb_root.specs.Root.{Use, ListOf, PartOf, list_frame_in, part_in, no_threads, used_frame, eptp_list_frame, view_of}
-use Rattle.sb_root.specs.declared.view.View.{View}
 use Rattle.sb_root.specs.Tables.{base_frames}
 use Rattle.sb_root.specs.Standing.{IsApart as IsRootApart, IsBooked, Stands}
 use Rattle.sb_root.specs.Calls.{IsFree}
 use Rattle.sb_root.proofs.Between.{booked_kept}
-use Rattle.sb_root.proofs.Frames.{among_cases, only_one, same_within_one}
+use Rattle.sb_root.proofs.Frames.{among_cases, only_one}
 use Rattle.sb_root.proofs.Kept.{stands_kept}
 use Rattle.sb_root.proofs.NewBase.{repeated}
 use Rattle.sb_tramp.specs.Home.{home_page}
 use Rattle.sb_tramp.specs.Server.{server_page}
 use Rattle.sb_load.specs.Loading.{Load}
 use Rattle.sb_shows.specs.Fills.{FillsFrame}
-use Rattle.sb_shows.specs.Placement.{Purpose, Unused, BaseTable, Holds}
+use Rattle.sb_shows.specs.Placement.{Unused, BaseTable}
 use Rattle.sb_shows.specs.Starts.{first_purpose, first_placement}
 use Rattle.sb_shows.proofs.Fills.{pages_fill}
 use Rattle.sb_shows.proofs.Placing.{others_kept}
@@ -65,21 +63,6 @@ page_put memory new frame at page size inside whole here written =
     subst (FillsFrame frame page memory)
     (sym (written ∙ ap (λ (n : ℕ). with_bytes memory (put_bytes memory.bytes n page)) here))
     (pages_fill memory frame page size inside whole)
-
--- the pages in both frames
-pub both_put : (old mid new : Physical) → FillsFrame 1 home_page old mid → FillsFrame 4 server_page mid new
-    → HoldsBytes new 1 home_page × HoldsBytes new 4 server_page × SameOutside (1 ∷ 4 ∷ []) old new
-both_put old mid new home server = (
-  λ offset below.
-      let here : frame_of (4096 * 1 + offset) ≡ 1 = omega (arith, below) in
-      server.same.bytes (4096 * 1 + offset)
-      (λ among. let is = only_one 4 (frame_of (4096 * 1 + offset)) among in absurd (omega (arith, is, here)))
-      ∙ home.held offset below,
-  server.held,
-  same_outside_then (1 ∷ 4 ∷ []) old mid new
-      (same_within_one 1 (1 ∷ 4 ∷ []) old mid (zero, lit< tt, refl) home.same)
-      (same_within_one 4 (1 ∷ 4 ∷ []) mid new (1, lit< tt, refl) server.same),
-)
 
 module _ (root : RootKernel) (book : Book) (memory new : Physical) (load : Load) (is : root ≡ no_threads)
     (stands : Stands root memory) (booked : IsBooked root book memory)

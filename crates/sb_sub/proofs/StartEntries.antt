@@ -1,12 +1,11 @@
 -- The threads of a start are built one after another.
-use Rattle.std.proofs.Common.{◌≡◌, ◌≢◌, ◌∙◌, sym, ap, subst, ℕ, zero, suc, ◌+◌, ◌-◌, ◌*◌, ◌<◌, ◌≤◌, List, [], ◌∷◌, ◌++◌, length, drop, get_or, refl, arith, append_assoc}
+use Rattle.std.proofs.Common.{◌≡◌, ◌∙◌, sym, ap, subst, ℕ, zero, suc, ◌+◌, ◌-◌, ◌<◌, ◌≤◌, List, [], ◌∷◌, ◌++◌, length, drop, get_or, refl, arith, append_assoc}
 use Rattle.std.specs.Prelude.{Some, map, slice_get}
 use Rattle.std.specs.List.{AllByRecursion}
 use Rattle.std.proofs.lemmas.List.{append-nil, length-append, length-map, drop_more}
 use Rattle.std.proofs.lemmas.Option.{slice_get_within}
 use Rattle.sb_memory.specs.Physical.{Physical}
 use Rattle.sb_frames.specs.Book.{Book}
-use Rattle.sb_pagewalk.specs.declared.table_set.TableSet.{TableSet}
 use Rattle.sb_root.specs.declared.root_kernel.RootKernel.{RootKernel}
 use Rattle.sb_state.specs.declared.page.Page.{Page}
 use Rattle.sb_state.specs.declared.state.Thread.{Thread}
@@ -18,13 +17,13 @@ use Rattle.sb_load.specs.Loading.{Load}
 use Rattle.sb_load.specs.FirstState.{images_loaded, entry_of, first_state}
 use Rattle.sb_load.specs.Need.{need_of, have_of}
 use Rattle.sb_shows.specs.Placement.{Placement}
-use Rattle.sb_shows.specs.Starts.{with_whole_thread, save_and_stack}
+use Rattle.sb_shows.specs.Starts.{with_whole_thread}
 use Rattle.sb_shows.proofs.ManyThreads.{HasNoThreadsFrom, pages_of_thread, pages_of_threads, with_entries, other_thread, joined_pages}
 use Rattle.sb_shows.proofs.Threads.{keeps_moved}
 use Rattle.sb_shows.proofs.WholeStart.{no_thread_yet, start_sight}
 use Rattle.sb_sub.specs.Kernel.{Entry}
 use Rattle.sb_sub.specs.Carries.{Carries}
-use Rattle.sb_sub.specs.StartThreads.{HasNoViews, IsReadyForThread, AddedThread}
+use Rattle.sb_sub.specs.StartThreads.{IsReadyForThread, AddedThread}
 use Rattle.sb_sub.proofs.StartImages.{drop_past}
 use Rattle.sb_sub.specs.Start.{HasAllProcesses, HasStarted, threadless_state}
 

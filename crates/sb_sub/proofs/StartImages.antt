@@ -1,13 +1,12 @@
 -- The processes of a start are built one after another.
-use Rattle.std.proofs.Common.{◌≡◌, ◌≢◌, ◌∙◌, sym, ap, subst, ℕ, zero, suc, ◌+◌, ◌-◌, ◌*◌, ◌<◌, ◌≤◌, ◌==◌, ◌⊎◌, inl, inr, Bool, true, false, List, [], ◌∷◌, ◌++◌, length, drop, get_or, refl, arith, append_assoc}
-use Rattle.std.specs.Prelude.{Option, None, Some, map, slice_get, slice_set, unwrap_or, sum_by}
-use Rattle.std.specs.List.{AllByRecursion}
+use Rattle.std.proofs.Common.{◌≡◌, ◌≢◌, ◌∙◌, sym, ap, subst, ℕ, zero, suc, ◌+◌, ◌<◌, ◌≤◌, ◌==◌, ◌⊎◌, inl, inr, Bool, true, false, List, [], ◌∷◌, ◌++◌, length, drop, refl, arith, append_assoc}
+use Rattle.std.specs.Prelude.{Option, None, Some, map, slice_get, slice_set}
 use Rattle.std.proofs.lemmas.Bool.{eqb-true, eqb-false}
 use Rattle.std.proofs.lemmas.List.Sums.{sum_by-cons}
 use Rattle.std.proofs.lemmas.List.{append-nil, length-append, length-set, drop_more}
 use Rattle.std.proofs.lemmas.Option.{slice_get_within, unwrap_or-slice_get}
 use Rattle.sb_memory.specs.Physical.{Physical}
-use Rattle.sb_frames.specs.Book.{Book, free_count}
+use Rattle.sb_frames.specs.Book.{Book}
 use Rattle.sb_pagewalk.specs.declared.table_set.TableSet.{TableSet}
 use Rattle.sb_root.specs.declared.root_kernel.RootKernel.{RootKernel}
 use Rattle.sb_state.specs.declared.page.Page.{Page}
@@ -21,7 +20,6 @@ use Rattle.sb_load.specs.FirstState.{image_of, images_of, images_loaded}
 use Rattle.sb_load.proofs.Known.{text_count}
 use Rattle.sb_plain.proofs.Starting.{IsReadAt, images_from}
 use Rattle.sb_shows.specs.Placement.{Placement}
-use Rattle.sb_shows.specs.StartLaws.{ImageFitsWindows}
 use Rattle.sb_shows.proofs.WholeStart.{no_process_yet}
 use Rattle.sb_shows.proofs.ManyProcesses.{HasNoPagesFrom, with_images, other_process}
 use Rattle.sb_sub.specs.Kernel.{Entry, process_of}

@@ -1,5 +1,5 @@
 -- Pages that are added one after another, over any placement.
-use Rattle.std.proofs.Common.{◌≡◌, ◌≢◌, ◌∙◌, sym, ap, subst, ℕ, suc, ◌+◌, ◌*◌, ◌<◌, ◌≤◌, ◌==◌, Bool, true, false, List, [], ◌∷◌, ◌++◌, length, refl, arith}
+use Rattle.std.proofs.Common.{◌≡◌, ◌≢◌, ◌∙◌, sym, ap, subst, ℕ, suc, ◌+◌, ◌*◌, ◌<◌, ◌≤◌, ◌==◌, Bool, false, List, [], ◌∷◌, ◌++◌, length, refl, arith}
 use Rattle.std.specs.Prelude.{if◌then◌else◌, replicate}
 use Rattle.std.proofs.lemmas.Bool.{ne_eqb}
 use Rattle.std.proofs.lemmas.List.{length-replicate}
@@ -20,7 +20,7 @@ use Rattle.sb_trace.specs.PageName.{mode_of}
 use Rattle.sb_trace.specs.State.{page_with}
 use Rattle.sb_trace.specs.PageWords.{zeros}
 use Rattle.sb_trace.specs.Start.{ProcessImage, heap_pages, padded_pages, page_padded, pages_from, process_pages}
-use Rattle.sb_shows.specs.Placement.{Placement, Purpose, Unused, Holds, leaf_for, rights_for}
+use Rattle.sb_shows.specs.Placement.{Placement, Unused, Holds, leaf_for, rights_for}
 use Rattle.sb_shows.specs.Calls.{SetsPage, ExposesFrame, AddsPage, AddsPages, placed_with, placed_all}
 use Rattle.sb_shows.specs.Fills.{FillsFrame}
 use Rattle.sb_shows.specs.Windows.{page_number}
@@ -32,13 +32,6 @@ use Rattle.sb_sub.specs.StartPages.{IsOver, AddedPages, AddsAll, part_name, part
 use Rattle.sb_sub.specs.Taking.{CanTake, TakesPage, page_kind}
 use Rattle.sb_sub.proofs.Stacks.{pages_snoc}
 use Rattle.sb_sub.proofs.Taken.{free_before}
-
--- ---- no page
-
-pub none_added : (set : TableSet) (root : RootKernel) (process : ℕ) (book : Book) (memory : Physical)
-    → AddsAll set root process [] book book memory memory
-none_added set root process book memory placement over is =
-    record { adds = refl; over = over; sets = λ one. refl; low = λ frame below. refl }
 
 -- ---- one page
 

@@ -1,5 +1,5 @@
 -- A process is added to a state that is carried.
-use Rattle.std.proofs.Common.{◌≡◌, ◌≢◌, ◌∙◌, sym, ap, subst, ℕ, ◌+◌, ◌<◌, ◌==◌, Bool, List, [], ◌∷◌, ◌++◌, length, refl, arith}
+use Rattle.std.proofs.Common.{◌≡◌, ◌≢◌, ◌∙◌, sym, ap, subst, ℕ, ◌+◌, ◌<◌, Bool, [], ◌∷◌, ◌++◌, length, refl, arith}
 use Rattle.std.specs.Prelude.{None, if◌then◌else◌}
 use Rattle.std.proofs.lemmas.Bool.{ne_eqb}
 use Rattle.std.proofs.lemmas.Bool.Decides.{Decides-eqb}
@@ -8,30 +8,25 @@ use Rattle.sb_memory.specs.Physical.{Physical}
 use Rattle.sb_frames.specs.Book.{Book}
 use Rattle.sb_pagewalk.specs.declared.table_set.TableSet.{TableSet}
 use Rattle.sb_root.specs.declared.root_kernel.RootKernel.{RootKernel}
-use Rattle.sb_root.specs.Standing.{IsBooked, Stands}
+use Rattle.sb_root.specs.Standing.{IsBooked}
 use Rattle.sb_trace.specs.State.{State, Process}
-use Rattle.sb_trace.specs.Start.{ProcessImage, process_pages, start_process}
+use Rattle.sb_trace.specs.Start.{ProcessImage, process_pages}
 use Rattle.sb_shows.specs.Placement.{Placement}
-use Rattle.sb_shows.specs.Starts.{HasNoPages, AddsTables, placed_tables, with_new_process}
+use Rattle.sb_shows.specs.Starts.{HasNoPages, placed_tables, with_new_process}
 use Rattle.sb_shows.specs.StartLaws.{ImageFitsWindows}
 use Rattle.sb_shows.proofs.Processes.{process_kept}
 use Rattle.sb_shows.proofs.WholeProcesses.{whole_kept}
 use Rattle.sb_sub.specs.Carries.{Carries}
 use Rattle.sb_sub.specs.Taking.{CanTake}
 use Rattle.sb_sub.specs.StartPages.{IsOver, AddedPages, AddsAll}
-use Rattle.sb_sub.specs.StartTables.{HasFreeRoots, AddedTables}
-use Rattle.sb_sub.specs.StartProcesses.{with_image, IsReadyForProcess, AddedProcess}
+use Rattle.sb_sub.specs.StartTables.{AddedTables}
+use Rattle.sb_sub.specs.StartProcesses.{IsReadyForProcess, AddedProcess}
 use Rattle.sb_sub.proofs.Carried.{can_take}
 
 -- a placement that carries a state is over its root kernel and book
 pub over_of : (placement : Placement) (root : RootKernel) (book : Book) (memory : Physical) (state : State)
     → Carries placement root book memory state → IsOver placement root book
 over_of placement root book memory state carries = record { rooted = carries.rooted; unused = carries.unused }
-
-pub stands_of : (placement : Placement) (root : RootKernel) (book : Book) (memory : Physical) (state : State)
-    → Carries placement root book memory state → Stands root memory
-stands_of placement root book memory state carries =
-    subst (λ (one : RootKernel). Stands one memory) carries.rooted carries.keeps.leads.stands
 
 own_set : (placement : Placement) (process : ℕ) (set : TableSet) → (placed_tables placement process set).sets process ≡ set
 own_set placement process set =

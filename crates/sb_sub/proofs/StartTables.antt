@@ -1,10 +1,10 @@
 -- The tables of a process at a start.
-use Rattle.std.proofs.Common.{◌≡◌, ◌≢◌, ◌∙◌, sym, ap, subst, ℕ, zero, suc, ◌+◌, ◌-◌, ◌*◌, ◌<◌, ◌≤◌, ◌==◌, ◌⊎◌, inl, inr, Bool, true, false, List, [], ◌∷◌, length, get_or, refl, lit<, arith}
-use Rattle.std.specs.Prelude.{Some, None, map, slice_set}
+use Rattle.std.proofs.Common.{◌≡◌, ◌≢◌, ◌∙◌, sym, ap, subst, ℕ, zero, suc, ◌+◌, ◌<◌, ◌≤◌, ◌==◌, ◌⊎◌, inl, inr, Bool, true, false, List, [], ◌∷◌, length, get_or, refl, arith}
+use Rattle.std.specs.Prelude.{Some, map, slice_set}
 use Rattle.std.specs.List.{Contains}
-use Rattle.std.proofs.lemmas.Bool.{eqb-true, eqb-false, ne_eqb}
+use Rattle.std.proofs.lemmas.Bool.{eqb-true, eqb-false}
 use Rattle.std.proofs.lemmas.List.{get_or-set_same, get_or-set_other, get_or-map, length-map}
-use Rattle.sb_memory.specs.Physical.{Physical, frame_count}
+use Rattle.sb_memory.specs.Physical.{Physical}
 use Rattle.sb_memory.specs.Changes.{SameOutside}
 use Rattle.sb_memory.specs.Reading.{with_bytes}
 use Rattle.sb_memory.specs.Words.{put_word}
@@ -14,7 +14,7 @@ use Rattle.sb_frames.specs.Book.{Book, free_count, with_holder}
 use Rattle.sb_frames.specs.declared.kind.Kind.{Kind}
 use Rattle.sb_pagewalk.specs.declared.table_set.TableSet.{TableSet}
 use Rattle.sb_pagewalk.specs.TableSet.{set_frames, table_frame, page_place, Maps, no_pages}
-use Rattle.sb_pagewalk.specs.Standing.{AreFrames, HasTables}
+use Rattle.sb_pagewalk.specs.Standing.{HasTables}
 use Rattle.sb_pagewalk.specs.Windows.{region_of, page_table_of}
 use Rattle.sb_pagewalk.proofs.Clearing.{table_among}
 use Rattle.sb_pagewalk.proofs.Regions.{page_table_small}
@@ -29,7 +29,7 @@ use Rattle.sb_root.proofs.Frames.{among_cases, contains_index, same_within_one, 
 use Rattle.sb_root.proofs.Between.{booked_beside, booked_kept}
 use Rattle.sb_root.proofs.Kept.{stands_kept}
 use Rattle.sb_shows.specs.Placement.{Placement, Unused, GuestTable}
-use Rattle.sb_shows.specs.Calls.{SetsPage, ExposesFrame}
+use Rattle.sb_shows.specs.Calls.{ExposesFrame}
 use Rattle.sb_shows.specs.Starts.{AddsTables, ExposesTables, placed_tables}
 use Rattle.sb_shows.proofs.Placing.{others_kept}
 use Rattle.sb_sub.specs.StartPages.{IsOver}
@@ -37,16 +37,6 @@ use Rattle.sb_sub.specs.StartTables.{frame_at, TakesFrames, MapsOwnPages, HasFre
 use Rattle.sb_sub.proofs.Taken.{free_before, set_word}
 
 -- ---- frames that are taken
-
--- no frame yet
-pub none_taken : (book : Book) (frames : List Frame) → TakesFrames book book frames 0
-none_taken book frames = record {
-  each = λ index below. absurd (omega (arith, below));
-  different = λ index other below. absurd (omega (arith, below));
-  others = λ frame free. (free, λ index below. absurd (omega (arith, below)));
-  fewer = omega arith;
-  booked = λ root memory stands booked. booked;
-}
 
 map_set : (frames : List Frame) (index : ℕ) (frame : Frame)
     → map (λ (one : Frame). one.0) (slice_set frames index frame) ≡ slice_set (map (λ (one : Frame). one.0) frames) index frame.0
@@ -167,24 +157,6 @@ module _ (old new : Book) (frames : List Frame) (process : ℕ) (taken : TakesFr
   pub above : (table : ℕ) → 1 ≤ table → table < 12 → 512 ≤ table_frame set table
   above zero first below = absurd (omega (arith, first))
   above (suc table) first below = (taken.each table (omega (arith, below))).0.0
-
-  inside : (memory : Physical) → length old + 512 ≡ frame_count memory → (table : ℕ) → table < 12
-      → table_frame set table < frame_count memory
-  inside memory size zero below = omega (arith, size, few)
-  inside memory size (suc table) below =
-      let free = (taken.each table (omega (arith, below))).0.1 in omega (arith, size, free)
-
-  different : (table other : ℕ) → table < 12 → other < 12 → table ≢ other → table_frame set table ≢ table_frame set other
-  different zero zero below low differ = absurd (differ refl)
-  different zero (suc other) below low differ = λ equal.
-      let high = (taken.each other (omega (arith, low))).0.0 in absurd (omega (arith, equal, high, few))
-  different (suc table) zero below low differ = λ equal.
-      let high = (taken.each table (omega (arith, below))).0.0 in absurd (omega (arith, equal, high, few))
-  different (suc table) (suc other) below low differ =
-      taken.different table other (omega (arith, below)) (omega (arith, low)) (λ same. differ (ap suc same))
-
-  pub frames_are : (memory : Physical) → length old + 512 ≡ frame_count memory → AreFrames set memory
-  frames_are memory size = record { inside = inside memory size; different = different }
 
   -- a frame of the set is the root, or one that was free
   frame_by : (frame table : ℕ) → table < length (set_frames set) → get_or (set_frames set) table 0 ≡ frame

@@ -1,5 +1,5 @@
 -- A thread is added to a state that is carried.
-use Rattle.std.proofs.Common.{◌≡◌, ◌≢◌, ◌∙◌, sym, ap, subst, ℕ, zero, suc, ◌+◌, ◌-◌, ◌*◌, ◌<◌, ◌≤◌, ◌==◌, inl, inr, Bool, true, false, List, [], ◌∷◌, ◌++◌, length, refl, arith}
+use Rattle.std.proofs.Common.{◌≡◌, ◌≢◌, ◌∙◌, sym, ap, subst, ℕ, zero, suc, ◌+◌, ◌-◌, ◌*◌, ◌<◌, inl, inr, Bool, false, List, [], ◌∷◌, length, refl, arith}
 use Rattle.std.specs.Prelude.{None, Some, if◌then◌else◌}
 use Rattle.std.specs.List.{Contains}
 use Rattle.std.proofs.lemmas.Bool.{ne_eqb}
@@ -13,7 +13,7 @@ use Rattle.sb_pagewalk.specs.declared.table_set.TableSet.{TableSet}
 use Rattle.sb_pagewalk.specs.Windows.{IsInWindow, region_of, page_table_of}
 use Rattle.sb_root.specs.declared.root_kernel.RootKernel.{RootKernel}
 use Rattle.sb_root.specs.declared.view.View.{View}
-use Rattle.sb_root.specs.Root.{ListOf, IsLowestFree, IsSet, is_listed, eptp_list_frame, view_of, view_frames, part_kind, with_list, with_view}
+use Rattle.sb_root.specs.Root.{ListOf, IsLowestFree, is_listed, eptp_list_frame, view_of, view_frames, part_kind}
 use Rattle.sb_root.specs.Standing.{IsBooked, Stands}
 use Rattle.sb_tramp.specs.declared.record_words.RecordWords.{RecordWords}
 use Rattle.sb_root.specs.Answers.{SameViews}
@@ -23,10 +23,10 @@ use Rattle.sb_root.proofs.Uses.{list_same, list_other, view_other}
 use Rattle.sb_state.specs.declared.page.PageName.TheVariants.{Save, Stack}
 use Rattle.sb_trace.specs.PageName.{mode_of}
 use Rattle.sb_trace.specs.State.{State}
-use Rattle.sb_trace.specs.Start.{ThreadEntry, home_words, save_address, start_thread}
+use Rattle.sb_trace.specs.Start.{home_words, save_address, start_thread}
 use Rattle.sb_state.specs.declared.page.Mode.TheVariants.{ReadWrite}
-use Rattle.sb_shows.specs.Placement.{Placement, Purpose, Unused, RootTable}
-use Rattle.sb_shows.specs.Starts.{HasNoThreadPages, save_and_stack, with_whole_thread}
+use Rattle.sb_shows.specs.Placement.{Placement, Unused, RootTable}
+use Rattle.sb_shows.specs.Starts.{HasNoThreadPages, save_and_stack}
 use Rattle.sb_shows.specs.Views.{AddsList, AddsRootView, part_purpose, placed_list, placed_view, with_new_thread}
 use Rattle.sb_shows.specs.Windows.{page_number}
 use Rattle.sb_shows.proofs.Listing.{list_kept}

@@ -1,6 +1,6 @@
 -- What was built at a start stands for the state at the start.
-use Rattle.std.proofs.Common.{◌≡◌, ◌∙◌, sym, ap, subst, ℕ, zero, suc, ◌+◌, ◌-◌, ◌*◌, ◌≤◌, List, [], ◌∷◌, ◌++◌, length, take, map, refl, arith}
-use Rattle.std.specs.Prelude.{Ok, sum_by}
+use Rattle.std.proofs.Common.{◌≡◌, ◌∙◌, sym, ap, ℕ, zero, suc, ◌+◌, ◌-◌, ◌≤◌, List, [], ◌∷◌, ◌++◌, length, take, map, refl, arith}
+use Rattle.std.specs.Prelude.{sum_by}
 use Rattle.std.specs.List.{AllByRecursion}
 use Rattle.std.proofs.lemmas.List.{length-map}
 use Rattle.std.proofs.lemmas.List.Sums.{sum_by-cons}
@@ -9,9 +9,8 @@ use Rattle.std.proofs.Math.Bridge.{le_prop}
 use Rattle.sb_memory.specs.Physical.{Physical}
 use Rattle.sb_frames.specs.Book.{Book, free_count}
 use Rattle.sb_root.specs.declared.root_kernel.RootKernel.{RootKernel}
-use Rattle.sb_state.specs.State.{Process}
-use Rattle.sb_state.specs.Start.{ProcessImage, ThreadEntry, start_process, start_threads}
-use Rattle.sb_trace.specs.Laws.{IsImageSound, IsEntrySound}
+use Rattle.sb_state.specs.Start.{ProcessImage, start_process, start_threads}
+use Rattle.sb_trace.specs.Laws.{IsImageSound}
 use Rattle.sb_bundle.specs.declared.bundle.CoreStart.{CoreStart}
 use Rattle.sb_bundle.specs.declared.bundle.Image.{Image}
 use Rattle.sb_rewrite.specs.RewrittenText.{RewrittenText}
@@ -23,7 +22,7 @@ use Rattle.sb_load.proofs.FirstState.{first_threads}
 use Rattle.sb_plain.proofs.FirstSound.{loaded_sound}
 use Rattle.sb_plain.proofs.SoundStart.{loaded_start}
 use Rattle.sb_shows.specs.StartLaws.{ImageFitsWindows}
-use Rattle.sb_sub.specs.Kernel.{Entry, Kernel, Seat, process_of, seat_of}
+use Rattle.sb_sub.specs.Kernel.{Kernel, Seat, process_of, seat_of}
 use Rattle.sb_sub.specs.StandsFor.{StandsFor}
 use Rattle.sb_sub.specs.StartProcesses.{image_need}
 use Rattle.sb_sub.specs.Start.{HasStarted, images_need, start_seat}

@@ -1,5 +1,5 @@
 -- The pages of a process and of a thread at a start: what is added, one after another, in the tables of one process.
-use Rattle.std.specs.Prelude.{ℕ, ◌≡◌, ◌+◌, ◌*◌, ◌<◌, ◌≤◌, List, [], ◌∷◌, length, take, drop}
+use Rattle.std.specs.Prelude.{ℕ, ◌≡◌, ◌+◌, ◌*◌, ◌<◌, List, [], ◌∷◌, length, take, drop}
 use Rattle.sb_abi.specs.declared.frames.TheConstants.{KEPT_FRAMES}
 use Rattle.sb_abi.specs.declared.space.TheConstants.{TEXT_PAGE, AREA_PAGE, DATA_PAGE, WINDOW_PAGES, AREA_PAGES}
 use Rattle.sb_memory.specs.Physical.{Physical}

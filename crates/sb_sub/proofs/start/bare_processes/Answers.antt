@@ -1,10 +1,10 @@
-use Rattle.std.proofs.Common.{◌≡◌, ◌∙◌, ap, rules, map, [], ◌∷◌, ◌++◌, List}
+use Rattle.std.proofs.Common.{◌≡◌, ◌∙◌, ap, rules, map}
 use Rattle.sb_bundle.specs.declared.bundle.Bundle.{Bundle}
 use Rattle.sb_bundle.specs.declared.bundle.Image.{Image}
 use Rattle.sb_rewrite.specs.RewrittenText.{RewrittenText}
 use Rattle.sb_load.specs.Loading.{Load}
 use Rattle.sb_plain.proofs.Starting.{IsReadAt, process_pushed}
-use Rattle.sb_sub.specs.Kernel.{Entry, process_of}
+use Rattle.sb_sub.specs.Kernel.{process_of}
 use Rattle.sb_sub.proofs.StartImages.{mapped_snoc}
 use Rattle.sb_sub.proofs.start.bare_processes.Goals as goal
 

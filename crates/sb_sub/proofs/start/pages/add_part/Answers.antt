@@ -1,7 +1,5 @@
-use Rattle.std.proofs.Common.{◌≡◌, ◌∙◌, sym, ap, subst, ℕ, ◌+◌, List, arith}
-use Rattle.sb_root.specs.declared.root_kernel.RootKernel.{RootKernel}
+use Rattle.std.proofs.Common.{◌∙◌, sym, ap, ℕ, List, arith}
 use Rattle.sb_state.specs.Start.{padded_page, page_of, page_padded}
-use Rattle.sb_sub.specs.Taking.{CanTake, TakesPage}
 use Rattle.sb_sub.specs.StartPages.{part_name, part_filler, part_mode, part_at}
 use Rattle.sb_sub.proofs.StartPages.{page_adds_at, page_more, part_number, part_mode_is}
 use Rattle.sb_sub.proofs.start.pages.add_part.Goals as goal

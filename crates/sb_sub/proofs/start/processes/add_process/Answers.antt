@@ -1,5 +1,3 @@
-use Rattle.std.proofs.Common.{◌≡◌, sym, subst}
-use Rattle.sb_root.specs.declared.root_kernel.RootKernel.{RootKernel}
 use Rattle.sb_load.specs.FirstState.{image_of}
 use Rattle.sb_sub.proofs.StartProcesses.{over_of, can_take_new, process_added}
 use Rattle.sb_sub.proofs.start.processes.add_process.Goals as goal

@@ -1,6 +1,5 @@
-use Rattle.std.proofs.Common.{◌≡◌, ◌∙◌, sym, ap, subst, ℕ, ◌+◌, List, refl, arith, rules}
+use Rattle.std.proofs.Common.{◌≡◌, ◌∙◌, subst, ℕ, refl, arith, rules}
 use Rattle.sb_state.specs.declared.page.Mode.TheVariants.{ReadWrite}
-use Rattle.sb_state.specs.declared.page.Page.{Page}
 use Rattle.sb_state.specs.declared.page.PageName.TheVariants.{Stack}
 use Rattle.sb_state.specs.PageWords.{zeros}
 use Rattle.sb_state.specs.Start.{pages_from}

@@ -1,5 +1,4 @@
 use Rattle.sb_sub.specs.StartThreads.{root_frame}
-use Rattle.sb_tramp.specs.declared.record_words.RecordWords.{RecordWords}
 use Rattle.sb_state.specs.Start.{home_words}
 use Rattle.sb_sub.proofs.StartThreads.{view_first}
 use Rattle.sb_sub.proofs.start.threads.add_view.Goals as goal

@@ -1,6 +1,6 @@
-use Rattle.std.proofs.Common.{◌≡◌, ◌∙◌, sym, ap, subst, length, drop, map, List, arith, rules}
+use Rattle.std.proofs.Common.{◌≡◌, ◌∙◌, ap, length, drop, map, arith, rules}
 use Rattle.sb_load.proofs.Known.{takes_no_more}
-use Rattle.sb_sub.specs.Kernel.{Entry, Kernel, process_of}
+use Rattle.sb_sub.specs.Kernel.{Kernel, process_of}
 use Rattle.sb_sub.proofs.Begun.{begun, no_views}
 use Rattle.sb_sub.proofs.Started.{images_take, started_stands, take_whole}
 use Rattle.sb_sub.proofs.sub_kernel.SubKernel.new.Goals as goal
