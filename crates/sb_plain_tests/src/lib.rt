@@ -10,3 +10,5 @@ mod memory;
 mod pages;
 #[cfg(test)]
 mod report;
+#[cfg(test)]
+mod same;

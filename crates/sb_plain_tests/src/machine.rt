@@ -1,9 +1,10 @@
 //! The start of a small machine, and steps of it.
 
+use crate::same::assert_same;
 use sb_bundle::read_bundle;
 use sb_load::load;
 use sb_plain::Plain;
-use sb_trace::Event;
+use sb_trace::{EndState, Event};
 use std::alloc::Global;
 use std::test::Fail;
 
@@ -36,17 +37,32 @@ fn start(alloc: Global, bytes: &[u8]) -> Result<Plain, Fail> {
     Ok(Plain::new(alloc, &loaded)?)
 }
 
+/// What happens at a step of a core, without the contract of `step`, which tests do not need.
+fn event_of(plain: &mut Plain, core: u8) -> Event {
+    plain.step(core).event
+}
+
+/// What is left of a machine.
+fn end_of(alloc: Global, plain: &Plain) -> Result<EndState, Fail> {
+    Ok(plain.end(alloc)?)
+}
+
 #[test]
 fn a_machine_starts_with_these_threads(rt: HostRuntime) -> Result<(), Fail> {
-    let end = start(rt.alloc(), &BUNDLE)?.end(rt.alloc())?;
+    let end = end_of(rt.alloc(), &start(rt.alloc(), &BUNDLE)?)?;
     // Of 88 frames 24 are for two processes, 4 for their pages, and 24 for two threads.
-    assert_eq!(rt; (end.free, end.keys), (36, 3));
-    assert_eq!(rt; end.threads.items().len(), 2);
+    assert_same(&rt, "frames and keys", &(end.free, end.keys), &(36, 3));
+    assert_same(&rt, "threads", &end.threads.items().len(), &2);
     for (number, thread) in end.threads.items().iter().enumerate() {
-        assert_eq!(rt; (thread.home, thread.view, thread.present), (1, 0, 1));
-        assert_eq!(rt; thread.regs.rip, 0x40_0002);
-        assert_eq!(rt; thread.flight, None);
-        assert_eq!(rt; thread.regs.general[7], number as u64);
+        assert_same(
+            &rt,
+            "place",
+            &(thread.home, thread.view, thread.present),
+            &(1, 0, 1),
+        );
+        assert_same(&rt, "RIP", &thread.regs.rip, &0x40_0002);
+        assert_same(&rt, "flight", &thread.flight, &None);
+        assert_same(&rt, "RDI", &thread.regs.general[7], &(number as u64));
     }
     Ok(())
 }
@@ -55,17 +71,19 @@ fn a_machine_starts_with_these_threads(rt: HostRuntime) -> Result<(), Fail> {
 fn a_moved_instruction_runs_through_its_slot(rt: HostRuntime) -> Result<(), Fail> {
     let mut plain = start(rt.alloc(), &MOVED)?;
     for rip in [0x40_0000, 0x1000, 0x1008, 0x100F, 0x1016, 0x1018, 0x1020] {
-        assert_eq!(rt; plain.step(0).event, Event::Step { rip });
+        assert_same(&rt, "step", &event_of(&mut plain, 0), &Event::Step { rip });
     }
-    let end = plain.end(rt.alloc())?;
-    assert_eq!(rt; end.threads.items().len(), 1);
+    let end = end_of(rt.alloc(), &plain)?;
+    assert_same(&rt, "threads", &end.threads.items().len(), &1);
     for thread in end.threads.items() {
         // RAX and RCX, and the address of the SYSCALL.
-        assert_eq!(rt;
-            (thread.regs.general[0], thread.regs.general[1]),
-            (0xD4_010F, 0)
+        let [rax, rcx, ..] = thread.regs.general;
+        assert_same(
+            &rt,
+            "registers",
+            &(rax, rcx, thread.regs.rip),
+            &(0xD4_010F, 0, 0x40_0005),
         );
-        assert_eq!(rt; thread.regs.rip, 0x40_0005);
     }
     Ok(())
 }
@@ -73,7 +91,12 @@ fn a_moved_instruction_runs_through_its_slot(rt: HostRuntime) -> Result<(), Fail
 #[test]
 fn a_core_without_a_thread_is_idle(rt: HostRuntime) -> Result<(), Fail> {
     let mut plain = start(rt.alloc(), &MOVED)?;
-    assert_eq!(rt; plain.step(1).event, Event::Idle);
-    assert_eq!(rt; plain.step(0).event, Event::Step { rip: 0x40_0000 });
+    assert_same(&rt, "core 1", &event_of(&mut plain, 1), &Event::Idle);
+    assert_same(
+        &rt,
+        "core 0",
+        &event_of(&mut plain, 0),
+        &Event::Step { rip: 0x40_0000 },
+    );
     Ok(())
 }
