@@ -26,7 +26,7 @@ use Rattle.sb_calls.specs.declared.refusals.TheConstants.{EXECUTE_MODE}
 use Rattle.sb_trace.specs.declared.event.Event.{Event}
 use Rattle.sb_trace.specs.declared.event.Event.TheVariants as event
 use Rattle.sb_trace.specs.Home.{Outcome, fault_outcome}
-use Rattle.sb_trace.specs.KernelCall.{kernel_call, outcome_by_index, call_outcome, entry_outcome, refusal_or_fault, return_outcome, binding_with, pool_word}
+use Rattle.sb_trace.specs.KernelCall.{kernel_call, outcome_by_index, call_outcome, entry_outcome, refusal_or_fault, return_outcome, binding_with}
 use Rattle.sb_trace.specs.Flight.{vmfunc_outcome, vmfunc_outcome_by, called_binding, landing_step, phase_outcome}
 use Rattle.sb_trace.specs.SyscallRegister.{register_outcome, refusal_of_register}
 use Rattle.sb_trace.specs.SyscallBind.{bind_outcome, refusal_of_bind}

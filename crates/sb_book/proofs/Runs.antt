@@ -1,5 +1,5 @@
 -- A history goes on by one step.
-use Rattle.std.proofs.Common.{◌≡◌, ◌≢◌, ℕ, suc, ◌+◌, ◌++◌, List, [], ◌∷◌, length, All, sym, subst, refl, ap, ◌∙◌, rules, arith}
+use Rattle.std.proofs.Common.{◌≡◌, ◌≢◌, ℕ, suc, ◌+◌, ◌++◌, List, [], ◌∷◌, length, sym, subst, refl, ap, rules}
 use Rattle.std.proofs.lemmas.List.Elements.{All-append}
 use Rattle.sb_bundle.specs.declared.bundle.CoreStart.{CoreStart}
 use Rattle.sb_load.specs.Loading.{Load}

@@ -1,5 +1,5 @@
 -- A prefix of a text that was written.
-use Rattle.std.proofs.Common.{◌≡◌, ℕ, ◌++◌, List, Option, Some, None, Result, Ok, Err, length, take, ap, sym, subst, ◌∙◌}
+use Rattle.std.proofs.Common.{ℕ, ◌++◌, List, Option, Some, None, Result, Ok, Err, length, take, ap, sym, ◌∙◌}
 use Rattle.std.specs.Prelude.{OnOk, OnErr, IfErr}
 use Rattle.std.proofs.Math.Seq.{take-length}
 use Rattle.sb_port.specs.Port.{Rose, Appended}

@@ -1,4 +1,4 @@
-use Rattle.std.specs.Prelude.{◌≡◌, ℕ, ◌<◌}
+use Rattle.std.specs.Prelude.{ℕ, ◌<◌}
 use Rattle.sb_book.specs.History.{IsRunning}
 use Rattle.sb_book.proofs.history.History.running.Given as goal
 

@@ -1,4 +1,4 @@
-use Rattle.std.proofs.Common.{◌≡◌, ◌∙◌, arith, rules}
+use Rattle.std.proofs.Common.{◌∙◌, arith, rules}
 use Rattle.sb_book.proofs.Busy.{busy_steps}
 use Rattle.sb_book.proofs.Runs.{run_on, busy_on}
 use Rattle.sb_book.proofs.history.History.step.Goals as goal
