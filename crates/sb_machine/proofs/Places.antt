@@ -24,7 +24,7 @@ module _ (machine : Machine) (number : ℕ) (some : (state : State) × IsMachine
     (there : number < length machine.cores) where
   -- the EPT pointer of a core is one
   pub is_pointer : IsTrue (is_eptp (state_at machine number).eptp)
-  is_pointer = rw (pointer machine some.0 some.1 number there) tt
+  is_pointer = pointer machine some.0 some.1 number there
 
   -- and leads to a table in memory
   pub root_inside : frame_in (state_at machine number).eptp < frame_count machine.memory
