@@ -62,7 +62,8 @@ thread_found : (first : ℕ) (entries : List ThreadEntry) (n : ℕ) (entry : Thr
     → slice_get (start_threads first entries) n ≡ Some (start_thread (first + n) entry)
 thread_found first [] n entry is = absurd cc
 thread_found first (one ∷ entries) zero entry is =
-    ap (λ (found : Option ThreadEntry). option_map (start_thread (first + 0)) found) is
+    ap (λ (found : Option ThreadEntry). option_map (start_thread first) found) is
+    ∙ ap (λ (number : ℕ). Some (start_thread number entry)) (omega arith)
 thread_found first (one ∷ entries) (suc n) entry is =
     thread_found (first + 1) entries n entry is
     ∙ ap (λ (number : ℕ). Some (start_thread number entry)) (omega arith)
@@ -72,7 +73,8 @@ core_found : (memory : Physical) (root : RootKernel) (first : ℕ) (starts : Lis
     → slice_get (first_cores memory root first starts) n ≡ Some (first_core memory root (first + n) start)
 core_found memory root first [] n start is = absurd cc
 core_found memory root first (one ∷ starts) zero start is =
-    ap (λ (found : Option CoreStart). option_map (first_core memory root (first + 0)) found) is
+    ap (λ (found : Option CoreStart). option_map (first_core memory root first) found) is
+    ∙ ap (λ (number : ℕ). Some (first_core memory root number start)) (omega arith)
 core_found memory root first (one ∷ starts) (suc n) start is =
     core_found memory root (first + 1) starts n start is
     ∙ ap (λ (number : ℕ). Some (first_core memory root number start)) (omega arith)
@@ -206,6 +208,10 @@ module _ (load : Load) (kernel : Kernel) (root : RootKernel) (book : Book) (memo
 
   some_start : (n : ℕ) → n < length load.bundle.cores → (start : CoreStart) × (slice_get load.bundle.cores n ≡ Some start)
   some_start n small = found_below load.bundle.cores n small
+
+  -- each thread has a list
+  pub has_lists : (n : ℕ) → n < length load.bundle.cores → eptp_list_frame root n ≢ None
+  has_lists n small none = let start = some_start n small in let is = listed n start.0 start.1 in cc
 
   each_core : (n : ℕ) → IsCoreOf (thread_at state n) (flight_at state n) (core_at machine n)
   each_core n = elim (cases_lt n (length load.bundle.cores)) [
