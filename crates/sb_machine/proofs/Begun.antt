@@ -121,13 +121,18 @@ module _ (load : Load) (kernel : Kernel) (root : RootKernel) (book : Book) (memo
     thread_is : thread_at state n ≡ start_thread n (entry_of start)
     unfolding thread_at
     thread_is =
+        let number : 0 + n ≡ n = omega arith in
         ap (λ found. unwrap_or found no_thread)
         (thread_found 0 (map entry_of load.bundle.cores) n (entry_of start)
         (slice_get-map entry_of load.bundle.cores n ∙ ap (option_map entry_of) found))
+        ∙ ap (λ (one : ℕ). start_thread one (entry_of start)) number
 
     core_is : core_at machine n ≡ first_core memory root n start
     unfolding core_at
-    core_is = ap (λ found. unwrap_or found no_core) (core_found memory root 0 load.bundle.cores n start found)
+    core_is =
+        let number : 0 + n ≡ n = omega arith in
+        ap (λ found. unwrap_or found no_core) (core_found memory root 0 load.bundle.cores n start found)
+        ∙ ap (λ (one : ℕ). first_core memory root one start) number
 
     index_is : present_index state n ≡ 0
     index_is =
