@@ -1,14 +1,12 @@
 -- A machine at the start stands for the start of the plain machine.
-use Rattle.std.proofs.Common.{◌≡◌, ◌≢◌, ◌∙◌, sym, ap, subst, ℕ, zero, suc, ◌+◌, ◌*◌, ◌%◌, ◌<◌, ◌≤◌, List, [], ◌∷◌, length, map, false, refl, arith, inl, inr, lit<, replicate}
+use Rattle.std.proofs.Common.{◌≡◌, ◌≢◌, ◌∙◌, sym, ap, subst, ℕ, zero, suc, ◌+◌, ◌*◌, ◌<◌, ◌≤◌, List, [], ◌∷◌, length, map, false, refl, arith, inl, inr, lit<, replicate}
 use Rattle.std.specs.Prelude.{Option, Some, None, slice_get, unwrap_or}
 use Rattle.std.specs.Option.{option_map}
-use Rattle.std.proofs.lemmas.List.{length-map}
 use Rattle.std.proofs.lemmas.Option.{slice_get-map, slice_get_past, slice_get_within}
 use Rattle.std.proofs.lemmas.Bool.{cases_lt}
-use Rattle.sb_memory.specs.Physical.{Physical, frame_count, IsWordPlace}
+use Rattle.sb_memory.specs.Physical.{Physical, IsWordPlace}
 use Rattle.sb_memory.specs.Words.{word_at}
 use Rattle.sb_memory.specs.declared.address.Frame.{Frame}
-use Rattle.sb_insn.specs.declared.registers.Regs.{Regs}
 use Rattle.sb_bundle.specs.declared.bundle.CoreStart.{CoreStart}
 use Rattle.sb_walks.specs.Entry.{entry_in}
 use Rattle.sb_frames.specs.Book.{Book}
@@ -16,7 +14,7 @@ use Rattle.sb_root.specs.declared.root_kernel.RootKernel.{RootKernel}
 use Rattle.sb_root.specs.Root.{ListOf, eptp_list_frame, list_entry}
 use Rattle.sb_root.specs.Standing.{Stands}
 use Rattle.sb_root.proofs.Uses.{used_list}
-use Rattle.sb_state.specs.Start.{ThreadEntry, start_thread, start_threads, start_registers}
+use Rattle.sb_state.specs.Start.{ThreadEntry, start_thread, start_threads}
 use Rattle.sb_state.specs.declared.state.Flight.{Flight}
 use Rattle.sb_state.specs.declared.state.Thread.{Thread}
 use Rattle.sb_trace.specs.State.{State, thread_at, flight_at, no_thread}
@@ -26,7 +24,7 @@ use Rattle.sb_load.specs.FirstState.{entry_of, first_state}
 use Rattle.sb_load.proofs.FirstState.{first_threads}
 use Rattle.sb_landing.specs.Related.{Begun, IsBeside}
 use Rattle.sb_shows.specs.Related.{HasCores}
-use Rattle.sb_shows.specs.Shows.{IsView, index_of, present_index}
+use Rattle.sb_shows.specs.Shows.{index_of, present_index}
 use Rattle.sb_sub.specs.Kernel.{Kernel}
 use Rattle.sb_sub.specs.StandsFor.{StandsFor}
 use Rattle.sb_machine.specs.declared.processor.Core.{Core}

@@ -1,6 +1,6 @@
 -- What a step asks of a machine that stands for some state.
-use Rattle.std.proofs.Common.{◌≡◌, ◌∙◌, sym, ap, subst, ℕ, ◌<◌, true, length, Result}
-use Rattle.std.specs.Prelude.{IsTrue, IfErr, map}
+use Rattle.std.proofs.Common.{◌≡◌, ◌∙◌, sym, ap, subst, ℕ, ◌<◌, length, Result}
+use Rattle.std.specs.Prelude.{IsTrue, IfErr}
 use Rattle.std.proofs.lemmas.List.{length-map}
 use Rattle.sb_memory.specs.Physical.{frame_count, IsWordPlace}
 use Rattle.sb_insn.specs.declared.insn.Insn.{Insn}

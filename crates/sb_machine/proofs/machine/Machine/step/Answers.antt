@@ -1,6 +1,4 @@
-use Rattle.std.proofs.Common.{◌≡◌, sym, subst, ◌<◌, length}
-use Rattle.sb_trace.specs.State.{State}
-use Rattle.sb_machine.specs.Laws.{Follows}
+use Rattle.std.proofs.Common.{sym, subst, ◌<◌, length}
 use Rattle.sb_machine.specs.Machine.{Machine}
 use Rattle.sb_machine.specs.StandsFor.{IsMachineOf}
 use Rattle.sb_machine.proofs.machine.Machine.step.Goals as goal
