@@ -155,7 +155,7 @@ fn a_binding_takes_ten_frames(rt: HostRuntime) -> Result<(), Fail> {
             keys: &KEYS,
             processes: 2,
             threads: 2,
-            heap_pages: 1,
+            heap_pages: 0,
             rows,
         };
         run(rt.alloc(), &rt, &scenario)?;
