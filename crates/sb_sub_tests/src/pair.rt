@@ -174,7 +174,10 @@ impl Pair {
 
 /// Whether an action is a call that changes pages.
 fn changes_pages(action: Action) -> bool {
-    matches!(action, Action::Call([2..=4, _, _], [0, _]))
+    match action {
+        Action::Call(words, left) => matches!(words[0], 2..=4) && left[0] == 0,
+        Action::Store(..) | Action::Enter(..) => false,
+    }
 }
 
 /// Both machines after the rows of a scenario: the same at the start, after each call that changes pages, and at the end.
