@@ -3,6 +3,7 @@
 use crate::nested::Machine;
 use crate::plain::plain_state;
 use crate::rows::{VIEWS, ViewRow};
+use crate::same::assert_same;
 use sb_bus::{Bus, BusStop, FaultKind};
 use sb_eptwalk::is_eptp;
 use sb_memory::{Access, Linear, Phys, PhysAddr};
@@ -124,15 +125,17 @@ const ROWS: [(&str, u64, Call, [Answer; 3]); 35] = [
 fn each_view_answers_as_the_plain_state(rt: HostRuntime) -> Result<(), Fail> {
     let mut machine = Machine::new(rt.alloc())?;
     let mut state = plain_state(rt.alloc())?;
-    for (shows, at, call, answers) in ROWS {
+    for (shows, at, call, answers) in &ROWS {
         for (view, answer) in VIEWS.iter().zip(answers) {
-            let wanted = expected(answer, at);
-            assert_eq!(rt; plain_call(&mut state, view, at, call), wanted, "{shows}");
-            assert_eq!(rt;
-                nested_call(&mut machine, view, at, call),
-                Some(wanted),
-                "{shows}"
+            let wanted = expected(*answer, *at);
+            assert_same(
+                &rt,
+                shows,
+                &plain_call(&mut state, view, *at, *call),
+                &wanted,
             );
+            let found = nested_call(&mut machine, view, *at, *call);
+            assert_same(&rt, shows, &found, &Some(wanted));
         }
     }
     Ok(())
@@ -155,27 +158,22 @@ const STORES: [(&str, usize, u64, u8, [Answer; 3]); 8] = [
 fn a_store_is_seen_where_the_page_is(rt: HostRuntime) -> Result<(), Fail> {
     let mut machine = Machine::new(rt.alloc())?;
     let mut state = plain_state(rt.alloc())?;
-    for (shows, by, at, value, answers) in STORES {
+    for &(shows, by, at, value, answers) in &STORES {
         let view = VIEWS.get(by).ok_or("a view")?;
         let store = Call::Store(value);
-        assert_eq!(rt; plain_call(&mut state, view, at, store), Ok(0), "{shows}");
-        assert_eq!(rt;
-            nested_call(&mut machine, view, at, store),
-            Some(Ok(0)),
-            "{shows}"
-        );
-        for (view, answer) in VIEWS.iter().zip(answers) {
+        assert_same(&rt, shows, &plain_call(&mut state, view, at, store), &Ok(0));
+        let stored = nested_call(&mut machine, view, at, store);
+        assert_same(&rt, shows, &stored, &Some(Ok(0)));
+        for (view, &answer) in VIEWS.iter().zip(&answers) {
             let wanted = expected(answer, at);
-            assert_eq!(rt;
-                plain_call(&mut state, view, at, Call::Load),
-                wanted,
-                "{shows}"
+            assert_same(
+                &rt,
+                shows,
+                &plain_call(&mut state, view, at, Call::Load),
+                &wanted,
             );
-            assert_eq!(rt;
-                nested_call(&mut machine, view, at, Call::Load),
-                Some(wanted),
-                "{shows}"
-            );
+            let found = nested_call(&mut machine, view, at, Call::Load);
+            assert_same(&rt, shows, &found, &Some(wanted));
         }
     }
     Ok(())
@@ -196,10 +194,8 @@ fn the_pattern_stands_at_two_places(rt: HostRuntime) -> Result<(), Fail> {
     let mut machine = Machine::new(rt.alloc())?;
     for (view, first) in VIEWS.iter().zip([0x1040, 0x4040, 0x1040]) {
         for offset in 0..3 {
-            assert_eq!(rt;
-                place(&mut machine, view, 0x7000_0040 + offset),
-                Some(Ok(PhysAddr(first + offset)))
-            );
+            let found = place(&mut machine, view, 0x7000_0040 + offset);
+            assert_same(&rt, "VMFUNC", &found, &Some(Ok(PhysAddr(first + offset))));
         }
     }
     Ok(())
@@ -209,10 +205,10 @@ fn the_pattern_stands_at_two_places(rt: HostRuntime) -> Result<(), Fail> {
 fn indices_without_a_view_have_no_entry(rt: HostRuntime) -> Result<(), Fail> {
     let mut machine = Machine::new(rt.alloc())?;
     for index in 2..512 {
-        assert_eq!(rt; machine.pointer(0, index), 0);
+        assert_same(&rt, "thread 0", &machine.pointer(0, index), &0);
     }
     for index in 1..512 {
-        assert_eq!(rt; machine.pointer(1, index), 0);
+        assert_same(&rt, "thread 1", &machine.pointer(1, index), &0);
     }
     Ok(())
 }

@@ -13,3 +13,5 @@ mod nested;
 mod plain;
 #[cfg(test)]
 mod rows;
+#[cfg(test)]
+mod same;
