@@ -17,4 +17,6 @@ mod operations;
 #[cfg(test)]
 mod row;
 #[cfg(test)]
+mod same;
+#[cfg(test)]
 mod stops;

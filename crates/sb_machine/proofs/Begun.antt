@@ -1,14 +1,12 @@
 -- A machine at the start stands for the start of the plain machine.
-use Rattle.std.proofs.Common.{◌≡◌, ◌≢◌, ◌∙◌, sym, ap, subst, ℕ, zero, suc, ◌+◌, ◌*◌, ◌%◌, ◌<◌, ◌≤◌, List, [], ◌∷◌, length, map, false, refl, arith, inl, inr, lit<, replicate}
+use Rattle.std.proofs.Common.{◌≡◌, ◌≢◌, ◌∙◌, sym, ap, subst, ℕ, zero, suc, ◌+◌, ◌*◌, ◌<◌, ◌≤◌, List, [], ◌∷◌, length, map, false, refl, arith, inl, inr, lit<, replicate}
 use Rattle.std.specs.Prelude.{Option, Some, None, slice_get, unwrap_or}
 use Rattle.std.specs.Option.{option_map}
-use Rattle.std.proofs.lemmas.List.{length-map}
 use Rattle.std.proofs.lemmas.Option.{slice_get-map, slice_get_past, slice_get_within}
 use Rattle.std.proofs.lemmas.Bool.{cases_lt}
-use Rattle.sb_memory.specs.Physical.{Physical, frame_count, IsWordPlace}
+use Rattle.sb_memory.specs.Physical.{Physical, IsWordPlace}
 use Rattle.sb_memory.specs.Words.{word_at}
 use Rattle.sb_memory.specs.declared.address.Frame.{Frame}
-use Rattle.sb_insn.specs.declared.registers.Regs.{Regs}
 use Rattle.sb_bundle.specs.declared.bundle.CoreStart.{CoreStart}
 use Rattle.sb_walks.specs.Entry.{entry_in}
 use Rattle.sb_frames.specs.Book.{Book}
@@ -16,7 +14,7 @@ use Rattle.sb_root.specs.declared.root_kernel.RootKernel.{RootKernel}
 use Rattle.sb_root.specs.Root.{ListOf, eptp_list_frame, list_entry}
 use Rattle.sb_root.specs.Standing.{Stands}
 use Rattle.sb_root.proofs.Uses.{used_list}
-use Rattle.sb_state.specs.Start.{ThreadEntry, start_thread, start_threads, start_registers}
+use Rattle.sb_state.specs.Start.{ThreadEntry, start_thread, start_threads}
 use Rattle.sb_state.specs.declared.state.Flight.{Flight}
 use Rattle.sb_state.specs.declared.state.Thread.{Thread}
 use Rattle.sb_trace.specs.State.{State, thread_at, flight_at, no_thread}
@@ -26,7 +24,7 @@ use Rattle.sb_load.specs.FirstState.{entry_of, first_state}
 use Rattle.sb_load.proofs.FirstState.{first_threads}
 use Rattle.sb_landing.specs.Related.{Begun, IsBeside}
 use Rattle.sb_shows.specs.Related.{HasCores}
-use Rattle.sb_shows.specs.Shows.{IsView, index_of, present_index}
+use Rattle.sb_shows.specs.Shows.{index_of, present_index}
 use Rattle.sb_sub.specs.Kernel.{Kernel}
 use Rattle.sb_sub.specs.StandsFor.{StandsFor}
 use Rattle.sb_machine.specs.declared.processor.Core.{Core}
@@ -62,7 +60,8 @@ thread_found : (first : ℕ) (entries : List ThreadEntry) (n : ℕ) (entry : Thr
     → slice_get (start_threads first entries) n ≡ Some (start_thread (first + n) entry)
 thread_found first [] n entry is = absurd cc
 thread_found first (one ∷ entries) zero entry is =
-    ap (λ (found : Option ThreadEntry). option_map (start_thread (first + 0)) found) is
+    ap (λ (found : Option ThreadEntry). option_map (start_thread first) found) is
+    ∙ ap (λ (number : ℕ). Some (start_thread number entry)) (omega arith)
 thread_found first (one ∷ entries) (suc n) entry is =
     thread_found (first + 1) entries n entry is
     ∙ ap (λ (number : ℕ). Some (start_thread number entry)) (omega arith)
@@ -72,7 +71,8 @@ core_found : (memory : Physical) (root : RootKernel) (first : ℕ) (starts : Lis
     → slice_get (first_cores memory root first starts) n ≡ Some (first_core memory root (first + n) start)
 core_found memory root first [] n start is = absurd cc
 core_found memory root first (one ∷ starts) zero start is =
-    ap (λ (found : Option CoreStart). option_map (first_core memory root (first + 0)) found) is
+    ap (λ (found : Option CoreStart). option_map (first_core memory root first) found) is
+    ∙ ap (λ (number : ℕ). Some (first_core memory root number start)) (omega arith)
 core_found memory root first (one ∷ starts) (suc n) start is =
     core_found memory root (first + 1) starts n start is
     ∙ ap (λ (number : ℕ). Some (first_core memory root number start)) (omega arith)
@@ -119,13 +119,18 @@ module _ (load : Load) (kernel : Kernel) (root : RootKernel) (book : Book) (memo
     thread_is : thread_at state n ≡ start_thread n (entry_of start)
     unfolding thread_at
     thread_is =
+        let number : 0 + n ≡ n = omega arith in
         ap (λ found. unwrap_or found no_thread)
         (thread_found 0 (map entry_of load.bundle.cores) n (entry_of start)
         (slice_get-map entry_of load.bundle.cores n ∙ ap (option_map entry_of) found))
+        ∙ ap (λ (one : ℕ). start_thread one (entry_of start)) number
 
     core_is : core_at machine n ≡ first_core memory root n start
     unfolding core_at
-    core_is = ap (λ found. unwrap_or found no_core) (core_found memory root 0 load.bundle.cores n start found)
+    core_is =
+        let number : 0 + n ≡ n = omega arith in
+        ap (λ found. unwrap_or found no_core) (core_found memory root 0 load.bundle.cores n start found)
+        ∙ ap (λ (one : ℕ). first_core memory root one start) number
 
     index_is : present_index state n ≡ 0
     index_is =
@@ -206,6 +211,10 @@ module _ (load : Load) (kernel : Kernel) (root : RootKernel) (book : Book) (memo
 
   some_start : (n : ℕ) → n < length load.bundle.cores → (start : CoreStart) × (slice_get load.bundle.cores n ≡ Some start)
   some_start n small = found_below load.bundle.cores n small
+
+  -- each thread has a list
+  pub has_lists : (n : ℕ) → n < length load.bundle.cores → eptp_list_frame root n ≢ None
+  has_lists n small none = let start = some_start n small in let is = listed n start.0 start.1 in cc
 
   each_core : (n : ℕ) → IsCoreOf (thread_at state n) (flight_at state n) (core_at machine n)
   each_core n = elim (cases_lt n (length load.bundle.cores)) [

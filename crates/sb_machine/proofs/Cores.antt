@@ -1,5 +1,5 @@
 -- The cores of a machine by number, where one is put.
-use Rattle.std.proofs.Common.{◌≡◌, ◌≢◌, ◌∙◌, ap, ℕ, ◌<◌, length, refl, slice_set}
+use Rattle.std.proofs.Common.{◌≡◌, ◌≢◌, ◌∙◌, ap, ℕ, ◌<◌, length, slice_set}
 use Rattle.std.specs.Prelude.{slice_get, unwrap_or}
 use Rattle.sb_state.proofs.Threads.{set_other, set_within}
 use Rattle.sb_machine.specs.declared.processor.Core.{Core}

@@ -1,5 +1,5 @@
 -- That a core has made one line more changes nothing else.
-use Rattle.std.proofs.Common.{◌≡◌, ◌≢◌, ◌∙◌, sym, ap, subst, ℕ, ◌<◌, length, refl, inl, inr}
+use Rattle.std.proofs.Common.{◌≡◌, ◌∙◌, sym, subst, ℕ, refl, inl, inr}
 use Rattle.std.proofs.Math.Path.{fun_ext}
 use Rattle.std.proofs.lemmas.Bool.{cases_eq}
 use Rattle.std.specs.Prelude.{Option}
@@ -7,7 +7,7 @@ use Rattle.std.proofs.lemmas.List.{length-set}
 use Rattle.sb_insn.specs.declared.registers.Regs.{Regs}
 use Rattle.sb_state.specs.declared.state.Flight.{Flight}
 use Rattle.sb_state.specs.declared.state.Thread.{Thread}
-use Rattle.sb_state.proofs.Threads.{set_other, set_same}
+use Rattle.sb_state.proofs.Threads.{set_same}
 use Rattle.sb_trace.specs.State.{State, thread_at, flight_at}
 use Rattle.sb_landing.specs.Related.{AreBeside}
 use Rattle.sb_shows.specs.Related.{HasCores}

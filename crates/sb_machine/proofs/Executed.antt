@@ -1,10 +1,8 @@
 -- What stands for the state after an instruction: memory as the instruction left it, and the kernels as they were.
-use Rattle.std.proofs.Common.{◌≡◌, ◌∙◌, sym, ap, subst, ℕ, ◌<◌, ◌≤◌, length, refl, inl, inr}
+use Rattle.std.proofs.Common.{◌≡◌, ◌∙◌, sym, ap, subst, ℕ, ◌<◌, ◌≤◌, length, inl, inr}
 use Rattle.std.proofs.lemmas.Bool.{cases_eq}
 use Rattle.std.specs.Prelude.{map}
-use Rattle.sb_memory.specs.Physical.{Physical, frame_count}
 use Rattle.sb_insn.specs.declared.insn.Insn.{Insn}
-use Rattle.sb_insn.specs.declared.registers.Regs.{Regs}
 use Rattle.sb_exec.specs.Rows.{row_of}
 use Rattle.sb_trace.specs.declared.event.Event.{Event}
 use Rattle.sb_trace.specs.State.{State, HasFewThreads, thread_at}

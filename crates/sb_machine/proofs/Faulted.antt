@@ -1,5 +1,5 @@
 -- A fault of a thread out of flight.
-use Rattle.std.proofs.Common.{◌≡◌, ◌∙◌, sym, ap, subst, ℕ, ◌<◌, Bool, true, false, ◌==◌, length, refl}
+use Rattle.std.proofs.Common.{◌≡◌, sym, subst, ℕ, ◌<◌, Bool, true, false, ◌==◌, length, refl}
 use Rattle.std.specs.Prelude.{None, if◌then◌else◌}
 use Rattle.sb_bus.specs.declared.stop.FaultKind.{FaultKind}
 use Rattle.sb_calls.specs.SyscallRegisters.{server_fault_regs}
@@ -10,7 +10,7 @@ use Rattle.sb_trace.specs.State.{State, thread_at, flight_at, with_view, with_en
 use Rattle.sb_trace.specs.Home.{Outcome as PlainOutcome, fault_outcome as plain_fault, state_at_home}
 use Rattle.sb_trace.specs.Step.{Steps}
 use Rattle.sb_machine.specs.declared.processor.Core.{Core}
-use Rattle.sb_machine.specs.Machine.{Machine, core_at, state_at}
+use Rattle.sb_machine.specs.Machine.{Machine, core_at}
 use Rattle.sb_machine.specs.Outcomes.{Outcome, home_eptp, home_state, machine_at_home, with_end as machine_with_end, fault_outcome}
 use Rattle.sb_machine.specs.StandsFor.{IsMachineOf}
 use Rattle.sb_machine.specs.Laws.{Follows}

@@ -6,7 +6,6 @@ use Rattle.std.specs.List.{Contains}
 use Rattle.std.proofs.lemmas.Option.{slice_get_within}
 use Rattle.sb_abi.specs.declared.trampoline.TheConstants.{ENTER, GO_HOME}
 use Rattle.sb_state.specs.Registers.{rsi}
-use Rattle.sb_state.specs.declared.end_kind.EndKind.TheVariants.{Running}
 use Rattle.sb_state.specs.declared.state.Binding.{Binding}
 use Rattle.sb_state.specs.declared.state.Decision.{Decision}
 use Rattle.sb_state.specs.declared.state.Decision.TheVariants as decision
@@ -16,7 +15,7 @@ use Rattle.sb_trace.specs.declared.event.Event.{Event}
 use Rattle.sb_trace.specs.declared.event.Event.TheVariants as event
 use Rattle.sb_trace.specs.State.{State, thread_at, flight_at, with_flight}
 use Rattle.sb_trace.specs.Home.{Outcome}
-use Rattle.sb_trace.specs.Flight.{flight_binding, is_key, bound_pool, with_mask, decision_at_phase, phase_after, at_phase, next_flight, phase_outcome, landing_step}
+use Rattle.sb_trace.specs.Flight.{flight_binding, is_key, bound_pool, with_mask, decision_at_phase, phase_after, at_phase, phase_outcome, landing_step}
 use Rattle.sb_trace.specs.KernelCall.{kernel_call}
 use Rattle.sb_trace.specs.Sound.{IsSound, IsInFlight, IsThreadOfFlight, phases_of}
 use Rattle.sb_trace.proofs.Kernel.{IsOwn, did_call}

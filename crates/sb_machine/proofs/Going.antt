@@ -1,6 +1,6 @@
 -- An instruction that goes on, of a thread out of flight.
-use Rattle.std.proofs.Common.{◌≡◌, ◌∙◌, sym, ap, subst, ℕ, ◌<◌, List, length, refl, slice_set}
-use Rattle.std.specs.Prelude.{Option, None, Ok, slice_get, unwrap_or}
+use Rattle.std.proofs.Common.{◌≡◌, ◌∙◌, sym, ap, subst, ℕ, ◌<◌, List, length, refl}
+use Rattle.std.specs.Prelude.{Option, None, slice_get, unwrap_or}
 use Rattle.sb_insn.specs.declared.insn.Insn.{Insn}
 use Rattle.sb_insn.specs.declared.registers.Regs.{Regs}
 use Rattle.sb_exec.specs.Rows.{row_of}
@@ -23,7 +23,7 @@ use Rattle.sb_machine.specs.StandsFor.{IsCoreOf, IsMachineOf}
 use Rattle.sb_machine.specs.Written.{execution_on}
 use Rattle.sb_machine.specs.Laws.{Follows}
 use Rattle.sb_machine.proofs.Afterwards.{afterwards}
-use Rattle.sb_machine.proofs.Grounded.{regs_are, core_is, index_is, eptp_now}
+use Rattle.sb_machine.proofs.Grounded.{core_is, eptp_now}
 use Rattle.sb_machine.proofs.Executed.{IsQuiet, instruction_stands}
 use Rattle.sb_machine.proofs.Seen.{small, executed}
 

@@ -1,6 +1,6 @@
 -- The last step of a refused call in flight: VMFUNC leads home.
-use Rattle.std.proofs.Common.{◌≡◌, ◌≢◌, ◌∙◌, sym, ap, subst, ℕ, ◌%◌, ◌^◌, ◌<◌, Bool, true, false, length, refl, arith, Result, Ok, lit<}
-use Rattle.std.specs.Prelude.{Option, Some, None, map, slice_get, slice_index}
+use Rattle.std.proofs.Common.{◌≡◌, ◌≢◌, ◌∙◌, sym, ap, subst, ℕ, ◌<◌, length, refl, arith, Result, Ok}
+use Rattle.std.specs.Prelude.{Option, Some, None, map}
 use Rattle.std.specs.List.{Contains}
 use Rattle.sb_abi.specs.Numbers.{status_number}
 use Rattle.sb_abi.specs.declared.call.CallStatus.TheVariants as status
@@ -14,7 +14,6 @@ use Rattle.sb_exec.specs.declared.action.Effect.TheVariants.{Next, Switch}
 use Rattle.sb_exec.proofs.Left.{rows_left}
 use Rattle.sb_bus.specs.declared.stop.BusStop.{BusStop}
 use Rattle.sb_root.specs.Root.{list_entry}
-use Rattle.sb_root.specs.Switch.{switch_result}
 use Rattle.sb_root.proofs.Between.{set_switched}
 use Rattle.sb_state.specs.Registers.{eax, ecx}
 use Rattle.sb_state.specs.declared.state.Binding.{Binding}
@@ -35,8 +34,8 @@ use Rattle.sb_trace.proofs.Steps.{steps_change}
 use Rattle.sb_landing.specs.AtPhase.{AtPhase, kept_regs, landing_of, record_word}
 use Rattle.sb_landing.specs.Lands.{effect_at, behind, line_of}
 use Rattle.sb_landing.specs.Laws.{begun_behind, StepsStayBeside}
-use Rattle.sb_landing.specs.Related.{Begun, IsBeside}
-use Rattle.sb_landing.specs.Rows.{row_at, address_of}
+use Rattle.sb_landing.specs.Related.{IsBeside}
+use Rattle.sb_landing.specs.Rows.{address_of}
 use Rattle.sb_landing.specs.Stages.{Landing}
 use Rattle.sb_landing.proofs.Ends.{refused_put}
 use Rattle.sb_landing.proofs.Steps.{at_row}
@@ -45,7 +44,7 @@ use Rattle.sb_sub.specs.Kernel.{seat_of}
 use Rattle.sb_sub.proofs.Moves.{IsMoved, stands_moved}
 use Rattle.sb_machine.specs.declared.processor.Core.{Core}
 use Rattle.sb_machine.specs.Machine.{Machine, core_at, state_at, regs_of, with_core}
-use Rattle.sb_machine.specs.Outcomes.{home_line, home_state, regs_behind, homecoming, switch_outcome, switch_outcome_by}
+use Rattle.sb_machine.specs.Outcomes.{home_line, home_state, regs_behind, homecoming, switch_outcome}
 use Rattle.sb_machine.specs.StandsFor.{origin_by, origin_of, IsCoreOf, IsMachineOf}
 use Rattle.sb_machine.specs.Laws.{Follows}
 use Rattle.sb_machine.proofs.Afterwards.{afterwards}

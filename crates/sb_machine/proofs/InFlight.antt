@@ -1,22 +1,18 @@
 -- A step of a thread in flight: the instruction of its phase.
-use Rattle.std.proofs.Common.{◌≡◌, ◌≢◌, ◌∙◌, sym, ap, subst, ℕ, ◌<◌, ◌==◌, ◌&&◌, not, Bool, true, false, length, refl, arith, Result, Ok, Err}
+use Rattle.std.proofs.Common.{◌≡◌, ◌≢◌, ◌∙◌, sym, ap, subst, ℕ, ◌<◌, ◌==◌, ◌&&◌, not, Bool, true, false, length, refl, Result, Ok}
 use Rattle.std.specs.Prelude.{Option, Some, None, slice_index, if◌then◌else◌}
 use Rattle.std.specs.Option.{option_map}
 use Rattle.std.proofs.lemmas.Bool.Decides.{Decides-eqb}
 use Rattle.sb_abi.specs.declared.trampoline.TheConstants.{COMPARE_KEY, LOAD_POOL, EXCHANGE_POOL, ENTER, GO_HOME}
-use Rattle.sb_memory.specs.Physical.{Physical}
 use Rattle.sb_insn.specs.declared.insn.Insn.{Insn}
 use Rattle.sb_insn.specs.declared.registers.Regs.{Regs}
 use Rattle.sb_bus.specs.declared.stop.BusStop.{BusStop}
-use Rattle.sb_exec.specs.declared.action.Effect.{Effect}
-use Rattle.sb_exec.specs.declared.action.Effect.TheVariants.{Next, Switch}
 use Rattle.sb_exec.specs.Fetching.{FetchesOn}
 use Rattle.sb_exec.specs.Simulation.{Alike}
 use Rattle.sb_exec.proofs.OneFetch.{one_fetch_on}
 use Rattle.sb_root.specs.Root.{list_entry}
 use Rattle.sb_state.proofs.Cases.{claim_if}
 use Rattle.sb_state.specs.declared.end_kind.EndKind.{EndKind}
-use Rattle.sb_state.specs.declared.end_kind.EndKind.TheVariants.{Running}
 use Rattle.sb_state.specs.declared.state.Flight.{Flight}
 use Rattle.sb_state.specs.declared.state.Thread.{Thread}
 use Rattle.sb_trace.specs.declared.event.Event.{Event}
@@ -41,7 +37,7 @@ use Rattle.sb_shows.specs.Related.{Sees}
 use Rattle.sb_shows.specs.Shows.{index_of, present_index}
 use Rattle.sb_machine.specs.declared.processor.Core.{Core}
 use Rattle.sb_machine.specs.Machine.{Machine, core_at, state_at, regs_of, with_core}
-use Rattle.sb_machine.specs.Outcomes.{Outcome, line_by, origin_behind, core_behind, next_outcome}
+use Rattle.sb_machine.specs.Outcomes.{line_by, origin_behind, core_behind, next_outcome}
 use Rattle.sb_machine.specs.Phase.{phase_at, phase_behind}
 use Rattle.sb_machine.specs.StandsFor.{IsCoreOf, IsMachineOf}
 use Rattle.sb_machine.specs.Written.{FetchesNext, execution_on}
@@ -49,7 +45,7 @@ use Rattle.sb_machine.specs.Laws.{Follows}
 use Rattle.sb_machine.proofs.Afterwards.{afterwards}
 use Rattle.sb_machine.proofs.FlightAfter.{IsAfterPhase, after_phase}
 use Rattle.sb_machine.proofs.Executed.{IsQuiet, instruction_stands}
-use Rattle.sb_machine.proofs.Phases.{phase_read, undecided_away}
+use Rattle.sb_machine.proofs.Phases.{phase_read}
 use Rattle.sb_machine.proofs.Seen.{eptp_is, fetched, executed}
 
 apart_by : (test : Bool) (first second : ℕ) → (first == second) ≡ test → first ≢ second → test ≡ false

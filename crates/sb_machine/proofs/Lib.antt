@@ -16,6 +16,8 @@ pub mod Phases
 pub mod FlightAfter
 pub mod InFlight
 pub mod GoingHome
+pub mod Behind
+pub mod Counting
 pub mod Counted
 pub mod Steps
 pub mod Shown

@@ -1,25 +1,20 @@
 -- A step by which the kernel changes a thread alone: its registers, its view, or its end.
-use Rattle.std.proofs.Common.{◌≡◌, ◌∙◌, sym, ap, subst, ℕ, ◌<◌, length, refl, slice_set}
-use Rattle.std.specs.Prelude.{Option, Some, None, map, slice_get}
-use Rattle.std.specs.Option.{option_map}
+use Rattle.std.proofs.Common.{◌≡◌, ◌∙◌, sym, ap, subst, ℕ, ◌<◌, length, refl}
+use Rattle.std.specs.Prelude.{None}
 use Rattle.sb_root.specs.Root.{list_entry}
-use Rattle.sb_state.specs.declared.state.Flight.{Flight}
 use Rattle.sb_state.specs.declared.state.Thread.{Thread}
 use Rattle.sb_state.proofs.Threads.{thread_set_there}
 use Rattle.sb_trace.specs.declared.event.Event.{Event}
 use Rattle.sb_trace.specs.State.{State, thread_at, flight_at, with_thread}
-use Rattle.sb_trace.specs.End.{phase_of}
 use Rattle.sb_trace.specs.Step.{Steps}
-use Rattle.sb_landing.specs.Related.{Begun, IsBeside}
+use Rattle.sb_landing.specs.Related.{IsBeside}
 use Rattle.sb_shows.specs.Shows.{index_of, present_index}
-use Rattle.sb_sub.specs.Kernel.{seat_of}
-use Rattle.sb_sub.specs.StandsFor.{StandsFor}
 use Rattle.sb_sub.proofs.Moves.{IsMoved, seats_set, stands_moved}
 use Rattle.sb_machine.specs.declared.processor.Core.{Core}
-use Rattle.sb_machine.specs.Machine.{Machine, core_at, state_at, with_core}
+use Rattle.sb_machine.specs.Machine.{Machine, core_at, with_core}
 use Rattle.sb_machine.specs.StandsFor.{IsCoreOf, IsMachineOf}
 use Rattle.sb_machine.specs.Laws.{Follows}
-use Rattle.sb_machine.proofs.Afterwards.{IsNextCore, afterwards}
+use Rattle.sb_machine.proofs.Afterwards.{afterwards}
 use Rattle.sb_machine.proofs.Present.{thread_is}
 use Rattle.sb_machine.proofs.Seen.{small}
 

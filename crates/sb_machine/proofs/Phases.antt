@@ -1,5 +1,5 @@
 -- The phase at which a core stands is read off RIP, and what becomes of a flight at its phase.
-use Rattle.std.proofs.Common.{◌≡◌, ◌≢◌, sym, subst, ℕ, ◌==◌, Bool, true, false, refl, arith}
+use Rattle.std.proofs.Common.{◌≡◌, ◌≢◌, subst, ℕ, ◌==◌, Bool, true, false, refl, arith}
 use Rattle.std.specs.Prelude.{Option, Some, None}
 use Rattle.std.specs.List.{AllByRecursion, Contains}
 use Rattle.sb_abi.specs.declared.trampoline.TheConstants.{COMPARE_KEY, LOAD_POOL, EXCHANGE_POOL, ENTER, GO_HOME}

@@ -1,6 +1,6 @@
 -- What a step asks of a machine that stands for some state.
-use Rattle.std.proofs.Common.{◌≡◌, ◌∙◌, sym, ap, subst, ℕ, ◌<◌, true, length, Result}
-use Rattle.std.specs.Prelude.{IsTrue, IfErr, map}
+use Rattle.std.proofs.Common.{◌≡◌, ◌∙◌, sym, ap, subst, ℕ, ◌<◌, length, Result}
+use Rattle.std.specs.Prelude.{IsTrue, IfErr}
 use Rattle.std.proofs.lemmas.List.{length-map}
 use Rattle.sb_memory.specs.Physical.{frame_count, IsWordPlace}
 use Rattle.sb_insn.specs.declared.insn.Insn.{Insn}
@@ -24,7 +24,7 @@ module _ (machine : Machine) (number : ℕ) (some : (state : State) × IsMachine
     (there : number < length machine.cores) where
   -- the EPT pointer of a core is one
   pub is_pointer : IsTrue (is_eptp (state_at machine number).eptp)
-  is_pointer = rw (pointer machine some.0 some.1 number there) tt
+  is_pointer = pointer machine some.0 some.1 number there
 
   -- and leads to a table in memory
   pub root_inside : frame_in (state_at machine number).eptp < frame_count machine.memory

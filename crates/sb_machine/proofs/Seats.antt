@@ -1,11 +1,11 @@
 -- Where no thread's home and bindings change, the seats of the threads stay.
-use Rattle.std.proofs.Common.{◌≡◌, ◌∙◌, sym, ap, ℕ, ◌<◌, List, length, get_or, refl}
+use Rattle.std.proofs.Common.{◌≡◌, ◌∙◌, sym, ap, ℕ, List, length, get_or}
 use Rattle.std.specs.Prelude.{map}
 use Rattle.std.proofs.lemmas.List.{ext_get_or, length-map}
 use Rattle.std.proofs.lemmas.Option.{unwrap_or-slice_get}
 use Rattle.sb_state.specs.declared.state.Binding.{Binding}
 use Rattle.sb_trace.specs.State.{State, thread_at, no_thread}
-use Rattle.sb_sub.specs.Kernel.{Seat, seat_of}
+use Rattle.sb_sub.specs.Kernel.{seat_of}
 use Rattle.sb_sub.proofs.Moves.{seat_at}
 
 seat_read : (state : State) (number : ℕ)

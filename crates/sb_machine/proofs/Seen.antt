@@ -1,11 +1,9 @@
 -- What a core of a machine sees, and the words that it goes by.
-use Rattle.std.proofs.Common.{◌≡◌, ◌∙◌, sym, ap, subst, ℕ, ◌+◌, ◌*◌, ◌%◌, ◌<◌, true, length, refl, arith, Result, lit<}
-use Rattle.std.specs.Prelude.{Some, IsTrue}
+use Rattle.std.proofs.Common.{◌≡◌, ◌∙◌, sym, ap, subst, ℕ, ◌<◌, true, length, refl, arith, Result, lit<}
+use Rattle.std.specs.Prelude.{Some}
 use Rattle.sb_memory.specs.Physical.{frame_count, IsWordPlace}
 use Rattle.sb_memory.specs.Words.{word_at}
-use Rattle.sb_memory.specs.declared.address.Frame.{Frame}
 use Rattle.sb_insn.specs.declared.insn.Insn.{Insn}
-use Rattle.sb_insn.specs.declared.registers.Regs.{Regs}
 use Rattle.sb_bus.specs.declared.stop.BusStop.{BusStop}
 use Rattle.sb_exec.specs.Fetching.{Fetches, FetchesOn}
 use Rattle.sb_exec.specs.Rows.{row_of}

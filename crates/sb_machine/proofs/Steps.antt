@@ -1,5 +1,5 @@
 -- Each step of a machine is one of the plain machine.
-use Rattle.std.proofs.Common.{◌≡◌, ◌≢◌, ◌∙◌, sym, ap, subst, ℕ, ◌+◌, ◌%◌, ◌^◌, ◌<◌, ◌==◌, length, refl, arith, inl, inr, Result, Ok, Err}
+use Rattle.std.proofs.Common.{◌≡◌, ◌∙◌, sym, ap, subst, ℕ, ◌<◌, length, refl, arith, inl, inr, Result, Ok, Err}
 use Rattle.std.specs.Prelude.{Option, Some, None}
 use Rattle.std.proofs.lemmas.Bool.{cases_eq}
 use Rattle.sb_abi.specs.declared.trampoline.TheConstants.{GO_HOME}
@@ -16,14 +16,13 @@ use Rattle.sb_exec.specs.Simulation.{Alike}
 use Rattle.sb_exec.specs.Operand.{next_rip}
 use Rattle.sb_exec.proofs.Stopping.{switch_ends}
 use Rattle.sb_calls.specs.SyscallRegisters.{after_syscall}
-use Rattle.sb_scan.specs.Pattern.{pattern}
 use Rattle.sb_state.specs.declared.end_kind.EndKind.{EndKind}
 use Rattle.sb_state.specs.declared.end_kind.EndKind.TheVariants.{Running, Ended, Faulted}
 use Rattle.sb_state.specs.declared.state.Flight.{Flight}
 use Rattle.sb_trace.specs.declared.event.Event.{Event}
-use Rattle.sb_trace.specs.declared.event.Event.TheVariants.{Step as StepLine, Idle}
+use Rattle.sb_trace.specs.declared.event.Event.TheVariants.{Idle}
 use Rattle.sb_trace.specs.PlainMemory.{plain}
-use Rattle.sb_trace.specs.State.{State, thread_at, flight_at, with_regs}
+use Rattle.sb_trace.specs.State.{State, thread_at, flight_at}
 use Rattle.sb_trace.specs.Home.{Outcome as PlainOutcome, home_address, fault_outcome as plain_fault}
 use Rattle.sb_trace.specs.Flight.{vmfunc_outcome}
 use Rattle.sb_trace.specs.Syscall.{syscall_outcome}

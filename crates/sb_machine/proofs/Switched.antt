@@ -1,5 +1,5 @@
 -- VMFUNC of a thread out of flight.
-use Rattle.std.proofs.Common.{◌≡◌, ◌≢◌, ◌∙◌, sym, ap, subst, ℕ, ◌+◌, ◌%◌, ◌^◌, ◌<◌, ◌≤◌, Bool, true, false, ◌==◌, ◌&&◌, not, length, refl, arith, inl, inr, Result, Ok, Err, slice_set}
+use Rattle.std.proofs.Common.{◌≡◌, ◌∙◌, sym, ap, subst, ℕ, ◌<◌, ◌≤◌, Bool, true, false, ◌==◌, ◌&&◌, not, length, refl, arith}
 use Rattle.std.specs.Prelude.{Option, Some, None, if◌then◌else◌}
 use Rattle.std.specs.Option.{option_and_then}
 use Rattle.std.proofs.lemmas.List.{length-set}
@@ -8,7 +8,6 @@ use Rattle.sb_abi.specs.declared.call.CallStatus.TheVariants as status
 use Rattle.sb_abi.specs.declared.trampoline.TheConstants.{VMFUNC_PHASE}
 use Rattle.sb_insn.specs.declared.insn.Insn.{Insn}
 use Rattle.sb_insn.specs.declared.registers.Regs.{Regs}
-use Rattle.sb_insn.specs.Spelling.{spelling}
 use Rattle.sb_bus.specs.declared.stop.FaultKind.TheVariants as kind
 use Rattle.sb_exec.specs.Operand.{next_rip}
 use Rattle.sb_root.specs.declared.root_kernel.RootKernel.{RootKernel}

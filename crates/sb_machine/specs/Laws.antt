@@ -1,5 +1,5 @@
 -- The laws of the machine with page tables.
-use Rattle.std.specs.Prelude.{◌≡◌, ℕ, ◌<◌, length}
+use Rattle.std.specs.Prelude.{ℕ, ◌<◌, length}
 use Rattle.sb_trace.specs.declared.event.Event.{Event}
 use Rattle.sb_trace.specs.State.{State}
 use Rattle.sb_trace.specs.Step.{Steps as PlainSteps}

@@ -1,5 +1,5 @@
 -- A machine with page tables: physical memory, what its two kernels keep, and its cores.
-use Rattle.std.specs.Prelude.{ℕ, List, Option, Some, None, slice_get, slice_set, unwrap_or}
+use Rattle.std.specs.Prelude.{ℕ, List, None, slice_get, slice_set, unwrap_or}
 use Rattle.sb_memory.specs.Physical.{Physical}
 use Rattle.sb_memory.specs.Accounts.{PhysCall}
 use Rattle.sb_insn.specs.declared.registers.Regs.{Regs}

@@ -8,7 +8,6 @@ use Rattle.sb_memory.specs.Words.{word_at}
 use Rattle.sb_memory.specs.declared.address.Missing.{Missing}
 use Rattle.sb_insn.specs.declared.insn.Insn.{Insn}
 use Rattle.sb_insn.specs.declared.registers.Regs.{Regs}
-use Rattle.sb_bus.specs.declared.stop.BusStop.{BusStop}
 use Rattle.sb_bus.specs.declared.stop.FaultKind.{FaultKind}
 use Rattle.sb_bus.specs.declared.stop.FaultKind.TheVariants as kind
 use Rattle.sb_exec.specs.Operand.{next_rip}
@@ -19,7 +18,7 @@ use Rattle.sb_root.specs.Switch.{switch_result}
 use Rattle.sb_calls.specs.SyscallRegisters.{server_fault_regs}
 use Rattle.sb_state.specs.Registers.{eax, ecx}
 use Rattle.sb_state.specs.declared.end_kind.EndKind.{EndKind}
-use Rattle.sb_state.specs.declared.end_kind.EndKind.TheVariants.{Running, Ended, Faulted}
+use Rattle.sb_state.specs.declared.end_kind.EndKind.TheVariants.{Ended, Faulted}
 use Rattle.sb_trace.specs.declared.event.Event.{Event}
 use Rattle.sb_trace.specs.declared.event.Event.TheVariants as event
 use Rattle.sb_trace.specs.KernelCall.{refusal_regs}

@@ -12,7 +12,6 @@ use Rattle.sb_exec.specs.declared.action.Effect.TheVariants.{Next, Syscall, Swit
 use Rattle.sb_exec.specs.Execution.{Execution, execution_of}
 use Rattle.sb_exec.specs.Fetching.{FetchesOn}
 use Rattle.sb_exec.specs.Rows.{row_of}
-use Rattle.sb_root.specs.declared.root_kernel.RootKernel.{RootKernel}
 use Rattle.sb_nested.specs.View.{View}
 use Rattle.sb_nested.specs.Store.{view_interface}
 use Rattle.sb_state.specs.declared.end_kind.EndKind.{EndKind}

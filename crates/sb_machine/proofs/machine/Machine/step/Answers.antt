@@ -1,10 +1,27 @@
+use Rattle.std.proofs.Common.{sym, subst, ◌<◌, length}
+use Rattle.sb_machine.specs.Machine.{Machine}
+use Rattle.sb_machine.specs.StandsFor.{IsMachineOf}
 use Rattle.sb_machine.proofs.machine.Machine.step.Goals as goal
 
 pub invariant_of-self : goal.invariant_of-self
-invariant_of-self c = ?
+invariant_of-self c =
+    let there = subst (λ (machine : Machine). c.args.core < length machine.cores) (sym c.self.view_is) c.requires in
+    let follows =
+    c.steps_are_plain.ensures.steps c.self.inside.parts c.args.core c.step-event.result c.step-event.new.parts
+    c.self.invariant.0 there c.self.invariant.1 c.step-event.ensures in
+    (follows.next, follows.stands)
 
 pub returns-clause-plain : goal.returns-clause-plain
-returns-clause-plain c = ?
+returns-clause-plain c =
+    let there = subst (λ (machine : Machine). c.args.core < length machine.cores) (sym c.self.view_is) c.requires in
+    λ state is.
+    c.steps_are_plain.ensures.steps c.self.inside.parts c.args.core c.step-event.result c.step-event.new.parts state there
+    (subst (λ (machine : Machine). IsMachineOf machine state) (sym c.self.view_is) is) c.step-event.ensures
 
 pub returns-clause-stands : goal.returns-clause-stands
-returns-clause-stands c = ?
+returns-clause-stands c =
+    let there = subst (λ (machine : Machine). c.args.core < length machine.cores) (sym c.self.view_is) c.requires in
+    let follows =
+    c.steps_are_plain.ensures.steps c.self.inside.parts c.args.core c.step-event.result c.step-event.new.parts
+    c.self.invariant.0 there c.self.invariant.1 c.step-event.ensures in
+    (follows.next, follows.stands)

@@ -1,0 +1,36 @@
+use Rattle.std.proofs.Common.{◌≡◌, ◌∙◌, sym, ap, subst, ◌<◌, List, length}
+use Rattle.sb_bundle.specs.declared.bundle.CoreStart.{CoreStart}
+use Rattle.sb_load.specs.FirstState.{first_state}
+use Rattle.sb_plain.proofs.FirstSound.{loaded_sound}
+use Rattle.sb_machine.specs.declared.processor.Core.{Core}
+use Rattle.sb_machine.specs.Start.{first_cores}
+use Rattle.sb_machine.specs.StandsFor.{IsMachineOf}
+use Rattle.sb_machine.proofs.Begun.{has_lists, first_machine}
+use Rattle.sb_machine.proofs.start.first_parts.Goals as goal
+
+pub first_cores-requires-clause-lists : goal.first_cores-requires-clause-lists
+first_cores-requires-clause-lists c =
+    let load = c.args.loaded.now in
+    let same : c.items.result.now ≡ load.bundle.cores =
+    c.items.ensures ∙ ap (λ bundle. bundle.cores) c.bundle-bundle.ensures.same in
+    λ thread small.
+    has_lists load c.in_ok-kernel.kernel c.new-3.new.root c.new-3.new.book c.new-3.new.memory c.in_ok-kernel.ensures.stands
+    (loaded_sound load c.bundle-bundle.ensures.loadable) thread
+    (subst (λ (cores : List CoreStart). thread < length cores) same small)
+
+pub returns : goal.returns
+returns c =
+    let load = c.args.loaded.now in
+    let starts : c.items.result.now ≡ load.bundle.cores =
+    c.items.ensures ∙ ap (λ bundle. bundle.cores) c.bundle-bundle.ensures.same in
+    let same : c.in_ok-cores.cores.items ≡ first_cores c.new-3.new.memory c.new-3.new.root 0 load.bundle.cores =
+    c.in_ok-cores.ensures ∙ ap (first_cores c.new-3.new.memory c.new-3.new.root 0) starts in
+    subst (λ (cores : List Core). IsMachineOf (record {
+      memory = c.new-3.new.memory;
+      book = c.new-3.new.book;
+      root = c.new-3.new.root;
+      kernel = c.in_ok-kernel.kernel;
+      cores = cores;
+    }) (first_state load)) (sym same)
+    (first_machine load c.in_ok-kernel.kernel c.new-3.new.root c.new-3.new.book c.new-3.new.memory c.in_ok-kernel.ensures.stands
+    (loaded_sound load c.bundle-bundle.ensures.loadable))
