@@ -22,3 +22,5 @@ pub mod Counted
 pub mod Steps
 pub mod Shown
 pub mod Begun
+pub mod Decided
+pub mod Ending

@@ -4,4 +4,5 @@ pub mod Outcomes
 pub mod Written
 pub mod StandsFor
 pub mod Start
+pub mod End
 pub mod Laws

@@ -8,10 +8,11 @@
 //!
 //! Inside: cores (`processor`), the machine (`machine`) and its parts
 //! (`parts`), an instruction (`instruction`), what follows it (`outcome`), VMFUNC (`vmfunc`),
-//! system calls (`system_call`), the start (`start`), and the step (`step`). Not inside: the walks (`sb_nested`), the kernels' tables (`sb_root`, `sb_sub`),
-//! and what the plain machine does (`sb_trace`).
+//! system calls (`system_call`), the start (`start`), the step (`step`), and the end of a run (`end`). Not inside: the walks
+//! (`sb_nested`), the kernels' tables (`sb_root`, `sb_sub`), and what the plain machine does (`sb_trace`).
 #![tactic(auto)]
 
+mod end;
 mod instruction;
 mod laws;
 mod machine;

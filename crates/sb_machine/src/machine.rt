@@ -20,7 +20,7 @@ use std::marker::Model;
 /// keep, and its cores.
 #[derive(Drop)]
 pub struct Machine {
-    parts: Parts,
+    pub(crate) parts: Parts,
 }
 
 impl Model for Machine {

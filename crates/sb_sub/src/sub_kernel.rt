@@ -158,7 +158,7 @@ impl SubKernel {
     }
 
     /// What the process of a number told as a server, if it did.
-    pub(crate) fn registration(&self, process: u64) -> Option<Registration>
+    pub fn registration(&self, process: u64) -> Option<Registration>
         ensures { result ≡ registration_of (process_in self.now process) }
     {
         let index = process as usize;
