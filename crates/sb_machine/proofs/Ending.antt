@@ -1,6 +1,6 @@
 -- The report of a machine is that of each state for which it stands.
-use Rattle.std.proofs.Common.{◌≡◌, ◌∙◌, sym, ap, subst, ℕ, zero, suc, ◌+◌, ◌^◌, ◌<◌, ◌≤◌, ◌==◌, false, List, [], ◌∷◌, length, refl, arith}
-use Rattle.std.specs.Prelude.{Option, Some, None, slice_get, unwrap_or}
+use Rattle.std.proofs.Common.{◌≡◌, ◌∙◌, sym, ap, subst, ℕ, zero, suc, ◌+◌, ◌^◌, ◌<◌, ◌≤◌, ◌==◌, false, List, [], ◌∷◌, length, refl, arith, Result, Ok, Err}
+use Rattle.std.specs.Prelude.{Option, Some, None, slice_get, unwrap_or, IfOk}
 use Rattle.std.specs.Option.{option_map}
 use Rattle.std.proofs.lemmas.List.{length-map}
 use Rattle.std.proofs.lemmas.Option.{slice_get_within}
@@ -235,17 +235,35 @@ ends_same machine state first [] [] size each = refl
 ends_same machine state first [] (thread ∷ threads) size each = absurd cc
 ends_same machine state first (core ∷ cores) [] size each = absurd cc
 ends_same machine state first (core ∷ cores) (thread ∷ threads) size each =
-    let head : core_end machine first core ≡ thread_end thread (flight_at state first) = each 0 core thread refl refl in
+    let here : first + 0 ≡ first = omega arith in
+    let head : core_end machine first core ≡ thread_end thread (flight_at state first) =
+    subst (λ (number : ℕ). core_end machine number core ≡ thread_end thread (flight_at state number)) here
+    (each 0 core thread refl refl) in
     let rest = ends_same machine state (first + 1) cores threads (let sizes = size in omega (arith, sizes))
     (λ n one other found same.
-    subst (λ (number : ℕ). core_end machine number one ≡ thread_end other (flight_at state number)) (omega arith)
+    let behind : first + suc n ≡ first + 1 + n = omega arith in
+    subst (λ (number : ℕ). core_end machine number one ≡ thread_end other (flight_at state number)) behind
     (each (suc n) one other found same)) in
     ap (λ (one : ThreadEnd). one ∷ core_ends machine (first + 1) cores) head
     ∙ ap (λ (ends : List ThreadEnd). thread_end thread (flight_at state first) ∷ ends) rest
 
+-- reports with the same fields are the same
+same_report : (threads : List ThreadEnd) (free keys : ℕ) (other : EndState) → threads ≡ other.threads → free ≡ other.free
+    → keys ≡ other.keys → record { threads = threads; free = free; keys = keys } ≡ other
+same_report threads free keys other one two three = rw (one, two, three) refl
+
 -- The report of a machine is that of each state for which it stands.
 pub end_is : (machine : Machine) (state : State) → IsMachineOf machine state → machine_end machine ≡ end_of state
 end_is machine state is =
-    let threads = ends_same machine state 0 machine.cores state.threads is.count (each_end machine state is) in
-    let keys = ap length is.stands.keys in
-    rw (threads, is.stands.count, keys) refl
+    let threads = ends_same machine state 0 machine.cores state.threads is.count
+    (λ n core thread found same.
+    let number : n ≡ 0 + n = omega arith in
+    subst (λ (number : ℕ). core_end machine number core ≡ thread_end thread (flight_at state number)) number
+    (each_end machine state is n core thread found same)) in
+    same_report _ _ _ (end_of state) threads is.stands.count (ap length is.stands.keys)
+
+-- so what is told of a machine is told of the state
+pub end_told : {E : Type 0} (machine : Machine) (result : Result EndState E) → IfOk result (λ end. end ≡ machine_end machine)
+    → IfOk result (λ end. (state : State) → IsMachineOf machine state → end ≡ end_of state)
+end_told machine (Ok end) is = λ state stands. is ∙ end_is machine state stands
+end_told machine (Err error) is = is

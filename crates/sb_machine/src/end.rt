@@ -122,6 +122,7 @@ fn handler_shown(parts: &Parts, number: u8, view: u16) -> u64
     }
 }
 
+/// The end of a core's thread, of this number.
 fn core_end(parts: &Parts, number: u8, core: &Core) -> ThreadEnd
     requires { number < length parts.now.kernel.seats }
     ensures { result ≡ core_end parts.now number core.now }
@@ -138,6 +139,7 @@ fn core_end(parts: &Parts, number: u8, core: &Core) -> ThreadEnd
     }
 }
 
+/// The ends of all threads, in order.
 fn core_ends(alloc: Global, parts: &Parts) -> Result<ThreadEnds, AllocError>
     requires few { length parts.now.cores ≤ WINDOW_THREADS }
     requires seats { length parts.now.cores ≤ length parts.now.kernel.seats }
@@ -150,6 +152,7 @@ fn core_ends(alloc: Global, parts: &Parts) -> Result<ThreadEnds, AllocError>
     Ok(ThreadEnds::new(ends))
 }
 
+/// The end of a run: all threads, and how many frames are free and key words left.
 fn machine_end(alloc: Global, parts: &Parts) -> Result<EndState, AllocError>
     requires few { length parts.now.cores ≤ WINDOW_THREADS }
     requires seats { length parts.now.cores ≤ length parts.now.kernel.seats }
@@ -169,7 +172,7 @@ impl Machine {
     /// # Errors
     ///
     /// Want of memory alone.
-    #[tactic(auto, using(crate::proofs::Ending::few_cores, crate::proofs::Ending::seats_there, crate::proofs::Ending::end_is))]
+    #[tactic(auto, using(crate::proofs::Ending::few_cores))]
     pub fn end(&self, alloc: Global) -> Result<EndState, AllocError>
         ensures { IfOk result (λ end. (state : State) → IsMachineOf self.now state → end ≡ end_of state) }
     {
