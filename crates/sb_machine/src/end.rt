@@ -3,7 +3,6 @@
 ghost use Rattle.std.specs.Prelude.{◌≡◌, ◌<◌, ◌≤◌, IfOk, length};
 ghost use Rattle.sb_abi.specs.declared.space.TheConstants.{WINDOW_THREADS};
 ghost use Rattle.sb_trace.specs.End.{end_of};
-ghost use Rattle.sb_trace.specs.KernelCall.{entry_regs};
 ghost use Rattle.sb_trace.specs.State.{State};
 ghost use Rattle.sb_machine.specs.End.{is_entering, stack_number, refusal_status, decided_regs, plain_regs, plain_view, handler_shown, core_end, core_ends, machine_end};
 ghost use Rattle.sb_machine.specs.StandsFor.{IsMachineOf};
@@ -16,8 +15,8 @@ use sb_abi::{
     FIRST_STACK_TOP, STACK_DISTANCE, STACK_OFFSET, STATUS_POOL_EMPTY, STATUS_WRONG_KEY, TEST_MASK,
 };
 use sb_insn::Regs;
-use sb_insn::registers::{R9, R10, RAX, RCX, RSP};
-use sb_state::{refusal_regs, zero_flags};
+use sb_insn::registers::{R9, R10, RSP};
+use sb_state::{entry_regs, refusal_regs};
 use sb_trace::{EndState, ThreadEnd, ThreadEnds};
 use std::alloc::{AllocError, Global};
 
@@ -56,29 +55,12 @@ fn refusal_status(phase: u8, regs: &Regs) -> CallStatus
     }
 }
 
-/// The registers of a call that is entered: the thread is at the handler, on the stack of this number.
-#[tactic(auto, unfolding(sb_trace::specs::KernelCall::entry_regs))]
-fn entry_regs(regs: &Regs, stack: u8, handler: u64) -> Regs
-    ensures { result ≡ entry_regs regs.now stack handler }
-{
-    let mut general = regs.general;
-    general[RSP] = FIRST_STACK_TOP + u64::from(stack) * STACK_DISTANCE;
-    general[RAX] = 0;
-    general[RCX] = 0;
-    general[R10] = 0;
-    Regs {
-        general,
-        rip: handler,
-        flags: zero_flags(),
-    }
-}
-
 /// The registers of a decided call as the plain machine has them, by those at a phase of the landing.
 fn decided_regs(phase: u8, regs: &Regs, handler: u64) -> Regs
     ensures { result ≡ decided_regs phase regs.now handler }
 {
     if is_entering(phase) {
-        entry_regs(regs, stack_number(phase, regs), handler)
+        entry_regs(regs, u32::from(stack_number(phase, regs)), handler)
     } else {
         refusal_regs(regs, refusal_status(phase, regs))
     }

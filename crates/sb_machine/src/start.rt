@@ -4,39 +4,21 @@ ghost use Rattle.std.specs.Prelude.{ℕ, ◌≡◌, ◌≢◌, ◌<◌, ◌≤�
 ghost use Rattle.sb_abi.specs.declared.space.TheConstants.{WINDOW_THREADS};
 ghost use Rattle.sb_root.specs.Root.{eptp_list_frame};
 ghost use Rattle.sb_root.specs.Standing.{Stands};
-ghost use Rattle.sb_state.specs.Start.{start_registers};
 ghost use Rattle.sb_load.specs.FirstState.{first_state};
 ghost use Rattle.sb_machine.specs.StandsFor.{IsMachineOf};
 ghost use Rattle.sb_machine.specs.Start.{first_core, first_cores};
 
 use crate::parts::Parts;
 use crate::processor::{Core, CoreState};
-use sb_abi::{FIRST_ROOT, STACKS_ADDRESS, THREAD_DISTANCE};
+use sb_abi::FIRST_ROOT;
 use sb_bundle::CoreStart;
 use sb_frames::FrameBook;
-use sb_insn::registers::{RDI, RSP};
-use sb_insn::{Flags, Regs};
 use sb_load::Loaded;
 use sb_memory::{Memory, PAGE_SIZE};
 use sb_root::RootKernel;
-use sb_state::EndKind;
+use sb_state::{EndKind, start_registers};
 use sb_sub::SubKernel;
 use std::alloc::{AllocError, Global};
-
-/// The registers of a thread at its start: RSP is the end of its stack, RDI its number.
-#[tactic(auto, unfolding(sb_state::specs::Start::start_registers))]
-fn start_registers(thread: u8, address: u64) -> Regs
-    ensures { result ≡ start_registers thread address }
-{
-    let mut general = [0u64; 16];
-    general[RSP] = STACKS_ADDRESS + (u64::from(thread) + 1) * THREAD_DISTANCE;
-    general[RDI] = u64::from(thread);
-    Regs {
-        general,
-        rip: address,
-        flags: Flags::CLEAR,
-    }
-}
 
 /// The core of a thread at its start.
 #[tactic(auto, using(crate::proofs::Begun::list_word, crate::proofs::Begun::list_is))]
@@ -48,7 +30,7 @@ fn first_core(memory: &Memory, root: &RootKernel, thread: u8, start: &CoreStart)
 {
     let list = root.list_frame(thread);
     let state = CoreState {
-        regs: start_registers(thread, start.entry),
+        regs: start_registers(u32::from(thread), start.entry),
         eptp: memory.word(list.word(0)),
         cr3: PAGE_SIZE * (u64::from(FIRST_ROOT) + u64::from(start.process)),
         list,

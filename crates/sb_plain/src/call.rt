@@ -6,15 +6,15 @@ ghost use Rattle.std.specs.Prelude.{◌≡◌, ◌<◌, ◌≤◌, ◌^◌};
 ghost use Rattle.sb_trace.specs.declared.event.Event.TheVariants.{Entered};
 ghost use Rattle.sb_abi.specs.Numbers.{status_number};
 ghost use Rattle.sb_state.specs.State.{thread_at};
-ghost use Rattle.sb_trace.specs.KernelCall.{binding_with, pool_word, refusal_outcome, refusal_or_fault, return_outcome, entry_regs, lowest_bit, state_at_handler, entry_outcome, call_outcome, kernel_call};
+ghost use Rattle.sb_trace.specs.KernelCall.{binding_with, pool_word, refusal_outcome, refusal_or_fault, return_outcome, lowest_bit, state_at_handler, entry_outcome, call_outcome, kernel_call};
 
 use crate::fault::fault;
 use crate::server::{handler_of, pool_word, set_pool_word};
-use sb_abi::{CallStatus, FIRST_STACK_TOP, RETURN_ADDRESS, STACK_DISTANCE};
+use sb_abi::{CallStatus, RETURN_ADDRESS};
 use sb_exec::FaultKind;
 use sb_insn::Regs;
-use sb_insn::registers::{R10, RAX, RCX, RSI, RSP};
-use sb_state::{Binding, PlainState, eax, ecx, refusal_regs, zero_flags};
+use sb_insn::registers::RSI;
+use sb_state::{Binding, PlainState, eax, ecx, entry_regs, refusal_regs};
 use sb_trace::Event;
 
 // ---- refusals and ways home
@@ -60,23 +60,6 @@ fn return_home(state: &mut PlainState, core: u8) -> Event
 }
 
 // ---- entry
-
-#[tactic(auto, unfolding(sb_trace::specs::KernelCall::entry_regs))]
-fn entry_regs(regs: &Regs, stack: u32, handler: u64) -> Regs
-    requires { stack < 64 }
-    ensures { result ≡ entry_regs regs.now stack handler }
-{
-    let mut general = regs.general;
-    general[RSP] = FIRST_STACK_TOP + u64::from(stack) * STACK_DISTANCE;
-    general[RAX] = 0;
-    general[RCX] = 0;
-    general[R10] = 0;
-    Regs {
-        general,
-        rip: handler,
-        flags: zero_flags(),
-    }
-}
 
 /// The number of the lowest bit that is set.
 #[tactic(auto, using(crate::proofs::Bits::lowest_value))]

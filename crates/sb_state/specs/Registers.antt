@@ -1,5 +1,6 @@
 -- Registers by name (SDM volume 2, section 2.2.1), and the values that the kernel puts into them.
-use Rattle.std.specs.Prelude.{ℕ, ◌%◌, ◌^◌, true, false, slice_index, slice_set}
+use Rattle.std.specs.Prelude.{ℕ, ◌+◌, ◌*◌, ◌%◌, ◌^◌, true, false, slice_index, slice_set}
+use Rattle.sb_abi.specs.declared.space.TheConstants.{FIRST_STACK_TOP, STACK_DISTANCE}
 use Rattle.sb_abi.specs.declared.trampoline.TheConstants.{RETURN_ADDRESS}
 use Rattle.sb_insn.specs.declared.registers.Flags.{Flags}
 use Rattle.sb_insn.specs.declared.registers.Regs.{Regs}
@@ -33,5 +34,14 @@ unfoldable pub refusal_regs : Regs → ℕ → Regs
 refusal_regs regs status = record {
   general = slice_set (slice_set (slice_set (slice_set regs.general 9 status) 0 0) 1 0) 10 0;
   rip = RETURN_ADDRESS;
+  flags = zero_flags;
+}
+
+-- the registers of a call that is entered: RSP is the top word of the server stack of this number, RAX, RCX and R10 are 0, and the
+-- thread is at the handler
+unfoldable pub entry_regs : Regs → ℕ → ℕ → Regs
+entry_regs regs stack handler = record {
+  general = slice_set (slice_set (slice_set (slice_set regs.general 4 (FIRST_STACK_TOP + stack * STACK_DISTANCE)) 0 0) 1 0) 10 0;
+  rip = handler;
   flags = zero_flags;
 }

@@ -46,7 +46,7 @@ pub use laws::stores_change_what_they_reach;
 pub use page::{Mode, Page, PageBytes, PageName, SeenPage};
 pub use plain_state::PlainState;
 pub use process::Process;
-pub use registers::{eax, ecx, refusal_regs, zero_flags};
+pub use registers::{eax, ecx, entry_regs, refusal_regs, start_registers, zero_flags};
 pub use sb_pages::{PAGE_SIZE, Pages, put_words, zero_bytes};
 pub use start_bytes::{home_record, home_trampoline, page_of, server_trampoline};
 pub use state::{Binding, Decision, Flight, Registration, Thread};

@@ -8,7 +8,7 @@ use std::str::from_utf8_unchecked;
 
 /// The digit of a number below 16, in ASCII.
 #[inline(always)]
-fn digit_glyph(digit: u8) -> u8
+pub fn digit_glyph(digit: u8) -> u8
     requires { digit < 16 }
     ensures { result ≡ digit_glyph false digit }
 {
@@ -32,7 +32,7 @@ pub fn push_hex_digit(out: &mut String, digit: u8) -> Result<(), AllocError>
 /// Writes the digits of a number at the end of a buffer, and returns where they start.
 #[inline]
 #[tactic(auto, using(crate::proofs::Digits::front_written, crate::proofs::Digits::digit_written, crate::proofs::Digits::set_in_front))]
-fn write_digits(value: u64, buffer: &mut [u8; 64]) -> usize
+pub fn write_digits(value: u64, buffer: &mut [u8; 64]) -> usize
     ensures within { result ≤ 64 }
     ensures written { drop result buffer.new ≡ digits 16 false value }
 {

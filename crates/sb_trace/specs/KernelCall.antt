@@ -1,9 +1,8 @@
 -- A call or a return through VMFUNC as one step of a kernel (docs/FORMATS.md, "A call in one step").
-use Rattle.std.specs.Prelude.{ℕ, ◌+◌, ◌-◌, ◌*◌, ◌^◌, ◌==◌, Option, Some, None, if◌then◌else◌, slice_set}
+use Rattle.std.specs.Prelude.{ℕ, ◌-◌, ◌^◌, ◌==◌, Option, Some, None, if◌then◌else◌}
 use Rattle.std.specs.Int.{w64, trailing_zeros}
 use Rattle.sb_insn.specs.declared.registers.Regs.{Regs}
 use Rattle.sb_abi.specs.declared.call.CallStatus.TheVariants as status
-use Rattle.sb_abi.specs.declared.space.TheConstants.{FIRST_STACK_TOP, STACK_DISTANCE}
 use Rattle.sb_abi.specs.Numbers.{status_number}
 use Rattle.sb_bus.specs.declared.stop.FaultKind.TheVariants as kind
 use Rattle.sb_trace.specs.declared.event.Event.{Event}
@@ -15,8 +14,8 @@ use Rattle.sb_state.specs.declared.state.Thread.{Thread}
 use Rattle.sb_state.specs.State.{State, thread_at, with_view, registration_at}
 use Rattle.sb_state.specs.PageWords.{word_in, with_word}
 pub use Rattle.sb_state.specs.Bindings.{binding_with}
-use Rattle.sb_state.specs.Registers.{eax, ecx, rsi, zero_flags}
-unfoldable pub use Rattle.sb_state.specs.Registers.{refusal_regs}
+use Rattle.sb_state.specs.Registers.{eax, ecx, rsi}
+unfoldable pub use Rattle.sb_state.specs.Registers.{entry_regs, refusal_regs}
 use Rattle.sb_trace.specs.Home.{Outcome, home_address, fault_outcome}
 
 -- ---- what a call looks at
@@ -51,14 +50,6 @@ return_outcome state core thread =
 -- the lowest bit of a word that is set
 abbrev pub lowest_bit : ℕ → ℕ
 lowest_bit word = trailing_zeros w64 word
-
--- RSP is the top word of the server stack of this number, and RAX, RCX and R10 are 0
-unfoldable pub entry_regs : Regs → ℕ → ℕ → Regs
-entry_regs regs stack handler = record {
-  general = slice_set (slice_set (slice_set (slice_set regs.general 4 (FIRST_STACK_TOP + stack * STACK_DISTANCE)) 0 0) 1 0) 10 0;
-  rip = handler;
-  flags = zero_flags;
-}
 
 -- the server's lowest free stack is taken, and the thread stands at the handler in the view of the binding
 abbrev pub state_at_handler : State → ℕ → Thread → Binding → ℕ → State

@@ -51,7 +51,7 @@ const THROUGH_MEMORY: [u8; 21] = [
 const USAGE: &str = "usage: skycores run --steps N --block B [--dump]\n";
 
 /// How often a call that waits for another looks for it.
-const ROUNDS: u32 = 10_000_000;
+const ROUNDS: u32 = 4_000_000_000;
 
 /// A gate that holds the first call for one core until a turn of another core has begun.
 #[derive(Drop)]

@@ -1,29 +1,12 @@
 //! The threads at the start.
 
 ghost use Rattle.std.specs.Prelude.{◌≡◌, ◌^◌, ◌<◌, None, IfOk, length, map, replicate};
-ghost use Rattle.sb_state.specs.Start.{start_registers, start_threads};
+ghost use Rattle.sb_state.specs.Start.{start_threads};
 ghost use Rattle.sb_plain.specs.Start.{entry_of};
 
-use sb_abi::{STACKS_ADDRESS, THREAD_DISTANCE};
 use sb_bundle::CoreStart;
-use sb_insn::registers::{RDI, RSP};
-use sb_insn::{Flags, Regs};
-use sb_state::{Bindings, EndKind, Flight, Thread};
+use sb_state::{Bindings, EndKind, Flight, Thread, start_registers};
 use std::alloc::{AllocError, Global};
-
-#[tactic(auto, unfolding(sb_state::specs::Start::start_registers))]
-fn start_registers(thread: u32, address: u64) -> Regs
-    ensures { result ≡ start_registers thread address }
-{
-    let mut general = [0u64; 16];
-    general[RSP] = STACKS_ADDRESS + (u64::from(thread) + 1) * THREAD_DISTANCE;
-    general[RDI] = u64::from(thread);
-    Regs {
-        general,
-        rip: address,
-        flags: Flags::CLEAR,
-    }
-}
 
 /// The threads at the start, one for each core.
 pub fn start_threads(alloc: Global, cores: &[CoreStart]) -> Result<Vec<Thread>, AllocError>
