@@ -6,3 +6,7 @@ pub mod StandsFor
 pub mod Start
 pub mod End
 pub mod Laws
+pub mod Counts
+pub mod Ran
+pub mod Dump
+pub mod Translations

@@ -1,9 +1,13 @@
 //! The machine.
 
-ghost use Rattle.std.specs.Prelude.{◌≡◌, ◌<◌, IfOk, length};
+ghost use Rattle.std.specs.Prelude.{◌≡◌, ◌<◌, ◌↔◌, [], IfOk, IsFalse, length};
 ghost use Rattle.sb_load.specs.FirstState.{first_state};
-ghost use Rattle.sb_trace.specs.State.{State};
+ghost use Rattle.sb_memory.specs.Physical.{frame_count};
+ghost use Rattle.sb_trace.specs.State.{State, thread_at};
+ghost use Rattle.sb_machine.specs.Counts.{CountsLine};
 ghost use Rattle.sb_machine.specs.Laws.{Follows};
+ghost use Rattle.sb_machine.specs.Machine.{core_at};
+ghost use Rattle.sb_machine.specs.Ran.{HasRun};
 ghost use Rattle.sb_machine.specs.StandsFor.{IsMachineOf};
 ghost use Rattle.sb_machine.specs.Written.{Steps};
 
@@ -12,6 +16,7 @@ use crate::parts::Parts;
 use crate::start::first_parts;
 use crate::step::step;
 use sb_load::Loaded;
+use sb_state::EndKind;
 use sb_trace::Line;
 use std::alloc::{AllocError, Global};
 use std::marker::Model;
@@ -36,13 +41,14 @@ impl Model for Machine {
 }
 
 impl Machine {
-    /// The machine at the start of a loaded bundle: it stands for the start of the plain machine, and no core has made a line.
+    /// The machine at the start of a loaded bundle: it stands for the start of the plain machine, has the bundle's frames, and no
+    /// core has made a line.
     ///
     /// # Errors
     ///
     /// Want of memory alone.
     pub fn new(alloc: Global, loaded: &Loaded) -> Result<Machine, AllocError>
-        ensures { IfOk result (λ machine. IsMachineOf machine (first_state loaded.now)) }
+        ensures { IfOk result (λ machine. HasRun machine loaded.now [] [] (first_state loaded.now)) }
     {
         let parts = first_parts(alloc, loaded)?;
         Ok(Machine { parts })
@@ -50,17 +56,31 @@ impl Machine {
 
     /// One step of a core: its line. It takes no memory.
     ///
-    /// The step is the written one, through the walks of the core's own words, and counts one line. From each state for which the
-    /// machine stands the plain machine has a step with this line, and the machine stands for the state after it.
+    /// The step is the written one, through the walks of the core's own words, and counts one line of its core. From each state
+    /// for which the machine stands the plain machine has a step with this line, of which the laws hold (docs/LAWS.md), and the
+    /// machine stands for the state after it.
     pub fn step(&mut self, core: u8) -> Line
         requires { core < length self.old.cores }
         ensures core { result.core ≡ core }
         ensures step { Steps self.old core result.event self.new }
         ensures plain { (state : State) → IsMachineOf self.old state → Follows self.new state core result.event }
         ensures stands { (state : State) × IsMachineOf self.new state }
+        ensures counts { CountsLine self.old core self.new }
+        ensures cores { length self.new.cores ≡ length self.old.cores }
+        ensures frames { frame_count self.new.memory ≡ frame_count self.old.memory }
     {
         steps_are_plain();
         let event = step(&mut self.parts, core);
         Line { core, event }
+    }
+
+    /// Whether the thread of a core has ended, by itself or by a fault.
+    pub fn ended(&self, core: u8) -> bool
+        requires { core < length self.now.cores }
+        ensures ended { IsFalse result ↔ ((core_at self.now core).end ≡ EndKind.Running) }
+        ensures plain { (state : State) → IsMachineOf self.now state
+            → IsFalse result ↔ ((thread_at state core).state ≡ EndKind.Running) }
+    {
+        !matches!(self.parts.core(core).end, EndKind::Running)
     }
 }
