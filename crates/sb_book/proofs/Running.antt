@@ -3,21 +3,20 @@ use Rattle.std.proofs.Common.{◌≡◌, inl, inr, ℕ, zero, suc, ◌+◌, ◌<
 use Rattle.std.specs.Prelude.{slice_get, unwrap_or}
 use Rattle.sb_load.specs.Loading.{Load}
 use Rattle.sb_state.specs.declared.end_kind.EndKind.TheVariants.{Running}
-use Rattle.sb_state.specs.declared.state.Thread.{Thread}
-use Rattle.sb_state.specs.State.{State, thread_at, no_thread}
+use Rattle.sb_machine.specs.Machine.{Machine, core_at, no_core}
+use Rattle.sb_machine.specs.declared.processor.Core.{Core}
 use Rattle.sb_book.specs.History.{History, IsRunning, IsOneStep, IsDone, IsOfTask}
 
 -- a thread that runs is there
-there : (threads : List Thread) (core : ℕ) → (unwrap_or (slice_get threads core) no_thread).state ≡ Running
-    → core < length threads
-unfolding no_thread
+there : (cores : List Core) (core : ℕ) → (unwrap_or (slice_get cores core) no_core).end ≡ Running → core < length cores
+unfolding no_core
 there [] core running = absurd cc
-there (first ∷ threads) zero running = omega arith
-there (first ∷ threads) (suc core) running = omega (arith, there threads core running)
+there (first ∷ cores) zero running = omega arith
+there (first ∷ cores) (suc core) running = omega (arith, there cores core running)
 
-running_there : (state : State) (core : ℕ) → IsRunning state core → core < length state.threads
-unfolding thread_at
-running_there state core running = there state.threads core running
+pub running_there : (machine : Machine) (core : ℕ) → IsRunning machine core → core < length machine.cores
+unfolding core_at
+running_there machine core running = there machine.cores core running
 
 pub not_done : (history : History) (core : ℕ) → IsRunning history.machine core → 0 < history.room → ¬ IsDone history
 not_done history core running room (inl ended) = ended core (running_there history.machine core running) running

@@ -2,17 +2,18 @@
 use Rattle.std.specs.Prelude.{◌≡◌, ◌≢◌, ◌⊎◌, ℕ, ◌+◌, ◌<◌, List, [], ◌∷◌, ◌++◌, length, All}
 use Rattle.sb_load.specs.Loading.{Load}
 use Rattle.sb_load.specs.FirstState.{first_state}
+use Rattle.sb_machine.specs.Machine.{Machine, core_at}
+use Rattle.sb_machine.specs.Ran.{HasRun}
+use Rattle.sb_machine.specs.Written.{Steps}
+use Rattle.sb_state.specs.State.{State}
 use Rattle.sb_state.specs.declared.end_kind.EndKind.TheVariants.{Running}
-use Rattle.sb_state.specs.State.{State, thread_at}
 use Rattle.sb_trace.specs.declared.event.Event.TheVariants.{Idle}
 use Rattle.sb_trace.specs.declared.event.Line.{Line}
-use Rattle.sb_trace.specs.Run.{RunBy}
-use Rattle.sb_trace.specs.Step.{Steps}
 
 pub record History : Type 0 where
   -- what the machine started from
   pub load : Load
-  pub machine : State
+  pub machine : Machine
   -- the core of each step
   pub journal : List ℕ
   -- what each step said
@@ -21,26 +22,32 @@ pub record History : Type 0 where
   pub room : ℕ
 
 -- the thread of a core goes on
-abbrev pub IsRunning : State → ℕ → Type 0
-IsRunning state core = (thread_at state core).state ≡ Running
+abbrev pub IsRunning : Machine → ℕ → Type 0
+IsRunning machine core = (core_at machine core).end ≡ Running
 
 -- each thread has ended
-abbrev pub AllEnded : State → Type 0
-AllEnded state = (core : ℕ) → core < length state.threads → ¬ IsRunning state core
+abbrev pub AllEnded : Machine → Type 0
+AllEnded machine = (core : ℕ) → core < length machine.cores → ¬ IsRunning machine core
 
 -- each line is one of a thread that had not ended
 abbrev pub NoneIdle : List Line → Type 0
 NoneIdle lines = All (λ line. line.event ≢ Idle) lines
 
--- the machine is that of what was loaded, run under the journal, with these lines
+-- The machine has made the run of what was loaded under the journal, with these lines: it stands for the last state of the plain
+-- machine's run.
 pub record IsRun (history : History) : Type 0 where
-  pub run : RunBy Steps (first_state history.load) history.journal history.lines history.machine
+  pub end : State
+  pub ran : HasRun history.machine history.load history.journal history.lines end
   pub busy : NoneIdle history.lines
-  pub cores : length history.machine.threads ≡ length history.load.bundle.cores
+  pub cores : length history.machine.cores ≡ length history.load.bundle.cores
 
 -- before the first step
-abbrev pub empty_history : Load → ℕ → History
-empty_history load room = record { load = load; machine = first_state load; journal = []; lines = []; room = room }
+pub record IsBegun (load : Load) (room : ℕ) (history : History) : Type 0 where
+  pub load_is : history.load ≡ load
+  pub started : HasRun history.machine load [] [] (first_state load)
+  pub journal : history.journal ≡ []
+  pub lines : history.lines ≡ []
+  pub room_is : history.room ≡ room
 
 -- one step of a core, with its entry and its line
 pub record IsOneStep (old : History) (core : ℕ) (new : History) : Type 0 where
@@ -58,10 +65,10 @@ abbrev pub IsDone : History → Type 0
 IsDone history = AllEnded history.machine ⊎ (history.room ≡ 0)
 
 -- the lowest core whose thread goes on
-pub record IsLowest (state : State) (core : ℕ) : Type 0 where
-  pub inside : core < length state.threads
-  pub running : IsRunning state core
-  pub lowest : (before : ℕ) → before < core → ¬ IsRunning state before
+pub record IsLowest (machine : Machine) (core : ℕ) : Type 0 where
+  pub inside : core < length machine.cores
+  pub running : IsRunning machine core
+  pub lowest : (before : ℕ) → before < core → ¬ IsRunning machine before
 
 -- the core whose step a worker of this core makes: its own while its thread runs, else the lowest that runs
 pub record IsNext (history : History) (core next : ℕ) : Type 0 where

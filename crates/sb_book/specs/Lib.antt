@@ -2,6 +2,8 @@ pub use Rattle.sb_load.specs.Loading
 pub use Rattle.sb_load.specs.FirstState
 pub use Rattle.sb_state.specs.State
 pub use Rattle.sb_trace.specs.Run
-pub use Rattle.sb_trace.specs.Step
+pub use Rattle.sb_machine.specs.Machine
+pub use Rattle.sb_machine.specs.Ran
+pub use Rattle.sb_machine.specs.Written
 pub mod History
 pub mod Book

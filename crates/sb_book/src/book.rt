@@ -2,14 +2,14 @@
 
 ghost use Rattle.std.specs.Prelude.{◌≡◌, ℕ, ◌+◌, ◌-◌, ◌^◌, ◌<◌, ◌↔◌, true, false, length, IsFalse, IfOk, IfSome, IfNone};
 ghost use Rattle.sb_load.specs.Loading.{Load};
-ghost use Rattle.sb_book.specs.History.{empty_history, IsRunning, AllEnded, IsOneStep, IsDone, IsLowest, IsOfTask};
+ghost use Rattle.sb_book.specs.History.{IsBegun, IsRunning, AllEnded, IsOneStep, IsDone, IsLowest, IsOfTask};
 ghost use Rattle.sb_book.specs.Book.{IsBook, Turns, no_load};
 
 use crate::history::History;
 use crate::share::Share;
 use sb_bundle::Bundle;
 use sb_load::Loaded;
-use sb_plain::Plain;
+use sb_machine::Machine;
 use sb_trace::Line;
 use std::alloc::{AllocError, Global};
 use std::marker::{Brand, Model};
@@ -68,7 +68,7 @@ impl<E: Task, Z: Ledger> Book<E, Z> {
         requires task { (loaded ≡ E.load) × (room ≡ E.limit) }
         requires entries { (entries.name ≡ E.name) × (entries.parts ≡ E.parts) }
         requires stops { (stops.name ≡ Z.name) × (stops.parts ≡ Z.parts) }
-        ensures history { IfOk result (λ made. made.0.history ≡ empty_history loaded room) }
+        ensures history { IfOk result (λ made. IsBegun loaded room made.0.history) }
         ensures parts { IfOk result (λ made. (made.1.entries.parts ≡ E.parts) × (made.1.stops.parts ≡ Z.parts)) }
         ensures amounts { IfOk result (λ made. (made.1.entries.amount ≡ 0) × (made.1.stops.amount ≡ 0)) }
     {
@@ -88,8 +88,8 @@ impl<E: Task, Z: Ledger> Book<E, Z> {
         Ok((book, share))
     }
 
-    /// The machine and its journal, and what is known of a book: its lines are those of the machine's run under the journal, none
-    /// is `idle`, the shares' entries are the journal's, and a stop unit was given only where nothing is left to do.
+    /// The machine and its journal, and what is known of a book: its lines are those of the plain machine's run under the journal, none
+    /// is `idle`, the machine stands for the last state of that run, the shares' entries are the journal's, and a stop unit was given only where nothing is left to do.
     pub fn history(&self) -> &History
         ensures history { result.now ≡ self.now.history }
         ensures known { IsBook self.now }
@@ -115,7 +115,7 @@ impl<E: Task, Z: Ledger> Book<E, Z> {
     }
 
     /// The machine.
-    pub fn machine(&self) -> &Plain
+    pub fn machine(&self) -> &Machine
         ensures { result.now ≡ self.now.history.machine }
     {
         self.history.machine()
@@ -144,7 +144,7 @@ impl<E: Task, Z: Ledger> Book<E, Z> {
 
     /// The number of cores.
     pub fn cores(&self) -> u8
-        ensures { result ≡ length self.now.history.machine.threads }
+        ensures { result ≡ length self.now.history.machine.cores }
     {
         self.history.cores()
     }

@@ -1,10 +1,10 @@
 //! A machine with its journal.
 
 ghost use Rattle.std.specs.Prelude.{◌≡◌, ◌+◌, ◌<◌, ◌≤◌, ◌↔◌, ◌∷◌, ◌++◌, [], length, IsTrue, IsFalse, vec_len, vec_capacity, IfOk, IfSome, IfNone};
-ghost use Rattle.sb_book.specs.History.{empty_history, IsRunning, AllEnded, IsRun, IsOneStep, IsDone, IsLowest, IsNext};
+ghost use Rattle.sb_book.specs.History.{IsBegun, IsRunning, AllEnded, IsRun, IsOneStep, IsDone, IsLowest, IsNext};
 
 use sb_load::Loaded;
-use sb_plain::Plain;
+use sb_machine::Machine;
 use sb_trace::Line;
 use std::alloc::{AllocError, Global};
 use std::marker::Model;
@@ -13,14 +13,14 @@ use std::marker::Model;
 #[derive(Drop)]
 pub struct History {
     loaded: Loaded,
-    machine: Plain,
+    machine: Machine,
     journal: Vec<u8>,
     lines: Vec<Line>,
     room: u32,
 }
 
 impl Model for History {
-    ghost use Rattle.std.specs.Prelude.{◌+◌, ◌≤◌, vec_len, vec_capacity};
+    ghost use Rattle.std.specs.Prelude.{◌+◌, ◌≤◌, ◌<◌, ◌^◌, length, vec_len, vec_capacity};
     ghost use Rattle.sb_book.specs.History.{History, IsRun};
 
     ghost Value = { History };
@@ -28,7 +28,8 @@ impl Model for History {
     ghost view = { λ h. record { load = h.loaded; machine = h.machine; journal = h.journal.items; lines = h.lines.items; room = h.room } };
 
     ghost invariant = { λ h. IsRun (record { load = h.loaded; machine = h.machine; journal = h.journal.items; lines = h.lines.items; room = h.room })
-        × (vec_len h.journal + h.room ≤ vec_capacity h.journal) × (vec_len h.lines + h.room ≤ vec_capacity h.lines) };
+        × (vec_len h.journal + h.room ≤ vec_capacity h.journal) × (vec_len h.lines + h.room ≤ vec_capacity h.lines)
+        × (length h.journal.items + h.room < 2 ^ 32) };
 }
 
 /// Appends a value for which there is room.
@@ -46,9 +47,9 @@ impl History {
     /// The machine at its start, with room for so many steps.
     #[tactic(auto, using(crate::proofs::Runs::cores_started))]
     pub fn new(alloc: Global, loaded: Loaded, room: u32) -> Result<History, AllocError>
-        ensures { IfOk result (λ history. history ≡ empty_history loaded room) }
+        ensures { IfOk result (λ history. IsBegun loaded room history) }
     {
-        let machine = Plain::new(alloc, &loaded)?;
+        let machine = Machine::new(alloc, &loaded)?;
         let journal = Vec::with_capacity(alloc, room as usize)?;
         let lines = Vec::with_capacity(alloc, room as usize)?;
         Ok(History {
@@ -68,7 +69,7 @@ impl History {
     }
 
     /// The machine.
-    pub fn machine(&self) -> &Plain
+    pub fn machine(&self) -> &Machine
         ensures { result.now ≡ self.now.machine }
     {
         &self.machine
@@ -81,7 +82,8 @@ impl History {
         &self.journal
     }
 
-    /// The line of each step: these are the lines of the machine's run under the journal, and none is `idle`.
+    /// The line of each step: these are the lines of the plain machine's run under the journal, and none is `idle`; the machine
+    /// stands for the last state of that run.
     pub fn lines(&self) -> &[Line]
         ensures lines { result.now ≡ self.now.lines }
         ensures run { IsRun self.now }
@@ -89,12 +91,13 @@ impl History {
         &self.lines
     }
 
-    /// The journal and the lines, for which no memory is taken.
-    pub fn into_parts(self) -> (Vec<u8>, Vec<Line>)
+    /// The journal, the lines and the machine, for which no memory is taken.
+    pub fn into_parts(self) -> (Vec<u8>, Vec<Line>, Machine)
         ensures journal { result.0.items ≡ self.journal }
         ensures lines { result.1.items ≡ self.lines }
+        ensures machine { result.2 ≡ self.machine }
     {
-        (self.journal, self.lines)
+        (self.journal, self.lines, self.machine)
     }
 
     /// How many further steps there is room for.
@@ -106,17 +109,17 @@ impl History {
 
     /// The number of cores.
     pub fn cores(&self) -> u8
-        ensures cores { result ≡ length self.now.machine.threads }
+        ensures cores { result ≡ length self.now.machine.cores }
         ensures bundle { result ≡ length self.now.load.bundle.cores }
     {
         self.loaded.bundle().cores.items().len() as u8
     }
 
-    /// Whether the thread of a core has ended.
+    /// Whether the thread of a core has ended. A core that has none is one whose thread has ended.
     pub fn ended(&self, core: u8) -> bool
         ensures { IsFalse result ↔ IsRunning self.now.machine core }
     {
-        self.machine.ended(core)
+        core >= self.cores() || self.machine.ended(core)
     }
 
     /// The lowest core whose thread goes on.

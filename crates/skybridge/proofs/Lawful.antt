@@ -1,14 +1,22 @@
 -- The laws hold of the run behind each report and each summary.
-use Rattle.std.proofs.Common.{ℕ, List}
+use Rattle.std.proofs.Common.{ℕ, List, refl}
 use Rattle.sb_bundle.specs.declared.bundle.Bundle.{Bundle}
 use Rattle.sb_load.specs.FirstState.{first_state}
+use Rattle.sb_shows.specs.Dump.{IsDumpOf}
+use Rattle.sb_shows.proofs.Dumped.{dumps_show}
+use Rattle.sb_shows.proofs.Fetched.{pattern_at_two_places}
+use Rattle.sb_state.specs.State.{State}
+use Rattle.sb_trace.specs.End.{end_of}
+use Rattle.sb_trace.specs.Report.{report_text}
+use Rattle.sb_trace.specs.Sound.{IsSound}
+use Rattle.sb_trace.proofs.SoundRuns.{runs_keep_sound}
 use Rattle.sb_trace.proofs.Texts.{texts_are_of_lawful_runs, reports_are_of_lawful_runs}
 use Rattle.sb_plain.proofs.FirstSound.{first_sound}
 use Rattle.skybridge.specs.declared.words.BundleCommand.{BundleCommand}
-use Rattle.skybridge.specs.declared.words.BundleCommand.TheVariants.{Replay, Plain, Check, Rewrite}
+use Rattle.skybridge.specs.declared.words.BundleCommand.TheVariants.{Replay, ReplayDump, Plain, Check, Rewrite}
 use Rattle.sb_generator.specs.Summary.{summary_text}
-use Rattle.skybridge.specs.Output.{IsReport, IsSummary, IsOutput}
-use Rattle.skybridge.specs.Lawful.{IsLawfulReport, IsLawfulOutput, IsLawfulSummary}
+use Rattle.skybridge.specs.Output.{IsReport, IsReportWithDump, IsSummary, IsOutput}
+use Rattle.skybridge.specs.Lawful.{SwitchesAtTwoPlaces, IsLawfulReport, IsLawfulReportWithDump, IsLawfulOutput, IsLawfulSummary}
 
 lawful_report : (bundle : Bundle) (text : List ℕ) → IsReport bundle text → IsLawfulReport bundle text
 lawful_report bundle text (load, loads, is) = (
@@ -17,10 +25,27 @@ lawful_report bundle text (load, loads, is) = (
   reports_are_of_lawful_runs (first_state load) load.bundle.schedule text (first_sound load loads.1) is,
 )
 
+-- a dump of a sound state has VMFUNC's bytes for fetch at two places alone, whoever reads it
+two_places : (dump : List ℕ) (end : State) (frames : ℕ) → IsSound end → IsDumpOf dump end frames → SwitchesAtTwoPlaces dump end
+two_places dump end frames sound shows memory cores core_count frames' thread index address is view fetches =
+    pattern_at_two_places end memory cores thread index address sound
+    (dumps_show dump end memory cores core_count frames frames' shows is) view fetches
+
+lawful_report_with_dump : (bundle : Bundle) (text : List ℕ) → IsReportWithDump bundle text → IsLawfulReportWithDump bundle text
+lawful_report_with_dump bundle text both =
+    let first = first_sound both.load both.loads.1 in
+    let sound = runs_keep_sound (first_state both.load) both.load.bundle.schedule both.lines both.end first both.runs in (
+      both,
+      lawful_report bundle (report_text both.lines (end_of both.end))
+          (both.load, both.loads, (both.lines, both.end, both.runs, refl)),
+      two_places both.dump both.end both.load.bundle.frames sound both.shows,
+    )
+
 pub lawful : (command : BundleCommand) (bundle : Bundle) (text : List ℕ) → IsOutput command bundle text
     → IsLawfulOutput command bundle text
 unfolding IsLawfulOutput
 lawful Replay bundle text report = lawful_report bundle text report
+lawful ReplayDump bundle text both = lawful_report_with_dump bundle text both
 lawful Plain bundle text report = lawful_report bundle text report
 lawful Check bundle text listing = listing
 lawful Rewrite bundle text listing = listing

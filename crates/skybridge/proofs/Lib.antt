@@ -1,7 +1,5 @@
-pub mod Parts
 pub mod Determined
-pub mod Apart
-pub mod Limit
 pub mod Lawful
-pub mod Numbers
 pub mod LineTexts
+pub mod Writing
+pub mod Keeping

@@ -1,78 +1,82 @@
 -- What the program writes.
-use Rattle.std.specs.Prelude.{◌≡◌, ℕ, List, [], ◌++◌, Option, Some, None, take, ⊤}
-use Rattle.sb_port.specs.Port.{Rose, Appended}
+use Rattle.std.specs.Prelude.{◌≡◌, ℕ, List, ◌++◌, Option, Ok, ⊤}
+use Rattle.sb_port.specs.Port.{Appended}
 use Rattle.sb_bundle.specs.declared.bundle.Bundle.{Bundle}
 use Rattle.sb_bundle.specs.Spelling.{spelling}
-use Rattle.sb_trace.specs.Report.{report_text}
 use Rattle.sb_bundle.specs.declared.refusal.BundleRefusal.{BundleRefusal}
 use Rattle.sb_load.specs.declared.refusal.LoadRefusal.{LoadRefusal}
+use Rattle.sb_load.specs.Loading.{Load, Loads}
+use Rattle.sb_load.specs.FirstState.{first_state}
+use Rattle.sb_input.specs.Told.{WholeTold, PartlyAppended, WritesLine}
+use Rattle.sb_input.specs.Input.{IsAccepted, IsNoBundle, IsNotLoadable}
+use Rattle.sb_input.specs.Lines.{bundle_line, load_line}
+use Rattle.sb_generator.specs.Generator.{generated}
+use Rattle.sb_generator.specs.Summary.{summary_text}
+use Rattle.sb_state.specs.State.{State}
+use Rattle.sb_trace.specs.declared.event.Line.{Line}
+use Rattle.sb_trace.specs.End.{end_of}
+use Rattle.sb_trace.specs.Report.{report_text}
+use Rattle.sb_trace.specs.Runs.{Runs}
+use Rattle.sb_shows.specs.Dump.{IsDumpOf}
 use Rattle.skybridge.specs.declared.words.Command.{Command}
 use Rattle.skybridge.specs.declared.words.Command.TheVariants.{OfBundle, Generate, GenerateBundle, Help}
 use Rattle.skybridge.specs.declared.words.BundleCommand.{BundleCommand}
-use Rattle.skybridge.specs.declared.words.BundleCommand.TheVariants.{Replay, Plain, Check, Rewrite}
+use Rattle.skybridge.specs.declared.words.BundleCommand.TheVariants.{Replay, ReplayDump, Plain, Check, Rewrite}
 use Rattle.skybridge.specs.Words.{AreWordsOf}
 use Rattle.skybridge.specs.Runs.{IsTextOfBundleRun}
-use Rattle.sb_generator.specs.Generator.{generated}
-use Rattle.sb_generator.specs.Summary.{summary_text}
 use Rattle.skybridge.specs.CommandText.{check_text, rewrite_text, IsCommandText}
-use Rattle.skybridge.specs.Lines.{bundle_line, load_line}
-use Rattle.skybridge.specs.Input.{IsAccepted, IsNoBundle, IsNotLoadable}
 
 -- The text is the report of the plain machine's run on the bundle's schedule.
 abbrev pub IsReport : Bundle → List ℕ → Type 0
 IsReport bundle text = IsTextOfBundleRun report_text bundle text
 
+-- The text is that report, and behind it a dump of so many frames as the bundle has, which shows the last state of the run.
+pub record IsReportWithDump (bundle : Bundle) (text : List ℕ) : Type 0 where
+  pub load : Load
+  pub loads : Loads bundle (Ok load)
+  pub lines : List Line
+  pub end : State
+  pub runs : Runs (first_state load) load.bundle.schedule lines end
+  pub dump : List ℕ
+  pub text_is : text ≡ report_text lines (end_of end) ++ dump
+  pub shows : IsDumpOf dump end load.bundle.frames
+
+-- two such texts of a bundle have the same report, and their dumps show the same state
+pub record HaveSameRun (bundle : Bundle) (text other : List ℕ) (one : IsReportWithDump bundle text)
+    (two : IsReportWithDump bundle other) : Type 0 where
+  pub lines : one.lines ≡ two.lines
+  pub end : one.end ≡ two.end
+
 -- The text is the summary of the plain machine's run of the generated bundle.
 abbrev pub IsSummary : ℕ → List ℕ → Type 0
 IsSummary number text = IsTextOfBundleRun (summary_text number) (generated number) text
 
--- ---- bytes that may be told
+-- ---- what each command writes
 
--- the bytes are told, and the claim holds of them
-abbrev pub IsTold : Option (List ℕ) → (List ℕ → Type 0) → Type 0
-IsTold None claim = ⊥
-IsTold (Some bytes) claim = claim bytes
-
--- if the bytes are told, the claim holds of them
-abbrev pub WhereTold : Option (List ℕ) → (List ℕ → Type 0) → Type 0
-WhereTold None claim = Unit {0}
-WhereTold (Some bytes) claim = claim bytes
-
--- a prefix of the text was appended
-abbrev pub PartlyAppended : Option (List ℕ) → Option (List ℕ) → List ℕ → Type 0
-PartlyAppended None held' text = Unit {0}
-PartlyAppended (Some held) held' text = (count : ℕ) × (held' ≡ Some (held ++ take count text))
-
--- a line was written as far as the sink took it, and whole where it counted no fault
-pub record WritesLine (held held' : Option (List ℕ)) (faults faults' : ℕ) (line : List ℕ) : Type 0 where
-  pub part : PartlyAppended held held' line
-  pub whole : ¬ Rose faults faults' → Appended held held' line
-
--- ---- the report
-
--- the bytes are an accepted bundle, which was read to its end
-abbrev pub WasRead : Option (List ℕ) → Bundle → List ℕ → Type 0
-WasRead left' bundle bytes = IsAccepted bytes bundle × (left' ≡ Some [])
-
--- an accepted bundle was read, and a text of this kind was appended to what the sink held
-abbrev pub ReportedAs : (Bundle → List ℕ → Type 0) → Option (List ℕ) → Option (List ℕ) → Option (List ℕ) → Option (List ℕ)
-    → Type 0
-ReportedAs IsText left left' held held' =
-    (bundle : Bundle) × (text : List ℕ) × WhereTold left (WasRead left' bundle) × IsText bundle text × Appended held held' text
-
--- what each command writes of a bundle
+-- of a bundle
 abbrev pub IsOutput : BundleCommand → Bundle → List ℕ → Type 0
 IsOutput Replay bundle text = IsReport bundle text
+IsOutput ReplayDump bundle text = IsReportWithDump bundle text
 IsOutput Plain bundle text = IsReport bundle text
 IsOutput Check bundle text = IsCommandText check_text bundle text
 IsOutput Rewrite bundle text = IsCommandText rewrite_text bundle text
 
--- what the other commands write; the help text is free
+-- of no bundle that is read; the help text is free
 abbrev pub IsMade : Command → List ℕ → Type 0
 IsMade (OfBundle command) text = ⊥
 IsMade (Generate number) text = IsSummary number text
 IsMade (GenerateBundle number) text = text ≡ spelling (generated number)
 IsMade Help text = ⊤
+
+-- an accepted bundle was read to its end, if the source tells its bytes
+abbrev pub WasRead : Bundle → Option (List ℕ) → Option (List ℕ) → Type 0
+WasRead bundle left left' = WholeTold left left' (λ bytes. IsAccepted bytes bundle)
+
+-- an accepted bundle was read, and a text of this kind was appended to what the sink held
+abbrev pub ReportedAs : (Bundle → List ℕ → Type 0) → Option (List ℕ) → Option (List ℕ) → Option (List ℕ) → Option (List ℕ)
+    → Type 0
+ReportedAs IsText left left' held held' =
+    (bundle : Bundle) × (text : List ℕ) × WasRead bundle left left' × IsText bundle text × Appended held held' text
 
 -- An accepted bundle was read, if the command reads one, and the command's text was appended.
 abbrev pub WroteOf : Command → Option (List ℕ) → Option (List ℕ) → Option (List ℕ) → Option (List ℕ) → Type 0
@@ -86,7 +90,7 @@ Wrote words left left' held held' = (command : Command) × AreWordsOf command wo
 -- the same with a prefix of the text
 abbrev pub PartlyReported : BundleCommand → Option (List ℕ) → Option (List ℕ) → Option (List ℕ) → Option (List ℕ) → Type 0
 PartlyReported command left left' held held' =
-    (bundle : Bundle) × (text : List ℕ) × WhereTold left (WasRead left' bundle) × IsOutput command bundle text
+    (bundle : Bundle) × (text : List ℕ) × WasRead bundle left left' × IsOutput command bundle text
     × PartlyAppended held held' text
 
 abbrev pub PartlyWroteOf : Command → Option (List ℕ) → Option (List ℕ) → Option (List ℕ) → Option (List ℕ) → Type 0
@@ -99,18 +103,14 @@ PartlyWrote words left left' held held' =
 
 -- ---- the refusals that name a place
 
--- the bytes, which were read to their end, are refused so
-abbrev pub WasRefused : Option (List ℕ) → (List ℕ → Type 0) → List ℕ → Type 0
-WasRefused left' claim bytes = claim bytes × (left' ≡ Some [])
-
 -- the input is no bundle, and the line of its refusal was written
 abbrev pub RefusedBundle : Option (List ℕ) → Option (List ℕ) → Option (List ℕ) → Option (List ℕ) → ℕ → ℕ → Type 0
 RefusedBundle left left' held held' faults faults' =
-    (refusal : BundleRefusal) × WhereTold left (WasRefused left' (λ bytes. IsNoBundle bytes refusal))
-    × WritesLine held held' faults faults' (bundle_line refusal)
+    (why : BundleRefusal) × WholeTold left left' (λ bytes. IsNoBundle bytes why)
+    × WritesLine held held' faults faults' (bundle_line why)
 
 -- the bundle cannot be loaded, and the line of its refusal was written
 abbrev pub RefusedLoad : Option (List ℕ) → Option (List ℕ) → Option (List ℕ) → Option (List ℕ) → ℕ → ℕ → Type 0
 RefusedLoad left left' held held' faults faults' =
-    (refusal : LoadRefusal) × WhereTold left (WasRefused left' (λ bytes. IsNotLoadable bytes refusal))
-    × WritesLine held held' faults faults' (load_line refusal)
+    (why : LoadRefusal) × WholeTold left left' (λ bytes. IsNotLoadable bytes why)
+    × WritesLine held held' faults faults' (load_line why)

@@ -1,31 +1,22 @@
 -- The words of a command.
-use Rattle.std.specs.Prelude.{◌≡◌, ◌<◌, ◌^◌, ◌∷◌, [], List, ℕ, String, Bool, true, not, ◌&&◌, ◌==◌, ⊤, codes, string_bytes, map}
+use Rattle.std.specs.Prelude.{◌≡◌, ◌<◌, ◌^◌, ◌∷◌, [], List, ℕ, ⊤, codes}
 use Rattle.std.specs.Fmt.{decimal}
 use Rattle.skybridge.specs.declared.words.Command.{Command}
 use Rattle.skybridge.specs.declared.words.Command.TheVariants.{OfBundle, Generate, GenerateBundle, Help}
 use Rattle.skybridge.specs.declared.words.BundleCommand.{BundleCommand}
-use Rattle.skybridge.specs.declared.words.BundleCommand.TheVariants.{Replay, Plain, Check, Rewrite}
+use Rattle.skybridge.specs.declared.words.BundleCommand.TheVariants.{Replay, ReplayDump, Plain, Check, Rewrite}
 
--- the bytes of each word
-abbrev pub word_texts : {A : Type 0} → List (String A) → List (List ℕ)
-word_texts words = map (λ word. string_bytes word) words
-
--- each command on a bundle is one word
-abbrev pub word_of : BundleCommand → List ℕ
-word_of Replay = codes "replay"
-word_of Plain = codes "plain"
-word_of Check = codes "check"
-word_of Rewrite = codes "rewrite"
-
--- neither a plus sign nor a leading zero stands in front
-abbrev pub is_plain : List ℕ → Bool
-is_plain [] = true
-is_plain (digit ∷ []) = not (digit == 43)
-is_plain (digit ∷ next ∷ digits) = not (digit == 43) && not (digit == 48)
+-- the words of a command on a bundle
+abbrev pub bundle_words : BundleCommand → List (List ℕ)
+bundle_words Replay = codes "replay" ∷ []
+bundle_words ReplayDump = codes "replay" ∷ codes "--dump" ∷ []
+bundle_words Plain = codes "plain" ∷ []
+bundle_words Check = codes "check" ∷ []
+bundle_words Rewrite = codes "rewrite" ∷ []
 
 -- the words of a command; a number is written in decimal digits, without a leading zero
 abbrev pub words_of : Command → List (List ℕ)
-words_of (OfBundle command) = word_of command ∷ []
+words_of (OfBundle command) = bundle_words command
 words_of (Generate number) = codes "gen" ∷ decimal number ∷ []
 words_of (GenerateBundle number) = codes "gen" ∷ decimal number ∷ codes "--bundle" ∷ []
 words_of Help = codes "--help" ∷ []
@@ -48,3 +39,9 @@ IsCommand words = (command : Command) × AreWordsOf command words
 -- the words are a command that reads a bundle
 abbrev pub ReadsBundle : List (List ℕ) → Type 0
 ReadsBundle words = (command : BundleCommand) × AreWordsOf (OfBundle command) words
+
+-- ---- the refusal
+
+-- the line where the words are no command
+abbrev pub usage_line : List ℕ
+usage_line = codes "usage: skybridge --help\n"

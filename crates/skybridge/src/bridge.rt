@@ -1,106 +1,63 @@
 //! The top call.
 
-ghost use Rattle.std.specs.Prelude.{◌≡◌, ◌≤◌, ◌<◌, ℕ, List, ◌↔◌, ◌⊎◌, IsErr, IsOkAnd, MatchResult, string_bytes};
-ghost use Rattle.sb_port.specs.Port.{Rose, TookFirst, Appended};
+ghost use Rattle.std.specs.Prelude.{◌≡◌, ◌≢◌, ◌<◌, ℕ, List, None, IfSome, ◌↔◌, ◌⊎◌, string_bytes};
+ghost use Rattle.std.specs.Option.{IsSome};
+ghost use Rattle.sb_port.specs.Port.{Rose, TookFirst};
 ghost use Rattle.sb_bundle.specs.declared.bundle.Bundle.{Bundle};
-ghost use Rattle.skybridge.specs.Input.{input_limit, IsTooLong, SomeNoBundle, SomeNotLoadable, SomeAccepted};
+ghost use Rattle.sb_input.specs.Told.{IsTold, WhereTold, WritesLine};
+ghost use Rattle.sb_input.specs.Input.{input_limit, IsTooLong, SomeNoBundle, SomeNotLoadable, SomeAccepted};
+ghost use Rattle.sb_input.specs.Lines.{read_fault_line, too_long_line};
+ghost use Rattle.sb_load.specs.Loading.{IsLoadable};
+ghost use Rattle.sb_words.specs.Words.{word_texts};
 ghost use Rattle.skybridge.specs.declared.words.BundleCommand.{BundleCommand};
-ghost use Rattle.skybridge.specs.Output.{IsOutput, IsSummary, IsTold, WhereTold, PartlyAppended, ReportedAs, PartlyReported, Wrote, PartlyWrote, RefusedBundle, RefusedLoad, WritesLine};
+ghost use Rattle.skybridge.specs.declared.words.Command.{Command};
+ghost use Rattle.skybridge.specs.Output.{IsOutput, IsReportWithDump, HaveSameRun, IsSummary, ReportedAs, PartlyReported, Wrote, PartlyWrote, RefusedBundle, RefusedLoad};
 ghost use Rattle.skybridge.specs.Lawful.{IsLawfulOutput, WroteLawfully};
-ghost use Rattle.skybridge.specs.Words.{IsCommand, ReadsBundle, word_texts};
-ghost use Rattle.skybridge.specs.Status.{IsOwn, exit_status};
-ghost use Rattle.skybridge.specs.Lines.{usage_line, read_fault_line, too_long_line};
+ghost use Rattle.skybridge.specs.Kept.{RunsMachine, RunMachine, LeavesOf, HasDumpOf, HasRunFor, IsLeft, ReportedWithDump};
+ghost use Rattle.skybridge.specs.Words.{AreWordsOf, IsCommand, ReadsBundle, usage_line};
+ghost use Rattle.skybridge.specs.Written.{Writes};
+ghost use Rattle.skybridge.specs.Status.{IsOwn};
 
-use crate::bundle_commands::{Refusal, output_of};
-use crate::generated::{generated_bytes, summary};
+use crate::command_text::{check_text, rewrite_text};
+use crate::generated::generated_bytes;
 use crate::help::help_text;
-use crate::refusal_lines::{READ_FAULT_LINE, TOO_LONG_LINE, USAGE_LINE, bundle_line, load_line};
+use crate::plain_run::plain_report;
+use crate::status::Status;
 use crate::words::{BundleCommand, Command, command_of};
-use sb_port::{ReadAll, Sink, Source, read_all, write_all};
-use std::alloc::{AllocError, Global};
+use crate::writing::{
+    bytes_of, refuse, refuse_by, replay, replay_with_dump, summarize, write_made,
+};
+use sb_input::{InputRefusal, READ_FAULT_LINE, TOO_LONG_LINE, bundle_line, load_line, read_loaded};
+use sb_load::Loaded;
+use sb_machine::Machine;
+use sb_port::{Sink, Source};
+use std::alloc::Global;
 
-/// How a command ended. The number is the program's exit status.
-#[derive(Clone, Copy, Debug, PartialEq, Eq)]
-pub enum Status {
-    /// The whole output was written.
-    Done = 0,
-    /// The words are no command.
-    BadWords = 2,
-    /// The source failed.
-    ReadFault = 3,
-    /// The sink failed while the output was written.
-    WriteFault = 4,
-    /// The input is no bundle.
-    BundleRefused = 5,
-    /// The bundle cannot be loaded.
-    LoadRefused = 6,
-    /// Memory did not suffice. Nothing was written.
-    NoMemory = 7,
-    /// The input is longer than 64 MiB.
-    TooLong = 8,
-}
+/// The line where the words are no command.
+const USAGE_LINE: &str = "usage: skybridge --help\n";
 
-impl Status {
-    /// The program's exit status.
-    pub fn number(self) -> u8
-        ensures { result ≡ exit_status self }
-    {
-        self as u8
-    }
-}
-
-/// The most bytes of an input.
-const INPUT_LIMIT: usize = 67_108_864;
-
-/// Writes the line of a refusal, as far as the sink takes it. The status is the refusal's.
-fn refuse<K: Sink>(sink: &mut K, line: &str, status: Status) -> Status
-    ensures same { result ≡ status }
-    ensures written { WritesLine (K.held sink.old) (K.held sink.new) (K.faults sink.old) (K.faults sink.new) line.now }
-    ensures later { K.faults sink.old ≤ K.faults sink.new }
+/// Writes what a command has to write of what was loaded, and leaves the machine that it ran.
+fn write_output<K: Sink>(
+    alloc: Global,
+    command: BundleCommand,
+    loaded: &Loaded,
+    sink: &mut K,
+    kept: &mut Option<Machine>,
+) -> Status
+    requires loadable { IsLoadable loaded.now }
+    requires none { kept.old ≡ None }
+    ensures written { Writes (IsOutput command loaded.now.bundle) result (K.held sink.old) (K.held sink.new)
+        (K.faults sink.old) (K.faults sink.new) }
+    ensures left { LeavesOf command loaded.now.bundle result kept.new }
+    ensures dumped { result ≡ Status.Done → command ≡ BundleCommand.ReplayDump
+        → IfSome kept.new (λ machine. HasDumpOf machine loaded.now.bundle (K.held sink.old) (K.held sink.new)) }
 {
-    let _ = write_all(sink, line.as_bytes());
-    status
-}
-
-/// Writes the line of a refusal with this status, if there is memory for the line.
-fn refuse_by<K: Sink>(sink: &mut K, line: Result<String, AllocError>, status: Status) -> Status
-    ensures written { MatchResult line
-        (λ text. (result ≡ status)
-        × WritesLine (K.held sink.old) (K.held sink.new) (K.faults sink.old) (K.faults sink.new) (string_bytes text))
-        (λ _. (result ≡ Status.NoMemory) × (K.held sink.new ≡ K.held sink.old)) }
-    ensures later { K.faults sink.old ≤ K.faults sink.new }
-{
-    match line {
-        Ok(text) => refuse(sink, text.as_str(), status),
-        Err(AllocError) => Status::NoMemory,
-    }
-}
-
-/// Writes bytes, as far as the sink takes them.
-fn write_bytes<K: Sink>(sink: &mut K, bytes: &[u8]) -> Status
-    ensures done { result ≡ Status.Done → Appended (K.held sink.old) (K.held sink.new) bytes.now }
-    ensures write_fault { result ≡ Status.WriteFault → Rose (K.faults sink.old) (K.faults sink.new) }
-    ensures write_fault_part { result ≡ Status.WriteFault → PartlyAppended (K.held sink.old) (K.held sink.new) bytes.now }
-    ensures kinds { (result ≡ Status.Done) ⊎ (result ≡ Status.WriteFault) }
-{
-    match write_all(sink, bytes) {
-        Ok(()) => Status::Done,
-        Err(_) => Status::WriteFault,
-    }
-}
-
-/// Writes what was made, where there was memory for it.
-fn write_made<K: Sink>(sink: &mut K, made: Result<Vec<u8>, AllocError>) -> Status
-    ensures done { result ≡ Status.Done → IsOkAnd made (λ bytes. Appended (K.held sink.old) (K.held sink.new) bytes.items) }
-    ensures write_fault { result ≡ Status.WriteFault → Rose (K.faults sink.old) (K.faults sink.new) }
-    ensures write_fault_part { result ≡ Status.WriteFault
-        → IsOkAnd made (λ bytes. PartlyAppended (K.held sink.old) (K.held sink.new) bytes.items) }
-    ensures no_memory { result ≡ Status.NoMemory → K.held sink.new ≡ K.held sink.old }
-    ensures kinds { (result ≡ Status.Done) ⊎ ((result ≡ Status.WriteFault) ⊎ (result ≡ Status.NoMemory)) }
-{
-    match made {
-        Ok(bytes) => write_bytes(sink, &bytes),
-        Err(AllocError) => Status::NoMemory,
+    match command {
+        BundleCommand::Replay => replay(alloc, loaded, sink, kept),
+        BundleCommand::ReplayDump => replay_with_dump(alloc, loaded, sink, kept),
+        BundleCommand::Plain => write_made(sink, bytes_of(plain_report(alloc, loaded))),
+        BundleCommand::Check => write_made(sink, bytes_of(check_text(alloc, loaded))),
+        BundleCommand::Rewrite => write_made(sink, bytes_of(rewrite_text(alloc, loaded))),
     }
 }
 
@@ -111,12 +68,22 @@ fn run_on_bundle<S: Source, K: Sink>(
     command: BundleCommand,
     source: &mut S,
     sink: &mut K,
+    kept: &mut Option<Machine>,
 ) -> Status
+    requires none { kept.old ≡ None }
     ensures known { ¬ (result ≡ Status.BadWords) }
     ensures done { result ≡ Status.Done
         → ReportedAs (IsOutput command) (S.left source.old) (S.left source.new) (K.held sink.old) (K.held sink.new) }
     ensures lawful { result ≡ Status.Done
         → ReportedAs (IsLawfulOutput command) (S.left source.old) (S.left source.new) (K.held sink.old) (K.held sink.new) }
+
+    ensures left { IfSome kept.new (λ machine.
+        RunsMachine (Command.OfBundle command) × HasRunFor (Command.OfBundle command) (S.left source.old) (S.left source.new) machine) }
+    ensures left_where { RunsMachine (Command.OfBundle command) → (result ≡ Status.Done) ⊎ (result ≡ Status.WriteFault)
+        → IsSome kept.new }
+    ensures left_only { IsSome kept.new → (result ≡ Status.Done) ⊎ (result ≡ Status.WriteFault) }
+    ensures dumped { result ≡ Status.Done → command ≡ BundleCommand.ReplayDump → IfSome kept.new (λ machine.
+        ReportedWithDump (S.left source.old) (S.left source.new) (K.held sink.old) (K.held sink.new) machine) }
 
     ensures read_fault { result ≡ Status.ReadFault → Rose (S.faults source.old) (S.faults source.new) }
     ensures read_fault_line { result ≡ Status.ReadFault
@@ -152,41 +119,33 @@ fn run_on_bundle<S: Source, K: Sink>(
         → ¬ Rose (S.faults source.old) (S.faults source.new) → ¬ Rose (K.faults sink.old) (K.faults sink.new)
         → (result ≡ Status.Done) ⊎ (result ≡ Status.NoMemory) }
 {
-    let bytes = match read_all(alloc, source, INPUT_LIMIT) {
-        Ok(bytes) => bytes,
-        Err(ReadAll::ReadFault) => return refuse(sink, READ_FAULT_LINE, Status::ReadFault),
-        Err(ReadAll::TooLong) => return refuse(sink, TOO_LONG_LINE, Status::TooLong),
-        Err(ReadAll::Memory) => return Status::NoMemory,
+    let loaded = match read_loaded(alloc, source) {
+        Ok(loaded) => loaded,
+        Err(InputRefusal::ReadFault) => return refuse(sink, READ_FAULT_LINE, Status::ReadFault),
+        Err(InputRefusal::TooLong) => return refuse(sink, TOO_LONG_LINE, Status::TooLong),
+        Err(InputRefusal::Bundle(why)) => {
+            return refuse_by(sink, bundle_line(alloc, why), Status::BundleRefused);
+        }
+        Err(InputRefusal::Load(why)) => {
+            return refuse_by(sink, load_line(alloc, why), Status::LoadRefused);
+        }
+        Err(InputRefusal::Memory) => return Status::NoMemory,
     };
-    match output_of(alloc, command, &bytes) {
-        Ok(text) => write_bytes(sink, text.as_bytes()),
-        Err(Refusal::Bundle(why)) => refuse_by(
-            sink,
-            bundle_line(alloc, why),
-            Status::BundleRefused,
-        ),
-        Err(Refusal::Load(why)) => refuse_by(sink, load_line(alloc, why), Status::LoadRefused),
-        Err(Refusal::Memory) => Status::NoMemory,
-    }
-}
-
-/// The bytes of a text, where there was memory for it.
-fn bytes_of(text: Result<String, AllocError>) -> Result<Vec<u8>, AllocError>
-    ensures { MatchResult text (λ text. IsOkAnd result (λ bytes. bytes.items ≡ string_bytes text)) (λ _. IsErr result) }
-{
-    text.map(String::into_bytes)
+    write_output(alloc, command, &loaded, sink, kept)
 }
 
 /// Runs the command of the words, from the source to the sink.
 ///
 /// A refusal keeps its status where its line could not be written whole. Causes are tried in the order words, reading,
 /// bundle, loading, run, writing; once the words are a command, `NoMemory` may come anywhere between. Commands that read no
-/// bundle leave the source as it is.
+/// bundle leave the source as it is. `kept` is left with the machine with page tables that made the run's steps, where the
+/// command runs it and a text was written, whole or in part.
 pub fn bridge<S: Source, K: Sink>(
     alloc: Global,
     words: &Vec<String>,
     source: &mut S,
     sink: &mut K,
+    kept: &mut Option<Machine>,
 ) -> Status
     // The words are a command, and its text was appended: of an accepted bundle, which was read to the end of the source;
     // the summary of the generated bundle's run; that bundle itself; or the help text.
@@ -197,6 +156,17 @@ pub fn bridge<S: Source, K: Sink>(
     // may be fetched at one address alone.
     ensures lawful { result ≡ Status.Done
         → WroteLawfully (word_texts words.now.items) (S.left source.old) (S.left source.new) (K.held sink.old) (K.held sink.new) }
+
+    // A machine is left exactly where the command runs the machine with page tables and ended with `Done` or `WriteFault`. It has
+    // made the run: it stands for the last state, and each core has made as many lines as the schedule has entries of it.
+    ensures left { IfSome kept.new (λ machine. IsLeft (word_texts words.now.items) (S.left source.old) (S.left source.new) machine) }
+    ensures left_where { RunMachine (word_texts words.now.items) → (result ≡ Status.Done) ⊎ (result ≡ Status.WriteFault)
+        → IsSome kept.new }
+    ensures left_only { IsSome kept.new → (result ≡ Status.Done) ⊎ (result ≡ Status.WriteFault) }
+    // A dump that was written whole is the dump of this machine.
+    ensures dumped { result ≡ Status.Done → AreWordsOf (Command.OfBundle BundleCommand.ReplayDump) (word_texts words.now.items)
+        → IfSome kept.new (λ machine.
+        ReportedWithDump (S.left source.old) (S.left source.new) (K.held sink.old) (K.held sink.new) machine) }
 
     ensures bad_words { (result ≡ Status.BadWords) ↔ (¬ IsCommand (word_texts words.now.items)) }
     ensures bad_words_line { result ≡ Status.BadWords
@@ -248,19 +218,22 @@ pub fn bridge<S: Source, K: Sink>(
     ensures complete_alone { IsCommand (word_texts words.now.items) → ¬ ReadsBundle (word_texts words.now.items)
         → ¬ Rose (K.faults sink.old) (K.faults sink.new) → (result ≡ Status.Done) ⊎ (result ≡ Status.NoMemory) }
 {
+    *kept = None;
     match command_of(words) {
         None => refuse(sink, USAGE_LINE, Status::BadWords),
-        Some(Command::OfBundle(command)) => run_on_bundle(alloc, command, source, sink),
-        Some(Command::Generate(number)) => write_made(sink, bytes_of(summary(alloc, number))),
+        Some(Command::OfBundle(command)) => run_on_bundle(alloc, command, source, sink, kept),
+        Some(Command::Generate(number)) => summarize(alloc, number, sink, kept),
         Some(Command::GenerateBundle(number)) => write_made(sink, generated_bytes(alloc, number)),
         Some(Command::Help) => write_made(sink, bytes_of(help_text(alloc))),
     }
 }
 
-/// A law, which does nothing when it is called: the definitions give one text of a command and a bundle, and one summary of
-/// a generated bundle's run.
+/// A law, which does nothing when it is called: the definitions give one text of a command and a bundle, but for the order of the
+/// frames in a dump, which is free; one report before a dump; and one summary of a generated bundle's run.
 pub fn one_output()
-    ensures of_bundle { (command : BundleCommand) (bundle : Bundle) (text other : List ℕ)
+    ensures of_bundle { (command : BundleCommand) (bundle : Bundle) (text other : List ℕ) → command ≢ BundleCommand.ReplayDump
         → IsOutput command bundle text → IsOutput command bundle other → text ≡ other }
+    ensures of_dump { (bundle : Bundle) (text other : List ℕ)
+        (one : IsReportWithDump bundle text) (two : IsReportWithDump bundle other) → HaveSameRun bundle text other one two }
     ensures made { (number : ℕ) (text other : List ℕ) → IsSummary number text → IsSummary number other → text ≡ other }
 {}

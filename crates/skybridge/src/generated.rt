@@ -4,22 +4,23 @@ ghost use Rattle.std.specs.Prelude.{◌≡◌, IfOk, string_bytes};
 ghost use Rattle.sb_bundle.specs.Spelling.{spelling};
 ghost use Rattle.sb_generator.specs.Generator.{generated};
 ghost use Rattle.skybridge.specs.Output.{IsSummary};
-ghost use Rattle.skybridge.specs.Lawful.{IsLawfulSummary};
+ghost use Rattle.skybridge.specs.Kept.{HasRunOf};
 
-use crate::bundle_commands::whole_run;
+use crate::machine_run::whole_run;
 use sb_bundle::write_bundle;
 use sb_generator::{gen_bundle, load_generated, summary_text};
+use sb_machine::Machine;
 use std::alloc::{AllocError, Global};
 
-/// The summary of the run of that bundle.
-#[tactic(auto, using(crate::proofs::Lawful::lawful_summary))]
-pub fn summary(alloc: Global, number: u64) -> Result<String, AllocError>
-    ensures summary { IfOk result (λ text. IsSummary number (string_bytes text)) }
-    ensures lawful { IfOk result (λ text. IsLawfulSummary number (string_bytes text)) }
+/// The summary of the run of that bundle, and the machine that has made it.
+pub fn summary(alloc: Global, number: u64) -> Result<(String, Machine), AllocError>
+    ensures summary { IfOk result (λ run. IsSummary number (string_bytes run.0)) }
+    ensures ran { IfOk result (λ run. HasRunOf run.1 (generated number)) }
 {
     let loaded = load_generated(alloc, number)?;
-    let (lines, end) = whole_run(alloc, &loaded)?;
-    summary_text(alloc, number, &lines, &end)
+    let (lines, end, machine) = whole_run(alloc, &loaded)?;
+    let text = summary_text(alloc, number, &lines, &end)?;
+    Ok((text, machine))
 }
 
 /// The bytes of that bundle.

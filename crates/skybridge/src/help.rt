@@ -6,7 +6,7 @@ use std::alloc::{AllocError, Global};
 const ABOUT: &str = "A call facility between guest processes that needs no kernel on its path";
 
 const USAGE: &str = "\
-skybridge replay | plain | check | rewrite
+skybridge replay [--dump] | plain | check | rewrite
        skybridge gen <NUMBER> [--bundle]
        skybridge --help";
 
@@ -29,6 +29,20 @@ fn one_word<'a>(alloc: Global, word: &'a str, about: &'a str) -> Command<'a> {
     Command::new(alloc, word)
         .about(about)
         .disable_help_flag(true)
+}
+
+/// The command that runs a bundle on the machine with page tables.
+fn replay<'a>(alloc: Global) -> Result<Command<'a>, AllocError> {
+    let dump = Arg::new(alloc, "dump")
+        .long("dump")
+        .action(ArgAction::SetTrue);
+    one_word(
+        alloc,
+        "replay",
+        "Reads a bundle; writes the report of its run, step by step, and with --dump behind it\n\
+         the memory of the machine",
+    )
+    .arg(dump)
 }
 
 /// The command that generates a bundle.
@@ -61,11 +75,7 @@ pub fn described<'a>(alloc: Global) -> Result<Command<'a>, AllocError> {
         .disable_help_flag(true)
         .disable_help_subcommand(true)
         .arg(help)?
-        .subcommand(one_word(
-            alloc,
-            "replay",
-            "Reads a bundle; writes the report of its run, step by step",
-        ))?
+        .subcommand(replay(alloc)?)?
         .subcommand(one_word(
             alloc,
             "plain",

@@ -1,9 +1,11 @@
 //! Runs of the top call over a source and a sink in memory.
 
 use crate::help::described;
-use crate::{Refusal, Status, bridge};
+use crate::{Status, bridge};
 use sb_bundle::BundleRefusal;
+use sb_input::InputRefusal;
 use sb_load::LoadRefusal;
+use sb_machine::Machine;
 use sb_port::{MemorySink, MemorySource};
 use std::alloc::Global;
 use std::process::Abort;
@@ -67,12 +69,13 @@ end
 
 const HELP: &str = "A call facility between guest processes that needs no kernel on its path
 
-Usage: skybridge replay | plain | check | rewrite
+Usage: skybridge replay [--dump] | plain | check | rewrite
        skybridge gen <NUMBER> [--bundle]
        skybridge --help
 
 Commands:
-  replay   Reads a bundle; writes the report of its run, step by step
+  replay   Reads a bundle; writes the report of its run, step by step, and with --dump behind it
+           the memory of the machine
   plain    Reads a bundle; writes the report of its run on the plain machine
   check    Reads a bundle; writes ok, the frames that it takes, and those that it has
   rewrite  Reads a bundle; writes for each process the instructions that are rewritten
@@ -146,7 +149,8 @@ fn outcome(
     }
     let mut source = MemorySource::new(bytes, 7, read_fails);
     let mut sink = MemorySink::new(alloc, 262_144, 16, write_fails)?;
-    let status = bridge(alloc, &list, &mut source, &mut sink);
+    let mut kept: Option<Machine> = None;
+    let status = bridge(alloc, &list, &mut source, &mut sink, &mut kept);
     Ok((status, Vec::from_slice(alloc, sink.held())?))
 }
 
@@ -405,10 +409,12 @@ fn refusals_write_one_line(rt: HostRuntime) -> Result<(), Fail> {
 }
 
 #[rattlefmt::skip]
-const REFUSALS: [(Refusal, &str); 3] = [
-    (Refusal::Bundle(BundleRefusal::Magic { at: 0 }), "no magic bytes at 0"),
-    (Refusal::Load(LoadRefusal::NoFrames { need: 25, have: 24 }), "frames 25 24"),
-    (Refusal::Memory, "out of memory"),
+const REFUSALS: [(InputRefusal, &str); 5] = [
+    (InputRefusal::ReadFault, "the source failed"),
+    (InputRefusal::TooLong, "the input is longer than the limit"),
+    (InputRefusal::Bundle(BundleRefusal::Magic { at: 0 }), "no magic bytes at 0"),
+    (InputRefusal::Load(LoadRefusal::NoFrames { need: 25, have: 24 }), "frames 25 24"),
+    (InputRefusal::Memory, "out of memory"),
 ];
 
 #[test]
@@ -477,8 +483,9 @@ fn the_help_text_names_each_command(rt: HostRuntime) -> Result<(), Fail> {
 
 /// Words, and whether the description takes them.
 #[rattlefmt::skip]
-const WORDS: [(&[&str], bool); 10] = [
+const WORDS: [(&[&str], bool); 11] = [
     (&["replay"], true),
+    (&["replay", "--dump"], true),
     (&["plain"], true),
     (&["check"], true),
     (&["rewrite"], true),

@@ -1,9 +1,11 @@
 //! The words of the command line.
 
-ghost use Rattle.std.specs.Prelude.{◌≡◌, ◌↔◌, IsTrue, IfSome, IfNone, ◌<◌, ◌^◌, ◌∷◌, [], ℕ, string_bytes};
-ghost use Rattle.std.specs.Fmt.{decimal};
-ghost use Rattle.skybridge.specs.Words.{AreWordsOf, IsCommand, is_plain, word_of, words_of, word_texts};
+ghost use Rattle.std.specs.Prelude.{◌≡◌, IfSome, IfNone, ◌∷◌, [], string_bytes};
+ghost use Rattle.sb_words.specs.Words.{word_texts};
+ghost use Rattle.skybridge.specs.Words.{AreWordsOf, IsCommand, bundle_words};
 ghost use Rattle.skybridge.specs.declared.words.BundleCommand.{BundleCommand};
+
+use sb_words::{is_text, number_of};
 
 /// A command, which writes text or bytes.
 #[derive(Clone, Copy, Debug, PartialEq, Eq)]
@@ -21,8 +23,10 @@ pub enum Command {
 /// A command that reads a bundle, and writes text.
 #[derive(Clone, Copy, Debug, PartialEq, Eq)]
 pub enum BundleCommand {
-    /// The report of the run.
+    /// The report of the run on the machine with page tables.
     Replay,
+    /// That report, and the dump of the machine behind it.
+    ReplayDump,
     /// The report of the plain machine's run.
     Plain,
     /// How many frames the bundle takes, and how many it has.
@@ -31,16 +35,10 @@ pub enum BundleCommand {
     Rewrite,
 }
 
-fn is_text(word: &String, text: &str) -> bool
-    ensures { IsTrue result ↔ (string_bytes word.now ≡ text.now) }
-{
-    word.as_str() == text
-}
-
-/// The command on a bundle that the word is, if it is one.
+/// The command on a bundle that is this one word, if there is one.
 fn bundle_command(word: &String) -> Option<BundleCommand>
-    ensures some { IfSome result (λ command. string_bytes word.now ≡ word_of command) }
-    ensures none { IfNone result ((command : BundleCommand) → ¬ (string_bytes word.now ≡ word_of command)) }
+    ensures some { IfSome result (λ command. string_bytes word.now ∷ [] ≡ bundle_words command) }
+    ensures none { IfNone result ((command : BundleCommand) → ¬ (string_bytes word.now ∷ [] ≡ bundle_words command)) }
 {
     if is_text(word, "replay") {
         return Some(BundleCommand::Replay);
@@ -55,27 +53,6 @@ fn bundle_command(word: &String) -> Option<BundleCommand>
         return Some(BundleCommand::Rewrite);
     }
     None
-}
-
-/// Whether neither a plus sign nor a leading zero stands in front.
-fn is_plain(digits: &[u8]) -> bool
-    ensures { result ≡ is_plain digits.now }
-{
-    match digits {
-        [b'+', ..] | [b'0', _, ..] => false,
-        _ => true,
-    }
-}
-
-/// The number that the word is in decimal digits, without sign or leading zero.
-fn number_of(word: &String) -> Option<u64>
-    ensures some { IfSome result (λ number. string_bytes word.now ≡ decimal number) }
-    ensures none { IfNone result ((number : ℕ) → number < 2 ^ 64 → ¬ (string_bytes word.now ≡ decimal number)) }
-{
-    match word.as_str().parse::<u64>() {
-        Ok(number) if is_plain(word.as_bytes()) => Some(number),
-        _ => None,
-    }
 }
 
 /// The command of one word.
@@ -96,6 +73,9 @@ pub fn command_of(words: &Vec<String>) -> Option<Command>
 {
     match words.as_slice() {
         [word] => by_one(word),
+        [first, last] if is_text(first, "replay") && is_text(last, "--dump") => {
+            Some(Command::OfBundle(BundleCommand::ReplayDump))
+        }
         [first, number] if is_text(first, "gen") => number_of(number).map(Command::Generate),
         [first, number, last] if is_text(first, "gen") && is_text(last, "--bundle") => {
             number_of(number).map(Command::GenerateBundle)

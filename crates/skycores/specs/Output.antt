@@ -14,7 +14,7 @@ use Rattle.skycores.specs.Text.{IsOutput}
 -- an accepted bundle was read, if the source tells its bytes, and this is an output of it
 abbrev pub IsOutputOfInput : Run → Option (List ℕ) → Option (List ℕ) → List ℕ → Type 0
 IsOutputOfInput run left left' text =
-    (load : Load) × IsLoadable load × WholeTold left left' (λ bytes. IsAccepted bytes load.bundle) × IsOutput load run.steps text
+    (load : Load) × IsLoadable load × WholeTold left left' (λ bytes. IsAccepted bytes load.bundle) × IsOutput load run text
 
 -- an output was appended to what the sink held
 abbrev pub Reported : Run → Option (List ℕ) → Option (List ℕ) → Option (List ℕ) → Option (List ℕ) → Type 0

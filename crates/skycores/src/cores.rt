@@ -1,14 +1,16 @@
 //! The top call.
 
-ghost use Rattle.std.specs.Prelude.{◌≡◌, ◌≤◌, ◌<◌, ◌↔◌, ◌⊎◌, IfOk, MatchResult, string_bytes};
+ghost use Rattle.std.specs.Prelude.{◌≡◌, ◌≤◌, ◌<◌, ◌++◌, ◌↔◌, ◌⊎◌, IfOk, MatchResult, string_bytes};
 ghost use Rattle.sb_port.specs.Port.{Rose, TookFirst, Appended};
 ghost use Rattle.sb_load.specs.Loading.{IsLoadable};
 ghost use Rattle.sb_input.specs.Told.{IsTold, WhereTold, PartlyAppended, WritesLine};
 ghost use Rattle.sb_input.specs.Input.{input_limit, IsTooLong, SomeNoBundle, SomeNotLoadable, SomeAccepted};
 ghost use Rattle.sb_input.specs.Lines.{read_fault_line, too_long_line};
-ghost use Rattle.skycores.specs.Words.{IsCommand, IsWithin, usage_line, word_texts};
+ghost use Rattle.sb_words.specs.Words.{word_texts};
+ghost use Rattle.skycores.specs.Words.{IsCommand, IsWithin, usage_line};
 ghost use Rattle.skycores.specs.Status.{exit_status};
-ghost use Rattle.skycores.specs.Text.{IsOutput};
+ghost use Rattle.sb_machine.specs.Dump.{DumpShows};
+ghost use Rattle.skycores.specs.Text.{IsOutputFor, dump_where};
 ghost use Rattle.skycores.specs.Output.{Reported, PartlyReported, Wrote, PartlyWrote, RefusedBundle, RefusedLoad};
 
 use crate::text::output_text;
@@ -18,6 +20,7 @@ use sb_input::{
     InputRefusal, READ_FAULT_LINE, TOO_LONG_LINE, bundle_line, load_line, read_loaded, write_line,
 };
 use sb_load::Loaded;
+use sb_machine::Machine;
 use sb_port::{Sink, Source, write_all};
 use std::alloc::{AllocError, Global};
 use std::sync::Wait;
@@ -80,32 +83,39 @@ fn refuse_by<K: Sink>(sink: &mut K, line: Result<String, AllocError>, status: St
     }
 }
 
-/// Writes bytes, as far as the sink takes them.
-fn write_bytes<K: Sink>(sink: &mut K, bytes: &[u8]) -> Status
-    ensures done { result ≡ Status.Done → Appended (K.held sink.old) (K.held sink.new) bytes.now }
+/// Writes a text, and behind it the dump of a machine if it is asked for, as far as the sink takes them.
+fn write_output<K: Sink>(sink: &mut K, text: &str, machine: &Machine, dump: bool) -> Status
+    ensures done { result ≡ Status.Done
+        → Appended (K.held sink.old) (K.held sink.new) (text.now ++ dump_where dump machine.now) }
     ensures write_fault { result ≡ Status.WriteFault → Rose (K.faults sink.old) (K.faults sink.new) }
-    ensures write_fault_part { result ≡ Status.WriteFault → PartlyAppended (K.held sink.old) (K.held sink.new) bytes.now }
+    ensures write_fault_part { result ≡ Status.WriteFault
+        → PartlyAppended (K.held sink.old) (K.held sink.new) (text.now ++ dump_where dump machine.now) }
     ensures kinds { (result ≡ Status.Done) ⊎ (result ≡ Status.WriteFault) }
+    ensures shows { DumpShows machine.now }
 {
-    match write_all(sink, bytes) {
+    let written = match write_all(sink, text.as_bytes()) {
+        Ok(()) if dump => machine.write_dump(sink),
+        written => written,
+    };
+    match written {
         Ok(()) => Status::Done,
         Err(_) => Status::WriteFault,
     }
 }
 
-/// The output of a run of what was loaded.
+/// The output of a run of what was loaded, without its dump, and the machine that made the run.
 fn output_of<R: Threads + Wait + Sync, G: Gate + Sync>(
     rt: &R,
     alloc: Global,
     run: Run,
     loaded: Loaded,
     gate: &G,
-) -> Result<String, AllocError>
+) -> Result<(String, Machine), AllocError>
     requires { IsWithin run }
-    ensures { IfOk result (λ text. IsOutput loaded run.steps (string_bytes text)) }
+    ensures { IfOk result (λ made. IsOutputFor loaded run (string_bytes made.0) made.1) }
 {
     let history = history_by_threads(rt, alloc, loaded, run.steps, run.block, gate)?;
-    output_text(alloc, history, run.steps)
+    output_text(alloc, history, &run)
 }
 
 /// Runs the cores of the bundle that the source gives.
@@ -169,13 +179,13 @@ fn run_on_bundle<R: Threads + Wait + Sync, S: Source, K: Sink, G: Gate + Sync>(
         Err(InputRefusal::Memory) => return Status::NoMemory,
     };
     match output_of(rt, alloc, run, loaded, gate) {
-        Ok(text) => write_bytes(sink, text.as_bytes()),
+        Ok((text, machine)) => write_output(sink, text.as_str(), &machine, run.dump),
         Err(AllocError) => Status::NoMemory,
     }
 }
 
 /// Runs the cores of the bundle that the source gives, each on a thread of its own, and writes the journal of their steps,
-/// whether every thread ended, and the report of exactly that journal.
+/// whether every thread ended, the report of exactly that journal, and the dump of the machine if it is asked for.
 ///
 /// No return is promised, nor which core steps when: what is promised holds where the call returns. A refusal keeps its status
 /// where its line could not be written whole. Causes are tried in the order words, reading, bundle, loading, run, writing; once
@@ -189,7 +199,8 @@ pub fn cores<R: Threads + Wait + Sync, S: Source, K: Sink, G: Gate + Sync>(
     gate: &G,
 ) -> Status
     // The words are a command, an accepted bundle was read to the end of the source, and an output of it was appended: a
-    // journal, its end word, and the report that the plain machine gives for exactly that journal, in which no line is `idle`.
+    // journal, its end word, the report that the plain machine gives for exactly that journal, in which no line is `idle`, and if
+    // it was asked for a dump that shows the last state of that machine.
     ensures done { result ≡ Status.Done
         → Wrote (word_texts words.now.items) (S.left source.old) (S.left source.new) (K.held sink.old) (K.held sink.new) }
 

@@ -20,31 +20,12 @@ mod words;
 pub use cores::{Status, cores};
 use sb_book::OpenGate;
 use sb_port::{ReadSource, WriteSink};
-use std::alloc::{AllocError, Global};
-use std::io::ErrorKind;
+use sb_words::command_words;
+use std::io;
 use std::process::ExitCode;
-use std::rt::Env;
-use std::{env, io};
-
-/// The words of the command line, without the program's name.
-fn command_words(alloc: Global, rt: &(impl Env + AllocGlobal)) -> io::Result<Vec<String>> {
-    let mut words = Vec::new(alloc);
-    for word in env::args(rt)?.skip(1) {
-        words.push(word)?;
-    }
-    Ok(words)
-}
-
-/// The words, where words that are not UTF-8 are none at all: these are no command either.
-fn words_or_none(alloc: Global, rt: &(impl Env + AllocGlobal)) -> io::Result<Vec<String>> {
-    match command_words(alloc, rt) {
-        Err(error) if error.kind() == ErrorKind::InvalidData => Ok(Vec::new(alloc)),
-        words => words,
-    }
-}
 
 fn main(rt: HostRuntime) -> ExitCode {
-    let Ok(words) = words_or_none(rt.alloc(), &rt) else {
+    let Ok(words) = command_words(rt.alloc(), &rt) else {
         return ExitCode::from(Status::NoMemory.number());
     };
     let mut source = ReadSource::new(rt.reader());

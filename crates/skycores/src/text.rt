@@ -3,9 +3,11 @@
 ghost use Rattle.std.specs.Prelude.{◌≡◌, ◌+◌, ◌++◌, length, OnOk, IfOk, string_bytes};
 ghost use Rattle.sb_trace.specs.Report.{report_text};
 ghost use Rattle.sb_book.specs.History.{IsDone};
-ghost use Rattle.skycores.specs.Text.{journal_text, digits_text, word_text, IsOutput};
+ghost use Rattle.skycores.specs.Text.{journal_text, digits_text, word_text, IsOutputFor};
 
+use crate::words::Run;
 use sb_book::History;
+use sb_machine::Machine;
 use sb_trace::{EndState, Line, Lines, report_text};
 use std::alloc::{AllocError, Global};
 
@@ -67,17 +69,21 @@ fn text_of_parts(
     Ok(out)
 }
 
-/// The journal of a history in which nothing is left to do, whether each thread has ended, and the report.
+/// The journal of a history in which nothing is left to do, whether each thread has ended, and the report; and the machine.
 #[tactic(auto, using(crate::proofs::Outputs::is_output))]
-pub fn output_text(alloc: Global, history: History, steps: u32) -> Result<String, AllocError>
+pub fn output_text(
+    alloc: Global,
+    history: History,
+    run: &Run,
+) -> Result<(String, Machine), AllocError>
     requires done { IsDone history }
-    requires limit { length history.journal + history.room ≡ steps }
-    ensures { IfOk result (λ text. IsOutput history.load steps (string_bytes text)) }
+    requires limit { length history.journal + history.room ≡ run.now.steps }
+    ensures { IfOk result (λ made. IsOutputFor history.load run.now (string_bytes made.0) made.1) }
 {
     let ended = history.all_ended();
     let _ = history.lines();
     let end = history.machine().end(alloc)?;
-    let (journal, lines) = history.into_parts();
+    let (journal, lines, machine) = history.into_parts();
     let text = text_of_parts(alloc, journal, ended, lines, &end)?;
-    Ok(text)
+    Ok((text, machine))
 }

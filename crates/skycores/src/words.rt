@@ -1,8 +1,11 @@
 //! The words of the command line.
 
-ghost use Rattle.std.specs.Prelude.{◌≡◌, ◌↔◌, IsTrue, IfSome, IfNone, ◌<◌, ◌^◌, ℕ, string_bytes};
+ghost use Rattle.std.specs.Prelude.{◌≡◌, ◌↔◌, IsTrue, IfSome, IfNone, ℕ, codes, string_bytes};
 ghost use Rattle.std.specs.Fmt.{decimal};
-ghost use Rattle.skycores.specs.Words.{AreWordsOf, IsCommand, IsUpTo, is_plain, run_words, word_texts};
+ghost use Rattle.sb_words.specs.Words.{word_texts};
+ghost use Rattle.skycores.specs.Words.{AreWordsOf, IsCommand, IsUpTo, run_words};
+
+use sb_words::{is_text, number_of};
 
 /// The most steps of a run.
 pub const MAX_STEPS: u32 = 1_048_576;
@@ -17,33 +20,8 @@ pub struct Run {
     pub steps: u32,
     /// The most steps at one taking of the lock. It has no effect yet: each taking makes one step.
     pub block: u32,
-}
-
-fn is_text(word: &String, text: &str) -> bool
-    ensures { IsTrue result ↔ (string_bytes word.now ≡ text.now) }
-{
-    word.as_str() == text
-}
-
-/// Whether neither a plus sign nor a leading zero stands in front.
-fn is_plain(digits: &[u8]) -> bool
-    ensures { result ≡ is_plain digits.now }
-{
-    match digits {
-        [b'+', ..] | [b'0', _, ..] => false,
-        _ => true,
-    }
-}
-
-/// The number that the word is in decimal digits, without sign or leading zero.
-fn number_of(word: &String) -> Option<u64>
-    ensures some { IfSome result (λ number. string_bytes word.now ≡ decimal number) }
-    ensures none { IfNone result ((number : ℕ) → number < 2 ^ 64 → ¬ (string_bytes word.now ≡ decimal number)) }
-{
-    match word.as_str().parse::<u64>() {
-        Ok(number) if is_plain(word.as_bytes()) => Some(number),
-        _ => None,
-    }
+    /// Whether the dump of the machine follows the report.
+    pub dump: bool,
 }
 
 /// Whether the number is from 1 to the most.
@@ -67,14 +45,23 @@ fn number_up_to(most: u32, word: &String) -> Option<u32>
 
 /// The command with these two words for its numbers.
 #[tactic(auto, using(crate::proofs::Commands::no_steps, crate::proofs::Commands::no_block))]
-fn run_of(steps: &String, block: &String) -> Option<Run>
-    ensures some { IfSome result (λ run. AreWordsOf run (run_words (string_bytes steps.now) (string_bytes block.now))) }
-    ensures none { IfNone result (¬ IsCommand (run_words (string_bytes steps.now) (string_bytes block.now))) }
+fn run_of(steps: &String, block: &String, dump: bool) -> Option<Run>
+    ensures some { IfSome result (λ run. AreWordsOf run (run_words (string_bytes steps.now) (string_bytes block.now) dump)) }
+    ensures none { IfNone result (¬ IsCommand (run_words (string_bytes steps.now) (string_bytes block.now) dump)) }
 {
     Some(Run {
         steps: number_up_to(MAX_STEPS, steps)?,
         block: number_up_to(MAX_BLOCK, block)?,
+        dump,
     })
+}
+
+/// Whether three words are those in front of and between the numbers.
+fn are_run_words(first: &String, second: &String, fourth: &String) -> bool
+    ensures { IsTrue result ↔ ((string_bytes first.now ≡ codes "run") × (string_bytes second.now ≡ codes "--steps")
+        × (string_bytes fourth.now ≡ codes "--block")) }
+{
+    is_text(first, "run") && is_text(second, "--steps") && is_text(fourth, "--block")
 }
 
 /// The command of the words, if they are one.
@@ -83,9 +70,13 @@ pub fn command_of(words: &Vec<String>) -> Option<Run>
     ensures none { IfNone result (¬ IsCommand (word_texts words.now.items)) }
 {
     match words.as_slice() {
-        [first, second, steps, fourth, block]
-            if is_text(first, "run") && is_text(second, "--steps") && is_text(fourth, "--block") =>
-            { run_of(steps, block) }
+        [first, second, steps, fourth, block] if are_run_words(first, second, fourth) => {
+            run_of(steps, block, false)
+        }
+        [first, second, steps, fourth, block, last]
+            if are_run_words(first, second, fourth) && is_text(last, "--dump") => {
+            run_of(steps, block, true)
+        }
         _ => None,
     }
 }

@@ -1,8 +1,8 @@
 use Rattle.std.proofs.Common.{◌∙◌, sym, ap}
 use Rattle.std.proofs.lemmas.Bool.{false≢true}
-use Rattle.skybridge.specs.Words.{is_plain}
-use Rattle.skybridge.proofs.Numbers.{plain_number, number_plain, number_read}
-use Rattle.skybridge.proofs.words.number_of.Goals as goal
+use Rattle.sb_words.specs.Words.{is_plain}
+use Rattle.sb_words.proofs.Numbers.{plain_number, number_plain, number_read}
+use Rattle.sb_words.proofs.words.number_of.Goals as goal
 
 pub returns-in-Ok-clause-some : goal.returns-in-Ok-clause-some
 returns-in-Ok-clause-some c =

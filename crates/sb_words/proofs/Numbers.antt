@@ -1,11 +1,11 @@
--- A number of a command is written in decimal digits, without sign or leading zero.
+-- A number of a command line is written in decimal digits, without sign or leading zero.
 use Rattle.std.proofs.Common.{◌≡◌, ℕ, zero, suc, ◌<◌, ◌^◌, Bool, true, not, ◌==◌, List, [], ◌∷◌, length, drop, cond, get_or, Err, rules, refl, ap, sym, ◌∙◌, subst, arith}
 use Rattle.std.specs.Fmt.{decimal}
 use Rattle.std.specs.Str.Parse.{AllDigits, IsNumeral, digits_value, without_leading_plus, ParsesUnsigned}
 use Rattle.std.proofs.lemmas.Str.Parse.{IsNumeralModel}
 use Rattle.std.proofs.lemmas.Bool.{and_parts, not-true}
 use Rattle.std.proofs.lemmas.Fmt.{parse-decimal, decimal_digit, first_decimal, digits_decimal, decimal-digits_value}
-use Rattle.skybridge.specs.Words.{is_plain}
+use Rattle.sb_words.specs.Words.{is_plain}
 
 own : IsNumeralModel (AllDigits 10) (digits_value 10)
 own = record { to = λ ds all. all; from = λ ds all. all; same = λ ds all. refl }
