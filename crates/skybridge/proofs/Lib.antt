@@ -1,5 +1,5 @@
 pub mod Determined
 pub mod Lawful
 pub mod LineTexts
-pub mod Writing
+pub mod Parts
 pub mod Keeping

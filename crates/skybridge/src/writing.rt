@@ -81,7 +81,7 @@ pub fn bytes_of(text: Result<String, AllocError>) -> Result<Vec<u8>, AllocError>
 
 /// Writes a report, and the dump of a machine behind it.
 fn write_with_dump<K: Sink>(sink: &mut K, report: &str, machine: &Machine) -> Status
-    ensures { Writes (λ text. text ≡ report.now ++ machine_dump machine.now) result (K.held sink.old) (K.held sink.new)
+    ensures written { Writes (λ text. text ≡ report.now ++ machine_dump machine.now) result (K.held sink.old) (K.held sink.new)
         (K.faults sink.old) (K.faults sink.new) }
     ensures shows { DumpShows machine.now }
 {

@@ -1,6 +1,6 @@
 use Rattle.std.proofs.Common.{string_bytes, take}
 use Rattle.skybridge.specs.Runs.{RunsWithText}
-use Rattle.skybridge.proofs.bundle_commands.push_run.Given as goal
+use Rattle.skybridge.proofs.plain_run.push_run.Given as goal
 
 abbrev pub invariant-loop-core : goal.invariant-loop-core
 invariant-loop-core l =

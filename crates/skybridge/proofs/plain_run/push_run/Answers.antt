@@ -3,7 +3,7 @@ use Rattle.sb_state.specs.State.{State}
 use Rattle.sb_trace.proofs.Runs.{run_more}
 use Rattle.sb_trace.specs.Step.{Steps}
 use Rattle.skybridge.proofs.LineTexts.{text_more}
-use Rattle.skybridge.proofs.bundle_commands.push_run.Goals as goal
+use Rattle.skybridge.proofs.plain_run.push_run.Goals as goal
 
 pub loop-core-preserved : goal.loop-core-preserved
 loop-core-preserved c =
