@@ -5,6 +5,7 @@ pub mod Seen
 pub mod Places
 pub mod Frames
 pub mod Seats
+pub mod Following
 pub mod Moved
 pub mod Grounded
 pub mod Faulted
