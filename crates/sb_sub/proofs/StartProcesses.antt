@@ -28,7 +28,8 @@ pub over_of : (placement : Placement) (root : RootKernel) (book : Book) (memory 
     → Carries placement root book memory state → IsOver placement root book
 over_of placement root book memory state carries = record { rooted = carries.rooted; unused = carries.unused }
 
-own_set : (placement : Placement) (process : ℕ) (set : TableSet) → (placed_tables placement process set).sets process ≡ set
+-- a process whose tables are placed has them
+pub own_set : (placement : Placement) (process : ℕ) (set : TableSet) → (placed_tables placement process set).sets process ≡ set
 own_set placement process set =
     ap (λ (test : Bool). if test then set else placement.sets process) ((Decides-eqb process process).1 refl)
 

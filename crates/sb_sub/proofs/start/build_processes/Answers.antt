@@ -20,6 +20,7 @@ loop-number-init c = record {
   same = refl;
   left = first_left c.args.loaded.now c.args.root.now c.args.book.now c.args.memory.now c.args.processes.now c.requires.begun;
   fits = images_fit c.args.loaded.now c.bundle.ensures.loadable;
+  frames = refl;
   some = refl;
 }
 
@@ -106,6 +107,7 @@ loop-number-preserved c =
           c.add_process-set.result read left (omega (arith, under, size)) added);
       fits = (subst (AllByRecursion ImageFitsWindows) (images_more load c.loop-number.number image becomes read)
           c.loop-number.invariant.fits).1;
+      frames = c.add_process-set.ensures.frames ∙ c.loop-number.invariant.frames;
       some = omega (arith, need, some, fewer);
     }
 
