@@ -16,7 +16,6 @@ use Rattle.sb_state.specs.declared.end_kind.EndKind.{EndKind}
 use Rattle.sb_state.specs.declared.state.Flight.{Flight}
 use Rattle.sb_state.specs.declared.state.Thread.{Thread}
 use Rattle.sb_trace.specs.declared.event.Event.{Event}
-use Rattle.sb_trace.specs.declared.event.Event.TheVariants as event
 use Rattle.sb_trace.specs.State.{State, thread_at, flight_at}
 use Rattle.sb_trace.specs.PlainMemory.{plain}
 use Rattle.sb_trace.specs.Home.{Outcome as PlainOutcome}

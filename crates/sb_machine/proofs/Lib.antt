@@ -25,3 +25,4 @@ pub mod Shown
 pub mod Begun
 pub mod Decided
 pub mod Ending
+pub mod Ran

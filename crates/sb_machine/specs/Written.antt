@@ -1,7 +1,7 @@
 -- A step of the machine as it is written down: an instruction is fetched and executed through the nested walk of the core's own
 -- words, and where it asks for them the kernels do their part.
 use Rattle.std.specs.Prelude.{◌≡◌, ℕ, Result, Ok, Err}
-use Rattle.sb_memory.specs.Physical.{Physical}
+use Rattle.sb_memory.specs.Physical.{Physical, frame_count}
 use Rattle.sb_insn.specs.declared.insn.Insn.{Insn}
 use Rattle.sb_insn.specs.declared.registers.Regs.{Regs}
 use Rattle.sb_bus.specs.declared.stop.BusStop.{BusStop}
@@ -26,14 +26,15 @@ use Rattle.sb_machine.specs.Outcomes.{Outcome, next_outcome, fault_outcome, swit
 
 -- ---- a system call
 
--- The Subkernel serves a call: it may change its own tables, the root kernel's, the frame book and memory; then the core goes on
--- by the answer.
+-- The Subkernel serves a call: it may change its own tables, the root kernel's, the frame book and memory, of which no frame comes
+-- or goes; then the core goes on by the answer.
 pub record Calls (old : Machine) (number : ℕ) (insn : Insn) (event : Event) (new : Machine) : Type 0 where
   pub answer : Answer
   pub regs : Regs
   pub served : ServesBy syscall_outcome old.kernel old.root old.book old.memory new.kernel new.root new.book new.memory
       number (state_at old number).view answer (regs_behind insn (state_at old number).regs) regs
   pub lists : KeepsLists old.root new.root
+  pub frames : frame_count new.memory ≡ frame_count old.memory
   pub line : event ≡ line_of answer
   pub cores : new.cores
       ≡ (with_core old number

@@ -32,6 +32,7 @@ returns c =
           c.parts.inside.memory new.kernel new.root new.book new.memory c.args.number c.core-core.result.state.view answer
           c.regs_behind-regs.result regs) (sym c.set_core.ensures) c.serve-answer.ensures.served)));
       lists = search rules;
+      frames = search rules;
       line = search rules;
       cores = search rules;
     }
