@@ -26,8 +26,8 @@ use Rattle.sb_machine.specs.Outcomes.{Outcome, next_outcome, fault_outcome, swit
 
 -- ---- a system call
 
--- The Subkernel serves a call: it may change its own tables, the root kernel's, the frame book and memory, of which no frame comes
--- or goes; then the core goes on by the answer.
+-- The Subkernel serves a call: it may change its own tables, the root kernel's, the frame book and memory, of which no frame
+-- comes or goes; then the core goes on by the answer.
 pub record Calls (old : Machine) (number : ℕ) (insn : Insn) (event : Event) (new : Machine) : Type 0 where
   pub answer : Answer
   pub regs : Regs

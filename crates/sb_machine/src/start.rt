@@ -64,8 +64,8 @@ fn first_cores(
     Ok(cores)
 }
 
-/// The parts of a machine at the start of a loaded bundle: memory of its frames, the two kernels, and the cores, none of which has
-/// made a line.
+/// The parts of a machine at the start of a loaded bundle: memory of its frames, the two kernels, and the cores, none of which
+/// has made a line.
 ///
 /// # Errors
 ///

@@ -144,5 +144,6 @@ pub bound_frames : (entries : List Entry) (root root' : RootKernel) (book book' 
     → AddsServerView entries root root' book book' old new thread home server words index
     → eptp_list_frame root thread ≢ None → frame_count new ≡ frame_count old
 bound_frames entries root root' book book' old new thread home server words index adds there =
-    buffer_frames adds.client.set adds.target.set root' adds.between book' adds.mid new home thread index 0 BUFFER_PAGES adds.buffer
+    buffer_frames adds.client.set adds.target.set root' adds.between book' adds.mid new home thread index 0 BUFFER_PAGES
+    adds.buffer
     ∙ view_frames_kept (eptp_list_frame root thread) (view_frames adds.view) old adds.mid there adds.added.outside

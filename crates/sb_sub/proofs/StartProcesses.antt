@@ -46,7 +46,8 @@ module _ (placement : Placement) (root : RootKernel) (book between : Book) (memo
   there process = subst (λ n. length state.processes < n) (sym (length-append state.processes (process ∷ []))) (omega arith)
 
   carries_tables : (process : Process)
-      → Carries (placed_tables placement (length state.processes) tables.adds.set) root between mid (with_new_process state process)
+      → Carries (placed_tables placement (length state.processes) tables.adds.set) root between mid
+      (with_new_process state process)
   carries_tables process = record {
     keeps = (process_kept placement state memory mid process carries.keeps none tables.adds).in_place.keeps;
     rooted = tables.over.rooted;

@@ -222,7 +222,8 @@ impl SubKernel {
         ensures server { result.server ≡ server }
         ensures key { result.key ≡ first_key self.old.keys }
         ensures added { AddsServerView self.old.processes root.old root.new book.old book.new memory.old memory.new thread
-            (seat_in self.old thread).home server (record_of_server self.old thread server (first_key self.old.keys)) result.index }
+            (seat_in self.old thread).home server (record_of_server self.old thread server (first_key self.old.keys))
+            result.index }
         ensures fewer { free_count book.new + BIND_FRAMES ≡ free_count book.old }
         ensures noted { self.new ≡ kernel_with self.old thread result }
     {

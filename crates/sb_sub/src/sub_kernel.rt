@@ -312,8 +312,8 @@ impl SubKernel {
             thread view result regs.old regs.new }
         ensures refused { IsRefused result
             → (self.new ≡ self.old) × (root.new ≡ root.old) × (book.new ≡ book.old) × (memory.new ≡ memory.old) }
-        ensures memory { rax regs.old ≢ call_number Protect → rax regs.old ≢ call_number Register → rax regs.old ≢ call_number Bind
-            → memory.new ≡ memory.old }
+        ensures memory { rax regs.old ≢ call_number Protect → rax regs.old ≢ call_number Register
+            → rax regs.old ≢ call_number Bind → memory.new ≡ memory.old }
         ensures lists { KeepsLists root.old root.new }
         ensures frames { frame_count memory.new ≡ frame_count memory.old }
         ensures places { rax regs.old ≢ call_number Protect

@@ -96,7 +96,8 @@ loop-number-preserved c =
     record {
       root = c.add_process-set.ensures.root ∙ c.loop-number.invariant.root;
       size = ap (λ (all : List Entry). length all) c.keep_set.ensures
-          ∙ (length_same c.loop-number.processes c.loop-number.number c.add_process-set.result (omega (arith, under, size)) ∙ size);
+          ∙ (length_same c.loop-number.processes c.loop-number.number c.add_process-set.result (omega (arith, under, size))
+          ∙ size);
       same = ap (map process_of) c.keep_set.ensures
           ∙ (processes_same c.loop-number.processes c.loop-number.number c.add_process-set.result (omega (arith, under, size))
           ∙ c.loop-number.invariant.same);
