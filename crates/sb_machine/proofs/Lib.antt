@@ -22,6 +22,10 @@ pub mod Counting
 pub mod Counted
 pub mod Steps
 pub mod Shown
+pub mod Words
+pub mod CallNumbers
+pub mod Through
+pub mod Translated
 pub mod Begun
 pub mod Decided
 pub mod Ending

@@ -3,7 +3,9 @@ use Rattle.sb_memory.specs.Physical.{frame_count}
 use Rattle.sb_machine.specs.Counts.{CountsLine}
 use Rattle.sb_machine.specs.Machine.{Machine}
 use Rattle.sb_machine.specs.StandsFor.{IsMachineOf}
+use Rattle.sb_machine.specs.Translations.{KeepsTranslations}
 use Rattle.sb_machine.proofs.Counting.{step_counts, step_cores, step_frames}
+use Rattle.sb_machine.proofs.Translated.{steps_keep_translations}
 use Rattle.sb_machine.proofs.machine.Machine.step.Goals as goal
 
 pub invariant_of-self : goal.invariant_of-self
@@ -44,3 +46,10 @@ pub returns-clause-frames : goal.returns-clause-frames
 returns-clause-frames c =
     subst (λ (machine : Machine). frame_count c.step-event.new.parts.memory ≡ frame_count machine.memory) c.self.view_is
     (step_frames c.self.inside.parts c.args.core c.step-event.result c.step-event.new.parts c.step-event.ensures)
+
+pub returns-clause-translations : goal.returns-clause-translations
+returns-clause-translations c =
+    let there = subst (λ (machine : Machine). c.args.core < length machine.cores) (sym c.self.view_is) c.requires in
+    subst (λ (machine : Machine). KeepsTranslations c.step-event.result machine c.step-event.new.parts) c.self.view_is
+    (steps_keep_translations c.self.inside.parts c.args.core c.step-event.result c.step-event.new.parts c.self.invariant.0 there
+    c.self.invariant.1 c.step-event.ensures)
