@@ -1,0 +1,7 @@
+use Rattle.std.proofs.Common.{take}
+use Rattle.skybridge.specs.Runs.{HasRunWithLines}
+use Rattle.skybridge.proofs.machine_run.run.Given as goal
+
+abbrev pub invariant-loop-core : goal.invariant-loop-core
+invariant-loop-core l =
+    HasRunWithLines l.machine l.fn.loaded.now (take l.core-index l.fn.loaded.now.bundle.schedule) l.lines.items
