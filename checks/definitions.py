@@ -39,7 +39,10 @@ class Place:
 
 def without_comments(text):
     """The text of a file of specs/ without comments and texts in quotes."""
-    return re.sub(r'"(?:[^"\\]|\\.)*"', '""', re.sub(r"--.*$", "", text, flags=re.MULTILINE))
+    found = re.compile(r'"(?:[^"\\\n]|\\.)*"|--.*$', re.MULTILINE)
+    text = found.sub(lambda one: '""' if one.group(0).startswith('"') else "", text)
+    # A block of `do` is put together by this operator.
+    return text + " >>=" if re.search(r"\bdo\b", text) else text
 
 
 def statements(text, word):
