@@ -47,7 +47,8 @@ def without_comments(text):
 
 def statements(text, word):
     """The parts of the `use` lines that begin with this word, up to where their braces close."""
-    for found in re.finditer(rf"^[ \t]*(?:unfoldable )?(?:pub )?{word} (Rattle\.[^\n{{;]*)(?:\{{([^}}]*)\}})?([^\n;]*)", text, re.MULTILINE):
+    form = rf"^[ \t]*(?:unfoldable )?(?:pub )?{word} (Rattle\.[^\n{{;]*)(?:\{{([^}}]*)\}})?([^\n;]*)"
+    for found in re.finditer(form, text, re.MULTILINE):
         yield found.group(1).strip(), found.group(2), found.group(3).strip()
 
 
