@@ -4,15 +4,18 @@ These are the sentences of docs/KERNEL.md, "What memory shows", as far as a dump
 what each byte must be, no dump tells; a report before it tells the views of its threads.
 """
 
+import re
 from typing import Dict, Iterator, List, NamedTuple, Optional, Tuple
 
-from dumps import ENTRIES, PAGE, Dump
+from dumps import ENTRIES, PAGE, Dump, NoDump, read
 from sights import VIEWS, Seen, Sight, sights_of
 from timeline import Report, Wrong, lanes_of
+from timeline import read as read_report
 from walks import Access, is_eptp
 
 VMFUNC, VMFUNC_ADDRESS = bytes.fromhex("0f01d4"), 0x70000040
 HOME_PLACE, SERVER_PLACE = 0x1040, 0x4040  # the physical addresses at which its bytes stand
+FLIGHT = re.compile(r"^flight (\d) ", re.MULTILINE)  # the line of a thread in flight at a report's end
 MOST = 8  # places of one kind that are told
 
 
@@ -24,7 +27,7 @@ class End(NamedTuple):
     index: int
 
 
-class Machine(NamedTuple):
+class Dumped(NamedTuple):
     """A dump with all its views, and what the report before it tells of each thread, if there is one."""
 
     dump: Dump
@@ -54,14 +57,25 @@ def ends_of(report: Report, in_flight: List[int]) -> List[End]:
     return [End(end.home, 1 + binds.count(thread), indices[thread]) for thread, end in enumerate(report.ends)]
 
 
-def machine_of(dump: Dump, ends: Optional[List[End]]) -> Machine:
-    return Machine(dump, sights_of(dump), ends)
+def read_dumped(text: str) -> Dumped:
+    """Reads a dump, or a report with a dump behind it."""
+    if text.startswith("dump "):
+        return dumped_of(read(text))
+    report, found, dump = text.partition("\ndump ")
+    if not found:
+        raise NoDump("no line begins with `dump`")
+    in_flight = [int(thread) for thread in FLIGHT.findall(report)]
+    return dumped_of(read("dump " + dump, 2 + report.count("\n")), ends_of(read_report(report + "\n"), in_flight))
+
+
+def dumped_of(dump: Dump, ends: Optional[List[End]] = None) -> Dumped:
+    return Dumped(dump, sights_of(dump), ends)
 
 
 # ---- the facts
 
 
-def lists(machine: Machine) -> Iterator[str]:
+def lists(machine: Dumped) -> Iterator[str]:
     if machine.ends is not None and len(machine.ends) != len(machine.dump.cores):
         yield f"the dump has {len(machine.dump.cores)} cores, and the report {len(machine.ends)} threads"
     for thread, core in enumerate(machine.dump.cores):
@@ -74,7 +88,7 @@ def lists(machine: Machine) -> Iterator[str]:
                 yield f"{place}: the entry of the list is {word:x}, and the thread has {count} views"
 
 
-def pointers(machine: Machine) -> Iterator[str]:
+def pointers(machine: Dumped) -> Iterator[str]:
     for thread, core in enumerate(machine.dump.cores):
         entries = machine.dump.words(core.list_frame)
         place = f"thread {thread} frame {core.list_frame:x}: the core's EPT pointer is {core.eptp:x}"
@@ -84,7 +98,7 @@ def pointers(machine: Machine) -> Iterator[str]:
             yield f"{place}, and its thread is in view {machine.ends[thread].index}"
 
 
-def processes(machine: Machine) -> Iterator[str]:
+def processes(machine: Dumped) -> Iterator[str]:
     homes = {sight.thread: sight.process for sight in machine.sights if sight.index == 0}
     for sight in machine.sights:
         home = homes.get(sight.thread)
@@ -94,13 +108,13 @@ def processes(machine: Machine) -> Iterator[str]:
             yield f"thread {sight.thread} view {sight.index} shows {sight.shown} by CR3 {sight.view.cr3:x}; its home is {home}"
 
 
-def kinds(machine: Machine) -> Iterator[str]:
+def kinds(machine: Dumped) -> Iterator[str]:
     for page in machine.seen():
         if page.name is None or page.accesses not in page.name.accesses:
             yield f"{page.place}: {page.text} can be accessed by {accesses_text(page)}"
 
 
-def apart(machine: Machine) -> Iterator[str]:
+def apart(machine: Dumped) -> Iterator[str]:
     kept = {}
     for sight in machine.sights:
         for frame, told in sight.view.frames_read().items():
@@ -111,7 +125,7 @@ def apart(machine: Machine) -> Iterator[str]:
             yield f"{page.place}: {accesses_text(page)} leads into {kept[page.frame]}"
 
 
-def pattern(machine: Machine) -> Iterator[str]:
+def pattern(machine: Dumped) -> Iterator[str]:
     for sight in machine.sights:
         wanted = SERVER_PLACE if sight.index else HOME_PLACE
         found = dict(pattern_places(machine.dump, sight))
@@ -135,7 +149,7 @@ def pattern_places(dump: Dump, sight: Sight) -> Iterator[Tuple[int, int]]:
             at = code.find(VMFUNC, at + 1)
 
 
-def sharing(machine: Machine) -> Iterator[str]:
+def sharing(machine: Dumped) -> Iterator[str]:
     names: Dict[int, Seen] = {}
     frames: Dict[str, Seen] = {}
     for page in machine.seen():
@@ -147,7 +161,7 @@ def sharing(machine: Machine) -> Iterator[str]:
             yield f"{page.place}: {page.text}, which for {other.place} is in another frame"
 
 
-def written_or_fetched(machine: Machine) -> Iterator[str]:
+def written_or_fetched(machine: Dumped) -> Iterator[str]:
     written = {page.frame: page for page in machine.seen() if Access.WRITE in page.accesses}
     for page in machine.seen():
         if Access.FETCH in page.accesses and page.frame in written:
@@ -170,12 +184,12 @@ def accesses_text(page: Seen) -> str:
     return " and ".join(access.value for access in page.accesses)
 
 
-def faults_of(machine: Machine) -> Dict[str, List[str]]:
+def faults_of(machine: Dumped) -> Dict[str, List[str]]:
     """Where each fact fails, by its name."""
     return {told: list(fails(machine)) for told, fails in FACTS}
 
 
-def told(machine: Machine) -> Tuple[List[str], bool]:
+def told(machine: Dumped) -> Tuple[List[str], bool]:
     """A line for each fact that holds, and for each place at which one fails; and whether all hold."""
     lines = []
     found = faults_of(machine)
