@@ -47,6 +47,7 @@ def broken(case: Dumped) -> List[Tuple[str, str, Dump]]:
     lists, core = [core.list_frame for core in dump.cores], dump.cores[1]
     scratch, code = place_of(client, "EPT", 1, SCRATCH), place_of(client, "EPT", 1, TEXT)
     code_entry, data_entry = place_of(client, "guest", 1, TEXT), place_of(client, "guest", 1, DATA)
+    top = dump.word(place_of(client, "guest", 4, TEXT))
     data_of_server = dump.word(place_of(server, "guest", 1, DATA))
     text = client.walk(TEXT, Access.FETCH).place
     written = with_word(with_word(dump, code, lambda word: word | SEEN), code_entry, lambda word: word | WRITABLE)
@@ -62,6 +63,7 @@ def broken(case: Dumped) -> List[Tuple[str, str, Dump]]:
         ("data of another process", "sharing", with_word(dump, data_entry, lambda _: data_of_server)),
         ("another core's EPT pointer", "pointers", dump._replace(cores=[dump.cores[0], core._replace(eptp=server.eptp)])),
         ("another core's CR3", "processes", dump._replace(cores=[dump.cores[0], core._replace(cr3=server.cr3)])),
+        ("pages in the upper half", "kinds", with_word(dump, place_of(client, "guest", 4, TEXT) + 8 * 511, lambda _: top)),
         ("a text that can be read", "kinds", with_word(dump, code, lambda word: word | EPT_READ)),
     ]
 

@@ -9,7 +9,7 @@ from typing import Dict, Iterator, List, NamedTuple, Optional, Tuple
 
 from dumps import ENTRIES, PAGE, Dump, NoDump, read
 from sights import VIEWS, Seen, Sight, sights_of
-from timeline import Report, Wrong, lanes_of
+from timeline import HEAD, Report, Wrong, lanes_of
 from timeline import read as read_report
 from walks import Access, is_eptp
 
@@ -58,14 +58,15 @@ def ends_of(report: Report, in_flight: List[int]) -> List[End]:
 
 
 def read_dumped(text: str) -> Dumped:
-    """Reads a dump, or a report with a dump behind it."""
+    """Reads a dump, or a report with a dump behind it. A journal before the report, as `skycores` writes it, is passed over."""
     if text.startswith("dump "):
         return dumped_of(read(text))
-    report, found, dump = text.partition("\ndump ")
+    before, found, dump = text.partition("\ndump ")
     if not found:
         raise NoDump("no line begins with `dump`")
+    report = before[max(before.find(HEAD), 0) :] if before.startswith("journal ") else before
     in_flight = [int(thread) for thread in FLIGHT.findall(report)]
-    return dumped_of(read("dump " + dump, 2 + report.count("\n")), ends_of(read_report(report + "\n"), in_flight))
+    return dumped_of(read("dump " + dump, 2 + before.count("\n")), ends_of(read_report(report + "\n"), in_flight))
 
 
 def dumped_of(dump: Dump, ends: Optional[List[End]] = None) -> Dumped:

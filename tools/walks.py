@@ -120,6 +120,12 @@ class Table(NamedTuple):
     found: Walk
     words: Tuple[int, ...]
 
+    def permitted(self, access: Access) -> List[Tuple[int, int]]:
+        """Each entry that permits an access: the first linear address for it, and the guest frame to which it leads."""
+        entries = ((index, word) for index, word in enumerate(self.words) if word)  # 0 is not present
+        permitted = ((index, word) for index, word in entries if not guest_refusal(access, self.level, word))
+        return [(self.linear | index << shift(self.level), frame_in(word)) for index, word in permitted]
+
 
 class View(NamedTuple):
     """What a core sees: memory through an EPT pointer and CR3."""
@@ -173,18 +179,15 @@ class View(NamedTuple):
         found = self.ept_walk(PAGE * frame, Access.READ)
         table = Table(level, linear, found, () if found.place is None else self.dump.words(found.place // PAGE))
         yield table
-        for index, word in enumerate(table.words if level > 1 else ()):
-            if not guest_refusal(access, level, word):
-                yield from self.tables(access, level - 1, frame_in(word), linear | index << shift(level))
+        for first, below in table.permitted(access) if level > 1 else []:
+            yield from self.tables(access, level - 1, below, first)
 
     def lowest(self, tables: List[Table], access: Access) -> Iterator[Tuple[int, Walk]]:
         """The first linear address of each page whose lowest entry permits the access, and the walk of its page of the guest."""
         for table in tables:
-            for index, word in enumerate(table.words if table.level == 1 else ()):
-                if not guest_refusal(access, 1, word):
-                    linear = table.linear | index << shift(1)
-                    upper = 0xFFFF << 48 if linear >> 47 else 0
-                    yield linear | upper, self.ept_walk(PAGE * frame_in(word), access)
+            for linear, frame in table.permitted(access) if table.level == 1 else []:
+                upper = 0xFFFF << 48 if linear >> 47 else 0  # of the canonical address with these 48 bits
+                yield linear | upper, self.ept_walk(PAGE * frame, access)
 
     def pages(self, access: Access) -> Dict[int, int]:
         """The frame to which each page leads that can be accessed so, by the page's first linear address."""
