@@ -51,7 +51,7 @@ def ends_of(report: Report, in_flight: List[int]) -> List[End]:
     indices = [end.view for end in report.ends]
     for thread in in_flight:
         call = lanes_of(report)[thread].call if thread < len(indices) else None
-        if call is None:
+        if call is None or call.binding is None:
             raise Wrong(f"thread {thread} is in flight, and no line before begins its call")
         indices[thread] = call.binding
     return [End(end.home, 1 + binds.count(thread), indices[thread]) for thread, end in enumerate(report.ends)]
@@ -95,8 +95,10 @@ def pointers(machine: Dumped) -> Iterator[str]:
         place = f"thread {thread} frame {core.list_frame:x}: the core's EPT pointer is {core.eptp:x}"
         if not is_eptp(core.eptp) or core.eptp not in entries:
             yield f"{place}, which its list has not"
-        elif machine.ends is not None and thread < len(machine.ends) and entries[machine.ends[thread].index] != core.eptp:
-            yield f"{place}, and its thread is in view {machine.ends[thread].index}"
+        elif machine.ends is not None and thread < len(machine.ends):
+            index = machine.ends[thread].index
+            if entries[index : index + 1] != (core.eptp,):
+                yield f"{place}, and its thread is in view {index}"
 
 
 def processes(machine: Dumped) -> Iterator[str]:
@@ -123,7 +125,7 @@ def apart(machine: Dumped) -> Iterator[str]:
     kept.update({core.list_frame: f"the list of thread {thread}" for thread, core in enumerate(machine.dump.cores)})
     for page in machine.seen():
         if page.frame in kept:
-            yield f"{page.place}: {accesses_text(page)} leads into {kept[page.frame]}"
+            yield f"{page.place} leads by {accesses_text(page)} into {kept[page.frame]}"
 
 
 def pattern(machine: Dumped) -> Iterator[str]:
@@ -151,8 +153,8 @@ def pattern_places(dump: Dump, sight: Sight) -> Iterator[Tuple[int, int]]:
 
 
 def sharing(machine: Dumped) -> Iterator[str]:
-    names: Dict[int, Seen] = {}
-    frames: Dict[str, Seen] = {}
+    names: Dict[int, Seen] = {}  # the first page that was seen in each frame
+    frames: Dict[str, Seen] = {}  # the first that was seen of each name
     for page in machine.seen():
         other = names.setdefault(page.frame, page)
         if other.text != page.text:
