@@ -62,11 +62,12 @@ class Reader:
         self.at = found.end() if found else self.at
         return found
 
-    def require(self, fact: object) -> None:
+    def require(self, fact: object, taken: Optional["re.Match[str]"] = None) -> None:
+        """Refuses what stands next, or what was taken, unless this is so."""
         if not fact:
-            line = self.first + self.text.count("\n", 0, self.at)
-            told = self.text[self.at : self.at + 60].partition("\n")[0]
-            raise NoDump(f"line {line}: no dump goes on with `{told}`, or with what stands below it")
+            at = self.at if taken is None else taken.start()
+            line, told = self.first + self.text.count("\n", 0, at), self.text[at : at + 60].partition("\n")[0]
+            raise NoDump(f"line {line}: no dump goes on with `{told}` and what stands below it")
 
 
 def read(text: str, first: int = 1) -> Dump:
@@ -77,13 +78,13 @@ def read(text: str, first: int = 1) -> Dump:
     dump = Dump(int(head[1]), [], {})
     core = reader.next(CORE)
     while core:
-        reader.require(int(core[1]) == len(dump.cores))
+        reader.require(int(core[1]) == len(dump.cores), core)
         dump.cores.append(CoreWords(*(int(word, 16) for word in core.groups()[1:])))
         core = reader.next(CORE)
     last, frame = -1, reader.next(FRAME)
     while frame:
         number, page = int(frame[1], 16), bytes.fromhex(frame[2])
-        reader.require(last < number < dump.frames and any(page))
+        reader.require(last < number < dump.frames and any(page), frame)
         dump.contents[number] = page
         last, frame = number, reader.next(FRAME)
     reader.require(reader.next(END))
