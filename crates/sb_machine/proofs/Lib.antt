@@ -24,3 +24,6 @@ pub mod Shown
 pub mod Begun
 pub mod Decided
 pub mod Ending
+pub mod Writing
+pub mod DumpParts
+pub mod Dumped
