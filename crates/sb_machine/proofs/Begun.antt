@@ -1,10 +1,10 @@
--- A machine at the start stands for the start of the plain machine.
+-- A machine at the start stands for the start of the plain machine, and has made a run of no line.
 use Rattle.std.proofs.Common.{◌≡◌, ◌≢◌, ◌∙◌, sym, ap, subst, ℕ, zero, suc, ◌+◌, ◌*◌, ◌<◌, ◌≤◌, List, [], ◌∷◌, length, map, false, refl, arith, inl, inr, lit<, replicate}
 use Rattle.std.specs.Prelude.{Option, Some, None, slice_get, unwrap_or}
 use Rattle.std.specs.Option.{option_map}
 use Rattle.std.proofs.lemmas.Option.{slice_get-map, slice_get_past, slice_get_within}
 use Rattle.std.proofs.lemmas.Bool.{cases_lt}
-use Rattle.sb_memory.specs.Physical.{Physical, IsWordPlace}
+use Rattle.sb_memory.specs.Physical.{Physical, IsWordPlace, frame_count}
 use Rattle.sb_memory.specs.Words.{word_at}
 use Rattle.sb_memory.specs.declared.address.Frame.{Frame}
 use Rattle.sb_bundle.specs.declared.bundle.CoreStart.{CoreStart}
@@ -28,7 +28,9 @@ use Rattle.sb_shows.specs.Shows.{index_of, present_index}
 use Rattle.sb_sub.specs.Kernel.{Kernel}
 use Rattle.sb_sub.specs.StandsFor.{StandsFor}
 use Rattle.sb_machine.specs.declared.processor.Core.{Core}
+use Rattle.sb_machine.specs.Counts.{made_by}
 use Rattle.sb_machine.specs.Machine.{Machine, no_core, core_at, regs_of, words_of}
+use Rattle.sb_machine.specs.Ran.{HasRun}
 use Rattle.sb_machine.specs.Start.{list_of, first_core, first_cores}
 use Rattle.sb_machine.specs.StandsFor.{IsCoreOf, IsMachineOf}
 use Rattle.sb_machine.proofs.Present.{present_there, home_shown}
@@ -44,7 +46,8 @@ pub list_there : (root : RootKernel) (thread : ℕ) → eptp_list_frame root thr
 list_there root thread some = list_by (eptp_list_frame root thread) some
 
 -- the frame that is found is that of the definition
-pub list_is : (root : RootKernel) (thread : ℕ) (list : Frame) → eptp_list_frame root thread ≡ Some list → list ≡ list_of root thread
+pub list_is : (root : RootKernel) (thread : ℕ) (list : Frame) → eptp_list_frame root thread ≡ Some list
+    → list ≡ list_of root thread
 list_is root thread list is = sym (ap (λ found. unwrap_or found (record { 0 = 0 })) is)
 
 -- the first entry of a list is a word of memory
@@ -161,6 +164,9 @@ module _ (load : Load) (kernel : Kernel) (root : RootKernel) (book : Book) (memo
     own_regs : regs_of machine n ≡ (thread_at state n).regs
     own_regs = ap (λ (core : Core). core.state.regs) core_is ∙ sym (ap (λ (one : Thread). one.regs) thread_is)
 
+    own_made : made_by machine n ≡ 0
+    own_made = ap (λ (core : Core). core.state.made) core_is
+
     own_list : (frame : Frame) × (eptp_list_frame stands.placement.root n ≡ Some frame) × ((words_of machine n).list ≡ frame.0)
     own_list = (
       list_of root n,
@@ -207,6 +213,10 @@ module _ (load : Load) (kernel : Kernel) (root : RootKernel) (book : Book) (memo
     unfolding no_core
     none_regs = ap (λ (core : Core). core.state.regs) no_core_is ∙ sym (ap (λ (one : Thread). one.regs) no_thread_is)
 
+    none_made : made_by machine n ≡ 0
+    unfolding no_core
+    none_made = ap (λ (core : Core). core.state.made) no_core_is
+
   -- ---- of all
 
   some_start : (n : ℕ) → n < length load.bundle.cores → (start : CoreStart) × (slice_get load.bundle.cores n ≡ Some start)
@@ -228,6 +238,12 @@ module _ (load : Load) (kernel : Kernel) (root : RootKernel) (book : Book) (memo
     | inr past ↦ none_regs n past
   ]
 
+  each_made : (n : ℕ) → made_by machine n ≡ 0
+  each_made n = elim (cases_lt n (length load.bundle.cores)) [
+    | inl small ↦ let start = some_start n small in own_made n start.0 start.1
+    | inr past ↦ none_made n past
+  ]
+
   below : (n : ℕ) → n < length state.threads → n < length load.bundle.cores
   below n small = subst (λ count. n < count) (first_threads load) small
 
@@ -242,7 +258,7 @@ module _ (load : Load) (kernel : Kernel) (root : RootKernel) (book : Book) (memo
   begun : ℕ → Begun
   begun n = record { start = (thread_at state n).regs; failed = false }
 
-  pub first_machine : IsMachineOf machine state
+  first_machine : IsMachineOf machine state
   first_machine = record {
     stands = stands;
     sound = sound;
@@ -252,3 +268,7 @@ module _ (load : Load) (kernel : Kernel) (root : RootKernel) (book : Book) (memo
     beside = λ n. subst (λ found. IsBeside state n found (begun n) (regs_of machine n)) (sym (grounded n)) (each_regs n);
     cores = each_core;
   }
+
+  -- with the bundle's frames, it has made the run of no entry
+  pub first_run : frame_count memory ≡ load.bundle.frames → HasRun machine load [] [] state
+  first_run frames = record { runs = refl; stands = first_machine; made = each_made; frames = frames }

@@ -41,6 +41,7 @@ use Rattle.sb_machine.specs.StandsFor.{IsCoreOf, IsMachineOf}
 use Rattle.sb_machine.specs.Written.{Calls}
 use Rattle.sb_machine.specs.Laws.{Follows}
 use Rattle.sb_machine.proofs.Afterwards.{afterwards}
+use Rattle.sb_machine.proofs.Following.{follows_by}
 use Rattle.sb_machine.proofs.Grounded.{core_is, index_is, eptp_now}
 use Rattle.sb_machine.proofs.Present.{home_shown}
 use Rattle.sb_machine.proofs.Seen.{small, home_entry, set_view}
@@ -108,7 +109,8 @@ module _ (state : State) (number : ℕ) (small : number < length state.threads) 
   unfolding with_server with_word with_contents
   server_threads process handler stacks = refl
 
-  after_register : (process : ℕ) (refusal : Option CallRefusal) → After state number (register_outcome state number next process refusal)
+  after_register : (process : ℕ) (refusal : Option CallRefusal)
+      → After state number (register_outcome state number next process refusal)
   after_register process (Some refusal) = given state _ refl
   after_register process None =
       given (with_server state process (rdi next) (rsi next)) _ (server_threads process (rdi next) (rsi next))
@@ -124,7 +126,8 @@ module _ (state : State) (number : ℕ) (small : number < length state.threads) 
       set_within mid.threads number (record (thread_at mid number) { regs = regs }) no_thread inside
       ∙ ap (λ (one : Thread). record one { regs = regs }) (set_within state.threads number one no_thread small)
 
-  after_bind : (refusal : Option CallRefusal) → After state number (bind_outcome state number (thread_at state number) next refusal)
+  after_bind : (refusal : Option CallRefusal)
+      → After state number (bind_outcome state number (thread_at state number) next refusal)
   after_bind (Some refusal) = given state _ refl
   after_bind None =
       let thread = bound_thread (new_binding state (thread_at state number) (rdi next)) _ in
@@ -143,7 +146,8 @@ module _ (state : State) (number : ℕ) (small : number < length state.threads) 
       → After state number (protect_outcome_by state number next process page mode refusal)
   after_protect process page mode (Some refusal) = given state _ refl
   after_protect process page mode None =
-      claim_if (After state number) (mode == EXECUTE_MODE) _ _ (λ is. after_execute process page (heap_pattern state process page))
+      claim_if (After state number) (mode == EXECUTE_MODE) _ _
+      (λ is. after_execute process page (heap_pattern state process page))
       (λ is. given (with_heap_mode state process page false) _ (mode_threads process page false))
 
   -- the thread after each call
@@ -154,7 +158,8 @@ module _ (state : State) (number : ℕ) (small : number < length state.threads) 
       (λ is. claim_if (After state number) (rax next == 1) _ _ (λ is. given state _ refl)
       (λ is. claim_if (After state number) (rax next == 2) _ _ (λ is. after_register _ _)
       (λ is. claim_if (After state number) (rax next == 3) _ _ (λ is. after_bind _)
-      (λ is. claim_if (After state number) (rax next == 4) _ _ (λ is. after_protect (process_now (thread_at state number)) (rdi next) (rsi next)
+      (λ is. claim_if (After state number) (rax next == 4) _ _
+      (λ is. after_protect (process_now (thread_at state number)) (rdi next) (rsi next)
       (protect_refusal (heap_count (process_at state (process_now (thread_at state number)))) (rdi next) (rsi next)))
       (λ is. given state _ refl)))))
 
@@ -253,19 +258,17 @@ module _ (machine new : Machine) (state : State) (is : IsMachineOf machine state
       let own = by_answer calls.answer thread after in
       let index : present_index outcome.1 number ≡ thread.view =
       ap (λ found. index_of found thread.view) grounded_next in
-      subst (λ (told : Event). Follows new state number told) (sym (calls.line ∙ line_is)) (record {
-        next = outcome.1;
-        steps = steps;
-        stands = afterwards machine new state outcome.1 number outcome.0 core (is.begun number) is there steps serves.stands
-            calls.lists
-            (record {
-              cr3 = own.cr3;
-              list = own.list;
-              eptp = own.eptp
-                  ∙ (sym (calls.lists.entries number thread.view (set_view machine state is number there thread.view own.shows))
-                  ∙ ap (list_entry new.root number) (sym index));
-              beside = subst (λ found. IsBeside outcome.1 number found (is.begun number) core.state.regs) (sym grounded_next)
-                  (own.regs ∙ serves.registers);
-              own = subst (λ found. IsCoreOf thread found core) (sym grounded_next) own.own;
-            }) calls.cores;
-      })
+      subst (λ (told : Event). Follows new state number told) (sym (calls.line ∙ line_is))
+      (follows_by new state number outcome.0 outcome.1 is.sound steps
+      (afterwards machine new state outcome.1 number outcome.0 core (is.begun number) is there steps serves.stands
+      calls.lists
+      (record {
+        cr3 = own.cr3;
+        list = own.list;
+        eptp = own.eptp
+            ∙ (sym (calls.lists.entries number thread.view (set_view machine state is number there thread.view own.shows))
+            ∙ ap (list_entry new.root number) (sym index));
+        beside = subst (λ found. IsBeside outcome.1 number found (is.begun number) core.state.regs) (sym grounded_next)
+            (own.regs ∙ serves.registers);
+        own = subst (λ found. IsCoreOf thread found core) (sym grounded_next) own.own;
+      }) calls.cores))

@@ -48,7 +48,8 @@ module _ (machine : Machine) (state : State) (number : ℕ) (is : IsMachineOf ma
   same n = elim (cases_eq n number) [
     | inl here ↦ subst (λ (n : ℕ). IsSame (core_at machine n) (core_at new n)) (sym here) own_same
     | inr apart ↦ subst (λ (core : Core). IsSame (core_at machine n) core)
-        (sym (other_core machine new number (count_made (core_at machine number)) n apart refl)) (none_changed (core_at machine n))
+        (sym (other_core machine new number (count_made (core_at machine number)) n apart refl))
+        (none_changed (core_at machine n))
   ]
 
   words : words_of new ≡ words_of machine

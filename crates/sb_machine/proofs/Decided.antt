@@ -1,10 +1,9 @@
 -- A decided call in flight: its registers as the plain machine has them are a function of the phase and the real registers.
 use Rattle.std.proofs.Common.{◌≡◌, ◌∙◌, sym, ap, subst, ℕ, ◌+◌, ◌-◌, ◌*◌, ◌/◌, ◌%◌, ◌^◌, ◌≤◌, Bool, true, false, refl, arith}
-use Rattle.std.specs.Prelude.{Option, Some, None, slice_get, slice_index}
+use Rattle.std.specs.Prelude.{Some, slice_get, slice_index}
 use Rattle.std.specs.List.{AllByRecursion, Contains}
 use Rattle.std.proofs.lemmas.Nat.{trailing_le}
 use Rattle.sb_abi.specs.Numbers.{status_number}
-use Rattle.sb_abi.specs.declared.call.CallStatus.TheVariants as status
 use Rattle.sb_insn.specs.declared.registers.Regs.{Regs}
 use Rattle.sb_exec.specs.Words.{AreWords}
 use Rattle.sb_state.specs.declared.state.Binding.{Binding}

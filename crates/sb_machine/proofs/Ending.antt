@@ -1,28 +1,25 @@
 -- The report of a machine is that of each state for which it stands.
-use Rattle.std.proofs.Common.{◌≡◌, ◌∙◌, sym, ap, subst, ℕ, zero, suc, ◌+◌, ◌^◌, ◌<◌, ◌≤◌, ◌==◌, false, List, [], ◌∷◌, length, refl, arith, Result, Ok, Err}
+use Rattle.std.proofs.Common.{◌≡◌, ◌∙◌, sym, ap, subst, ℕ, suc, ◌+◌, ◌<◌, ◌≤◌, ◌==◌, false, List, [], ◌∷◌, length, refl, arith, Result, Ok, Err}
 use Rattle.std.specs.Prelude.{Option, Some, None, slice_get, unwrap_or, IfOk}
-use Rattle.std.specs.Option.{option_map}
 use Rattle.std.proofs.lemmas.List.{length-map}
 use Rattle.std.proofs.lemmas.Option.{slice_get_within}
 use Rattle.sb_abi.specs.declared.space.TheConstants.{WINDOW_THREADS}
 use Rattle.sb_insn.specs.declared.registers.Regs.{Regs}
 use Rattle.sb_state.specs.declared.end_kind.EndKind.{EndKind}
-use Rattle.sb_state.specs.declared.page.Page.{Page}
 use Rattle.sb_state.specs.declared.page.PageName.TheVariants.{Record}
 use Rattle.sb_state.specs.declared.state.Binding.{Binding}
 use Rattle.sb_state.specs.declared.state.Decision.{Decision}
 use Rattle.sb_state.specs.declared.state.Flight.{Flight}
-use Rattle.sb_state.specs.declared.state.Registration.{Registration}
 use Rattle.sb_state.specs.declared.state.Thread.{Thread}
 use Rattle.sb_state.specs.Windows.{process_now}
 use Rattle.sb_tramp.specs.declared.record_words.RecordWords.{RecordWords}
 use Rattle.sb_trace.specs.declared.end.EndState.{EndState}
 use Rattle.sb_trace.specs.declared.end.ThreadEnd.{ThreadEnd}
-use Rattle.sb_trace.specs.End.{phase_of, thread_end, thread_ends, end_of}
+use Rattle.sb_trace.specs.End.{thread_end, thread_ends, end_of}
 use Rattle.sb_trace.specs.KernelCall.{binding_with, handler_in}
 use Rattle.sb_trace.specs.Sound.{IsInFlight}
 use Rattle.sb_trace.specs.Start.{record_bytes}
-use Rattle.sb_trace.specs.State.{State, find_page, thread_at, flight_at, no_thread, process_at, registration_of, registration_at}
+use Rattle.sb_trace.specs.State.{State, find_page, thread_at, flight_at, no_thread, registration_of, registration_at}
 use Rattle.sb_trace.specs.SyscallBind.{server_words}
 use Rattle.sb_trace.proofs.Threads.{bound_there}
 use Rattle.sb_landing.specs.AtPhase.{AtPhase, record_word}
@@ -31,7 +28,7 @@ use Rattle.sb_landing.proofs.Bound.{HasPages, binding_pages, flight_sound}
 use Rattle.sb_landing.proofs.Steps.{record_has}
 use Rattle.sb_landing.proofs.Exchange.{not_zero}
 use Rattle.sb_landing.proofs.Words as page_words
-use Rattle.sb_sub.specs.Kernel.{Seat, seat_of, seat_in, shown_in, process_from}
+use Rattle.sb_sub.specs.Kernel.{seat_of, seat_in, shown_in, process_from}
 use Rattle.sb_sub.specs.Refusals.{process_in}
 use Rattle.sb_sub.proofs.Accepting.{found_same}
 use Rattle.sb_sub.proofs.Binding.{seat_is}

@@ -69,7 +69,8 @@ module _ (machine : Machine) (state : State) (is : IsMachineOf machine state) (n
   by_view true = ended
   by_view false = sent_home
 
-  pub fault_follows : FollowsOutcome state number (plain_fault state number kind address) (fault_outcome machine number kind address)
+  pub fault_follows : FollowsOutcome state number
+      (plain_fault state number kind address) (fault_outcome machine number kind address)
   fault_follows =
       subst (λ (view : ℕ). FollowsOutcome state number (plain_fault state number kind address)
       (if view == 0 then (event.Fault kind address, machine_with_end machine number (Faulted kind address))

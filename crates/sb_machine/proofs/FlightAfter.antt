@@ -45,7 +45,8 @@ pub record IsAfterPhase (state : State) (number : ℕ) (flight : Flight) (outcom
   pub home : flight.phase ≡ GO_HOME → flight_at outcome.1 number ≡ None
   pub goes : (next : Flight) → flight_at outcome.1 number ≡ Some next → flight.phase ≢ ENTER
 
-module _ (state : State) (number : ℕ) (flight : Flight) (sound : IsSound state) (flying : flight_at state number ≡ Some flight) where
+module _ (state : State) (number : ℕ) (flight : Flight) (sound : IsSound state)
+    (flying : flight_at state number ≡ Some flight) where
   abbrev thread : Thread
   thread = thread_at state number
 

@@ -23,6 +23,7 @@ use Rattle.sb_machine.specs.StandsFor.{IsCoreOf, IsMachineOf}
 use Rattle.sb_machine.specs.Written.{execution_on}
 use Rattle.sb_machine.specs.Laws.{Follows}
 use Rattle.sb_machine.proofs.Afterwards.{afterwards}
+use Rattle.sb_machine.proofs.Following.{follows_by}
 use Rattle.sb_machine.proofs.Grounded.{core_is, eptp_now}
 use Rattle.sb_machine.proofs.Executed.{IsQuiet, instruction_stands}
 use Rattle.sb_machine.proofs.Seen.{small, executed}
@@ -110,22 +111,21 @@ module _ (machine : Machine) (state : State) (is : IsMachineOf machine state) (n
       } in
       let alike = executed machine state is number there insn in
       let own = core_is machine state is number there grounded in
-      let new : Machine = record (with_core machine number core) { memory = (execution_on machine number insn).meaning.physical } in
+      let new : Machine = record (with_core machine number core) {
+        memory = (execution_on machine number insn).meaning.physical;
+      } in
       subst (λ (line : Event). Follows new state number line)
       (sym (line_is (state_at machine number).phase (state_at machine number).view
       (execution_on machine number insn).registers own.phase))
+      (follows_by new state number (StepLine rip) next is.sound steps
+      (afterwards machine new state next number (StepLine rip) core (is.begun number) is there steps
+      (instruction_stands machine state next number (StepLine rip) insn is there steps quiet refl)
+      (record { lists = λ n. refl; entries = λ n view set. refl })
       (record {
-        next = next;
-        steps = steps;
-        stands = afterwards machine new state next number (StepLine rip) core (is.begun number) is there steps
-            (instruction_stands machine state next number (StepLine rip) insn is there steps quiet refl)
-            (record { lists = λ n. refl; entries = λ n view set. refl })
-            (record {
-              cr3 = refl;
-              list = refl;
-              eptp = eptp_now machine state is number there grounded ∙ ap (list_entry machine.root number) (sym next_index);
-              beside = subst (λ found. IsBeside next number found (is.begun number) core.state.regs) (sym next_flight)
-                  (alike.registers ∙ sym (ap (λ (one : Thread). one.regs) next_thread));
-              own = core_next;
-            }) refl;
-      })
+        cr3 = refl;
+        list = refl;
+        eptp = eptp_now machine state is number there grounded ∙ ap (list_entry machine.root number) (sym next_index);
+        beside = subst (λ found. IsBeside next number found (is.begun number) core.state.regs) (sym next_flight)
+            (alike.registers ∙ sym (ap (λ (one : Thread). one.regs) next_thread));
+        own = core_next;
+      }) refl))

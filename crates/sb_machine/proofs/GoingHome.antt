@@ -48,6 +48,7 @@ use Rattle.sb_machine.specs.Outcomes.{home_line, home_state, regs_behind, homeco
 use Rattle.sb_machine.specs.StandsFor.{origin_by, origin_of, IsCoreOf, IsMachineOf}
 use Rattle.sb_machine.specs.Laws.{Follows}
 use Rattle.sb_machine.proofs.Afterwards.{afterwards}
+use Rattle.sb_machine.proofs.Following.{follows_by}
 use Rattle.sb_machine.proofs.InFlight.{core_is, plain_step, outcome, next, insn, lands, flies, after, law_beside}
 use Rattle.sb_machine.proofs.Phases.{undecided_away, entered_away}
 use Rattle.sb_machine.proofs.Present.{home_shown}
@@ -67,7 +68,8 @@ kept_zeros : (decided : Option Decision) (landing : Landing) (phase : ℕ) → C
     → AreWords landing.start → (eax (kept_regs landing decided) ≡ 0) × (ecx (kept_regs landing decided) ≡ 0)
 kept_zeros None landing phase among home words = absurd (undecided_away phase among home)
 kept_zeros (Some decision.WrongKey) landing phase among home words = zeros_of landing.start (status_number status.WrongKey) words
-kept_zeros (Some decision.PoolEmpty) landing phase among home words = zeros_of landing.start (status_number status.PoolEmpty) words
+kept_zeros (Some decision.PoolEmpty) landing phase among home words =
+    zeros_of landing.start (status_number status.PoolEmpty) words
 kept_zeros (Some decision.Entered) landing phase among home words = absurd (entered_away phase among home)
 
 -- ---- the view at home
@@ -96,7 +98,8 @@ switches_by : (phase : ℕ) (answer : Result Effect BusStop) → phase ≡ GO_HO
 switches_by phase answer home is goes = let switch : answer ≡ Ok Switch = is ∙ rw home refl in cc
 
 module _ (machine : Machine) (state : State) (is : IsMachineOf machine state) (number : ℕ) (there : number < length machine.cores)
-    (flight : Flight) (flying : flight_at state number ≡ Some flight) (law : StepsStayBeside) (home : flight.phase ≡ GO_HOME) where
+    (flight : Flight) (flying : flight_at state number ≡ Some flight) (law : StepsStayBeside)
+    (home : flight.phase ≡ GO_HOME) where
   abbrev end : State
   end = next machine state is number there flight flying law
 
@@ -222,24 +225,24 @@ module _ (machine : Machine) (state : State) (is : IsMachineOf machine state) (n
   homecoming_follows =
       let own = core_is machine state is number there flight flying law in
       let line = follows_line (state_at machine number).phase (state_at machine number).view own.phase in
-      subst (λ (told : Event). Follows (with_core machine number core) state number told) (line_same (homecoming machine number row entry).0 line) (record {
-        next = end;
-        steps = steps;
-        stands = afterwards machine (with_core machine number core) state end number
-            (outcome machine state is number there flight flying law).0 core
-            (begun_behind (flight_at end number) (is.begun number)) is there steps
-            (stands_moved machine.kernel machine.root machine.book machine.memory state end moved is.stands)
-            (record { lists = λ n. refl; entries = λ n view set. refl })
-            (record {
-              cr3 = refl;
-              list = refl;
-              eptp = ap (list_entry machine.root number)
-                  (sym (ap (λ found. index_of found (thread_at end number).view) landed ∙ at_home));
-              beside = subst (λ found. IsBeside end number found (begun_behind (flight_at end number) (is.begun number))
-                  (regs_behind row regs)) (sym landed) beside;
-              own = subst (λ found. IsCoreOf (thread_at end number) found core) (sym landed) core_next;
-            }) refl;
-      })
+      subst (λ (told : Event). Follows (with_core machine number core) state number told)
+      (line_same (homecoming machine number row entry).0 line)
+      (follows_by (with_core machine number core) state number (outcome machine state is number there flight flying law).0 end
+      is.sound steps
+      (afterwards machine (with_core machine number core) state end number
+      (outcome machine state is number there flight flying law).0 core
+      (begun_behind (flight_at end number) (is.begun number)) is there steps
+      (stands_moved machine.kernel machine.root machine.book machine.memory state end moved is.stands)
+      (record { lists = λ n. refl; entries = λ n view set. refl })
+      (record {
+        cr3 = refl;
+        list = refl;
+        eptp = ap (list_entry machine.root number)
+            (sym (ap (λ found. index_of found (thread_at end number).view) landed ∙ at_home));
+        beside = subst (λ found. IsBeside end number found (begun_behind (flight_at end number) (is.begun number))
+            (regs_behind row regs)) (sym landed) beside;
+        own = subst (λ found. IsCoreOf (thread_at end number) found core) (sym landed) core_next;
+      }) refl))
 
   -- the switch that the core makes leads home
   pub home_follows : Follows (switch_outcome machine number row).1 state number (switch_outcome machine number row).0

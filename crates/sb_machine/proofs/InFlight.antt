@@ -16,7 +16,6 @@ use Rattle.sb_state.specs.declared.end_kind.EndKind.{EndKind}
 use Rattle.sb_state.specs.declared.state.Flight.{Flight}
 use Rattle.sb_state.specs.declared.state.Thread.{Thread}
 use Rattle.sb_trace.specs.declared.event.Event.{Event}
-use Rattle.sb_trace.specs.declared.event.Event.TheVariants as event
 use Rattle.sb_trace.specs.State.{State, thread_at, flight_at}
 use Rattle.sb_trace.specs.PlainMemory.{plain}
 use Rattle.sb_trace.specs.Home.{Outcome as PlainOutcome}
@@ -45,6 +44,7 @@ use Rattle.sb_machine.specs.Laws.{Follows}
 use Rattle.sb_machine.proofs.Afterwards.{afterwards}
 use Rattle.sb_machine.proofs.FlightAfter.{IsAfterPhase, after_phase}
 use Rattle.sb_machine.proofs.Executed.{IsQuiet, instruction_stands}
+use Rattle.sb_machine.proofs.Following.{follows_by}
 use Rattle.sb_machine.proofs.Phases.{phase_read}
 use Rattle.sb_machine.proofs.Seen.{eptp_is, fetched, executed}
 
@@ -130,7 +130,8 @@ module _ (machine : Machine) (state : State) (is : IsMachineOf machine state) (n
       (one_fetch_on (plain number flight.index) state (regs_of machine number).rip tt tt tt result (Ok insn) here lands.fetched).0
 
   alike : Alike (Sees is.stands.placement number (present_index state number))
-      (execution_in_view state number (present_index state number) insn (regs_of machine number)) (execution_on machine number insn)
+      (execution_in_view state number (present_index state number) insn (regs_of machine number))
+      (execution_on machine number insn)
   alike = executed machine state is number there insn
 
   pub same_execution : execution_in_view state number (present_index state number) insn (regs_of machine number)
@@ -196,7 +197,8 @@ module _ (machine : Machine) (state : State) (is : IsMachineOf machine state) (n
         (steps_keep_sound state number outcome.0 next is.sound plain_step) placed in
         rw early (ap phase_at row ∙ phase_read (thread_at next number) flight' sound')
 
-    end_by : (found : Option Flight) → flight_at next number ≡ found → (core_at machine number).end ≡ (thread_at next number).state
+    end_by : (found : Option Flight) → flight_at next number ≡ found
+        → (core_at machine number).end ≡ (thread_at next number).state
     end_by None landed = core_is.end ∙ sym (ap (λ (one : Thread). one.state) (after.lands landed))
     end_by (Some flight') placed =
         let sound' = flight_sound next number flight'
@@ -216,7 +218,8 @@ module _ (machine : Machine) (state : State) (is : IsMachineOf machine state) (n
           ∙ after.origin (core_at machine number).origin core_is.origin;
     }
 
-    pub goes_on_follows : Follows (next_outcome machine number regs (execution_on machine number insn).meaning.physical).1 state number
+    pub goes_on_follows : Follows
+        (next_outcome machine number regs (execution_on machine number insn).meaning.physical).1 state number
         (next_outcome machine number regs (execution_on machine number insn).meaning.physical).0
     goes_on_follows =
         let new : Machine = record (with_core machine number core) {
@@ -228,18 +231,16 @@ module _ (machine : Machine) (state : State) (is : IsMachineOf machine state) (n
         (subst (λ (line : Event). LineChanges state number line next) lands.line
         (steps_change state number outcome.0 next plain_step).rest) in
         let pages = sym lands.memory ∙ sym (ap (λ one. one.meaning.pages) same_execution) in
-        subst (λ (line : Event). Follows new state number line) (sym line_is) (record {
-          next = next;
-          steps = plain_step;
-          stands = afterwards machine new state next number outcome.0 core begun_next is there plain_step
-              (instruction_stands machine state next number outcome.0 insn is there plain_step quiet pages)
-              (record { lists = λ n. refl; entries = λ n view set. refl })
-              (record {
-                cr3 = refl;
-                list = refl;
-                eptp = eptp_is machine state is number there
-                    ∙ ap (list_entry machine.root number) (index_is ∙ sym (after.index away));
-                beside = beside_next;
-                own = core_next;
-              }) refl;
-        })
+        subst (λ (line : Event). Follows new state number line) (sym line_is)
+        (follows_by new state number outcome.0 next is.sound plain_step
+        (afterwards machine new state next number outcome.0 core begun_next is there plain_step
+        (instruction_stands machine state next number outcome.0 insn is there plain_step quiet pages)
+        (record { lists = λ n. refl; entries = λ n view set. refl })
+        (record {
+          cr3 = refl;
+          list = refl;
+          eptp = eptp_is machine state is number there
+              ∙ ap (list_entry machine.root number) (index_is ∙ sym (after.index away));
+          beside = beside_next;
+          own = core_next;
+        }) refl))

@@ -5,6 +5,7 @@ pub mod Seen
 pub mod Places
 pub mod Frames
 pub mod Seats
+pub mod Following
 pub mod Moved
 pub mod Grounded
 pub mod Faulted
@@ -21,9 +22,14 @@ pub mod Counting
 pub mod Counted
 pub mod Steps
 pub mod Shown
+pub mod Words
+pub mod CallNumbers
+pub mod Through
+pub mod Translated
 pub mod Begun
 pub mod Decided
 pub mod Ending
 pub mod Writing
 pub mod DumpParts
 pub mod Dumped
+pub mod Ran

@@ -15,6 +15,7 @@ use Rattle.sb_machine.specs.Machine.{Machine, core_at, with_core}
 use Rattle.sb_machine.specs.StandsFor.{IsCoreOf, IsMachineOf}
 use Rattle.sb_machine.specs.Laws.{Follows}
 use Rattle.sb_machine.proofs.Afterwards.{afterwards}
+use Rattle.sb_machine.proofs.Following.{follows_by}
 use Rattle.sb_machine.proofs.Present.{thread_is}
 use Rattle.sb_machine.proofs.Seen.{small}
 
@@ -59,19 +60,17 @@ module _ (machine : Machine) (state : State) (is : IsMachineOf machine state) (n
 
   pub moved_follows : (core : Core) → IsCoreWith (core_at machine number) (list_entry machine.root number thread.view) thread core
       → (event : Event) → Steps state number event next → Follows (with_core machine number core) state number event
-  moved_follows core with_it event steps = record {
-    next = next;
-    steps = steps;
-    stands = afterwards machine (with_core machine number core) state next number event core (is.begun number) is there steps
-        (stands_moved machine.kernel machine.root machine.book machine.memory state next moved is.stands)
-        (record { lists = λ n. refl; entries = λ n index set. refl })
-        (record {
-          cr3 = with_it.cr3;
-          list = with_it.list;
-          eptp = with_it.eptp ∙ ap (list_entry machine.root number) (sym index_next);
-          beside = subst (λ found. IsBeside next number found (is.begun number) core.state.regs) (sym grounded_next)
-              (with_it.regs ∙ sym (ap (λ (one : Thread). one.regs) thread_next));
-          own = subst (λ found. IsCoreOf (thread_at next number) found core) (sym grounded_next)
-              (subst (λ one. IsCoreOf one None core) (sym thread_next) with_it.own);
-        }) refl;
-  }
+  moved_follows core with_it event steps =
+      follows_by (with_core machine number core) state number event next is.sound steps
+      (afterwards machine (with_core machine number core) state next number event core (is.begun number) is there steps
+      (stands_moved machine.kernel machine.root machine.book machine.memory state next moved is.stands)
+      (record { lists = λ n. refl; entries = λ n index set. refl })
+      (record {
+        cr3 = with_it.cr3;
+        list = with_it.list;
+        eptp = with_it.eptp ∙ ap (list_entry machine.root number) (sym index_next);
+        beside = subst (λ found. IsBeside next number found (is.begun number) core.state.regs) (sym grounded_next)
+            (with_it.regs ∙ sym (ap (λ (one : Thread). one.regs) thread_next));
+        own = subst (λ found. IsCoreOf (thread_at next number) found core) (sym grounded_next)
+            (subst (λ one. IsCoreOf one None core) (sym thread_next) with_it.own);
+      }) refl)

@@ -35,7 +35,8 @@ phase_read thread flight flies = at_phase_of IsRead flight.decided flight.phase 
 -- before the decision no phase ends the flight
 goes_on : (mask : ℕ) → AllByRecursion (λ phase. phase_after phase None mask ≢ None) (phases_of None)
 unfolding phase_after
-goes_on mask = (λ is. cc, (λ is. cc, (λ is. cc, (λ is. cc, (λ is. cc, (λ is. cc, (λ is. cc, (λ is. cc, (λ is. cc, (λ is. cc, tt))))))))))
+goes_on mask =
+    (λ is. cc, (λ is. cc, (λ is. cc, (λ is. cc, (λ is. cc, (λ is. cc, (λ is. cc, (λ is. cc, (λ is. cc, (λ is. cc, tt))))))))))
 
 pub undecided_goes_on : (thread : Thread) (flight : Flight) (mask : ℕ) → IsInFlight thread flight → flight.decided ≡ None
     → phase_after flight.phase None mask ≢ None

@@ -25,7 +25,8 @@ use Rattle.sb_machine.specs.Machine.{Machine, state_at, view_at, no_account}
 use Rattle.sb_machine.specs.StandsFor.{IsMachineOf}
 use Rattle.sb_machine.specs.Written.{FetchesNext, execution_on}
 
-module _ (machine : Machine) (state : State) (is : IsMachineOf machine state) (number : ℕ) (there : number < length machine.cores) where
+module _ (machine : Machine) (state : State) (is : IsMachineOf machine state) (number : ℕ)
+    (there : number < length machine.cores) where
   -- the core's thread is one of the state's
   pub small : number < length state.threads
   small = subst (λ count. number < count) is.count there

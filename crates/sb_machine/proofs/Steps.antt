@@ -42,6 +42,7 @@ use Rattle.sb_machine.specs.Laws.{Follows, StepsArePlain}
 use Rattle.sb_machine.proofs.Called.{call_follows}
 use Rattle.sb_machine.proofs.Counted.{counted}
 use Rattle.sb_machine.proofs.Faulted.{fault_follows}
+use Rattle.sb_machine.proofs.Following.{follows_by}
 use Rattle.sb_machine.proofs.Going.{next_follows}
 use Rattle.sb_machine.proofs.GoingHome.{home_follows}
 use Rattle.sb_machine.proofs.Grounded.{plain_steps}
@@ -53,7 +54,8 @@ use Rattle.sb_machine.proofs.Switched.{vmfunc_follows}
 abbrev FollowsBy : State → ℕ → Outcome → Type 0
 FollowsBy state number outcome = Follows outcome.1 state number outcome.0
 
-module _ (machine : Machine) (state : State) (is : IsMachineOf machine state) (number : ℕ) (there : number < length machine.cores) where
+module _ (machine : Machine) (state : State) (is : IsMachineOf machine state) (number : ℕ)
+    (there : number < length machine.cores) where
   -- ---- out of flight
 
   module _ (grounded : flight_at state number ≡ None) (running : (thread_at state number).state ≡ Running) where
@@ -87,8 +89,9 @@ module _ (machine : Machine) (state : State) (is : IsMachineOf machine state) (n
           → Steps state number outcome.0 outcome.1
       plain_performs answer at outcome performs =
           plain_steps machine state is number there grounded running (Ok insn) fetches outcome
-          (subst (λ (one : Result Effect BusStop). PlainPerforms vmfunc_outcome state number insn (state_at machine number).regs one
-          executed_plain.registers executed_plain.meaning outcome) (sym at ∙ alike.answer) performs)
+          (subst (λ (one : Result Effect BusStop). PlainPerforms vmfunc_outcome state number insn
+          (state_at machine number).regs one executed_plain.registers executed_plain.meaning outcome)
+          (sym at ∙ alike.answer) performs)
 
       behind : (execution_on machine number insn).answer ≡ Ok Switch → next_rip insn (state_at machine number).regs ≡ home_address
       behind at =
@@ -177,21 +180,19 @@ module _ (machine : Machine) (state : State) (is : IsMachineOf machine state) (n
   by_flight law None grounded running outcome runs = by_fetch grounded running runs.0 runs.1 outcome runs.2
   by_flight law (Some flight) flying running outcome runs = flying_follows law flight flying runs.0 runs.1 outcome runs.2
 
+  idle : (end : EndKind) → (thread_at state number).state ≡ end
+      → PlainStepsBy state number (thread_at state number) end (Idle, state) → FollowsBy state number (Idle, machine)
+  idle end ended steps =
+      follows_by machine state number Idle state is.sound
+      (subst (λ (end : EndKind). PlainStepsBy state number (thread_at state number) end (Idle, state)) (sym ended) steps) is
+
   by_end : StepsStayBeside → (end : EndKind) → (thread_at state number).state ≡ end → (outcome : Outcome)
       → StepsBy machine number end outcome → FollowsBy state number outcome
   by_end law Running running outcome runs = by_flight law (flight_at state number) refl running outcome runs
   by_end law (Ended status) ended outcome is_it =
-      subst (FollowsBy state number) (sym is_it) (record {
-        next = state;
-        steps = subst (λ (end : EndKind). PlainStepsBy state number (thread_at state number) end (Idle, state)) (sym ended) refl;
-        stands = is;
-      })
+      subst (FollowsBy state number) (sym is_it) (idle (Ended status) ended refl)
   by_end law (Faulted kind address) ended outcome is_it =
-      subst (FollowsBy state number) (sym is_it) (record {
-        next = state;
-        steps = subst (λ (end : EndKind). PlainStepsBy state number (thread_at state number) end (Idle, state)) (sym ended) refl;
-        stands = is;
-      })
+      subst (FollowsBy state number) (sym is_it) (idle (Faulted kind address) ended refl)
 
 works_are_plain : StepsStayBeside → (old : Machine) (number : ℕ) (event : Event) (new : Machine) (state : State)
     → number < length old.cores → IsMachineOf old state → Works old number event new → Follows new state number event
@@ -203,9 +204,6 @@ works_are_plain law old number event new state there is works =
 pub steps_are_plain : StepsStayBeside → StepsArePlain
 steps_are_plain law old number event new state there is steps =
     let follows = works_are_plain law old number event steps.0 state there is steps.1 in
-    record {
-      next = follows.next;
-      steps = follows.steps;
-      stands = subst (λ (machine : Machine). IsMachineOf machine follows.next) (sym steps.2)
-          (counted steps.0 follows.next number follows.stands);
-    }
+    follows_by new state number event follows.next is.sound follows.steps
+    (subst (λ (machine : Machine). IsMachineOf machine follows.next) (sym steps.2)
+    (counted steps.0 follows.next number follows.stands))

@@ -40,13 +40,15 @@ use Rattle.sb_machine.specs.Outcomes.{Outcome, fault_outcome, refusal_outcome, r
 use Rattle.sb_machine.specs.StandsFor.{origin_of, IsCoreOf, IsMachineOf}
 use Rattle.sb_machine.specs.Laws.{Follows}
 use Rattle.sb_machine.proofs.Afterwards.{afterwards}
+use Rattle.sb_machine.proofs.Following.{follows_by}
 use Rattle.sb_machine.proofs.Grounded.{regs_are, core_is, eptp_now}
 use Rattle.sb_machine.proofs.Faulted.{FollowsOutcome, fault_follows}
 use Rattle.sb_machine.proofs.Moved.{moved_follows}
 use Rattle.sb_machine.proofs.Present.{thread_is, thread_sound, home_shown}
 use Rattle.sb_machine.proofs.Seen.{small, root_stands, set_view, list_is}
 
-module _ (machine : Machine) (state : State) (is : IsMachineOf machine state) (number : ℕ) (there : number < length machine.cores) where
+module _ (machine : Machine) (state : State) (is : IsMachineOf machine state) (number : ℕ)
+    (there : number < length machine.cores) where
   unshown : (index : ℕ) → (index == 0) ≡ false → binding_with (thread_at state number).bindings index ≡ None
       → process_shown state.threads number index ≡ None
   unfolding process_shown
@@ -211,30 +213,27 @@ module _ (machine : Machine) (state : State) (is : IsMachineOf machine state) (n
         let own = core_is machine state is number there grounded in
         let words = (thread_sound state number is.sound (small machine state is number there)).words in
         let core : Core = core_in_flight (core_at machine number) insn binding.index eptp in
-        record {
-          next = next;
-          steps = steps;
-          stands = afterwards machine (with_core machine number core) state next number (event.Landing VMFUNC_PHASE) core begun is
-              there steps
-              (stands_moved machine.kernel machine.root machine.book machine.memory state next moved is.stands)
-              (record { lists = λ n. refl; entries = λ n index set. refl })
-              (record {
-                cr3 = refl;
-                list = refl;
-                eptp = entry
-                    ∙ ap (list_entry machine.root number)
-                    (sym (ap (λ found. index_of found (thread_at next number).view) placed));
-                beside = subst (λ found. IsBeside next number found begun core.state.regs) (sym placed)
-                    (subst (λ (one : Regs). AtPhase next number (first_flight binding.index) thread.regs false one) (sym behind_is)
-                    (flights_begin state number binding.index words).phase);
-                own = subst (λ found. IsCoreOf (thread_at next number) found core) (sym placed) (record {
-                  view = refl;
-                  phase = refl;
-                  end = own.end ∙ sym (ap (λ (one : Thread). one.state) thread_next);
-                  origin = origin_is;
-                });
-              }) refl;
-        }
+        follows_by (with_core machine number core) state number (event.Landing VMFUNC_PHASE) next is.sound steps
+        (afterwards machine (with_core machine number core) state next number (event.Landing VMFUNC_PHASE) core begun is
+        there steps
+        (stands_moved machine.kernel machine.root machine.book machine.memory state next moved is.stands)
+        (record { lists = λ n. refl; entries = λ n index set. refl })
+        (record {
+          cr3 = refl;
+          list = refl;
+          eptp = entry
+              ∙ ap (list_entry machine.root number)
+              (sym (ap (λ found. index_of found (thread_at next number).view) placed));
+          beside = subst (λ found. IsBeside next number found begun core.state.regs) (sym placed)
+              (subst (λ (one : Regs). AtPhase next number (first_flight binding.index) thread.regs false one) (sym behind_is)
+              (flights_begin state number binding.index words).phase);
+          own = subst (λ found. IsCoreOf (thread_at next number) found core) (sym placed) (record {
+            view = refl;
+            phase = refl;
+            end = own.end ∙ sym (ap (λ (one : Thread). one.state) thread_next);
+            origin = origin_is;
+          });
+        }) refl)
 
   -- ---- by leaf and index
 

@@ -11,9 +11,9 @@ use Rattle.sb_machine.specs.Machine.{Machine, words_of}
 use Rattle.sb_machine.specs.Written.{Steps}
 use Rattle.sb_machine.specs.StandsFor.{IsMachineOf}
 
--- The plain machine has a step with this line, and the machine stands for the state after it. That step is one of the machine that
--- calls in one step, or has a landing line and changes flights alone; what it changes is what its line permits; and behind it
--- VMFUNC's bytes may be fetched at one address alone.
+-- The plain machine has a step with this line, and the machine stands for the state after it. That step is one of the machine
+-- that calls in one step, or has a landing line and changes flights alone; what it changes is what its line permits; and behind
+-- it VMFUNC's bytes may be fetched at one address alone.
 pub record Follows (new : Machine) (state : State) (number : ℕ) (event : Event) : Type 0 where
   pub next : State
   pub steps : PlainSteps state number event next

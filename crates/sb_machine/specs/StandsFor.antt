@@ -24,7 +24,8 @@ abbrev pub origin_of : Thread → Option Flight → Option Origin
 origin_of thread None = None
 origin_of thread (Some flight) = origin_by thread flight.decided
 
--- A core has the view of its thread, the phase of its flight, and the place that is kept of it; and it has ended as its thread has.
+-- A core has the view of its thread, the phase of its flight, and the place that is kept of it; and it has ended as its thread
+-- has.
 pub record IsCoreOf (thread : Thread) (flight : Option Flight) (core : Core) : Type 0 where
   pub view : core.state.view ≡ index_of flight thread.view
   pub phase : core.state.phase ≡ option_map phase_of flight

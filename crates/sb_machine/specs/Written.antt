@@ -1,7 +1,9 @@
 -- A step of the machine as it is written down: an instruction is fetched and executed through the nested walk of the core's own
 -- words, and where it asks for them the kernels do their part.
-use Rattle.std.specs.Prelude.{◌≡◌, ℕ, Result, Ok, Err}
-use Rattle.sb_memory.specs.Physical.{Physical}
+use Rattle.std.specs.Prelude.{◌≡◌, ◌≢◌, ℕ, Result, Ok, Err}
+use Rattle.sb_abi.specs.Numbers.{call_number}
+use Rattle.sb_abi.specs.declared.call.Call.TheVariants.{Register, Bind, Protect}
+use Rattle.sb_memory.specs.Physical.{Physical, frame_count}
 use Rattle.sb_insn.specs.declared.insn.Insn.{Insn}
 use Rattle.sb_insn.specs.declared.registers.Regs.{Regs}
 use Rattle.sb_bus.specs.declared.stop.BusStop.{BusStop}
@@ -14,26 +16,36 @@ use Rattle.sb_exec.specs.Fetching.{FetchesOn}
 use Rattle.sb_exec.specs.Rows.{row_of}
 use Rattle.sb_nested.specs.View.{View}
 use Rattle.sb_nested.specs.Store.{view_interface}
+use Rattle.sb_state.specs.Registers.{rax}
 use Rattle.sb_state.specs.declared.end_kind.EndKind.{EndKind}
 use Rattle.sb_state.specs.declared.end_kind.EndKind.TheVariants.{Running, Ended, Faulted}
 use Rattle.sb_trace.specs.declared.event.Event.{Event}
 use Rattle.sb_trace.specs.declared.event.Event.TheVariants.{Idle}
 use Rattle.sb_trace.specs.Syscall.{syscall_outcome}
 use Rattle.sb_sub.specs.declared.answer.Answer.{Answer}
-use Rattle.sb_sub.specs.Serving.{ServesBy, KeepsLists, line_of}
+use Rattle.sb_sub.specs.Serving.{IsRefused, ServesBy, KeepsLists, line_of}
+use Rattle.sb_sub.specs.Translations.{PlacesStay}
 use Rattle.sb_machine.specs.Machine.{Machine, core_at, state_at, with_core, view_at, no_account}
 use Rattle.sb_machine.specs.Outcomes.{Outcome, next_outcome, fault_outcome, switch_outcome, home_eptp, regs_behind, core_after_call, with_line}
 
 -- ---- a system call
 
--- The Subkernel serves a call: it may change its own tables, the root kernel's, the frame book and memory; then the core goes on
--- by the answer.
+-- The Subkernel serves a call: it may change its own tables, the root kernel's, the frame book and memory, of which no frame
+-- comes or goes; then the core goes on by the answer. A call that is refused changes none of them, one that does not register,
+-- bind or protect leaves memory, and one that does not protect leaves each place that is reached.
 pub record Calls (old : Machine) (number : ℕ) (insn : Insn) (event : Event) (new : Machine) : Type 0 where
   pub answer : Answer
   pub regs : Regs
   pub served : ServesBy syscall_outcome old.kernel old.root old.book old.memory new.kernel new.root new.book new.memory
       number (state_at old number).view answer (regs_behind insn (state_at old number).regs) regs
   pub lists : KeepsLists old.root new.root
+  pub frames : frame_count new.memory ≡ frame_count old.memory
+  pub refused : IsRefused answer
+      → (new.kernel ≡ old.kernel) × (new.root ≡ old.root) × (new.book ≡ old.book) × (new.memory ≡ old.memory)
+  pub quiet : rax (state_at old number).regs ≢ call_number Protect → rax (state_at old number).regs ≢ call_number Register
+      → rax (state_at old number).regs ≢ call_number Bind → new.memory ≡ old.memory
+  pub places : rax (state_at old number).regs ≢ call_number Protect
+      → PlacesStay old.kernel old.root old.book old.memory new.memory
   pub line : event ≡ line_of answer
   pub cores : new.cores
       ≡ (with_core old number

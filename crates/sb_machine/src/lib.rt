@@ -1,10 +1,10 @@
 //! The machine with page tables: cores whose instructions go through the nested walk of physical memory, and the two kernels.
 //!
-//! A step of a core fetches the instruction at RIP and executes it, through the EPT pointer and the CR3 of that core. At a SYSCALL
-//! the Subkernel serves the call, and at a fault, or a VMFUNC that the list refuses, the thread ends or is sent home. All else is
-//! done by instructions, the landing of a call too: the phase of a thread in flight is read off RIP. To contracts the machine is
-//! its bytes, the tables of its kernels and its cores, and a step is `Steps` of the definitions. Where it stands for a state of the
-//! plain machine, the plain machine has a step with the same line, and the machine stands for the state after it.
+//! A step of a core fetches the instruction at RIP and executes it, through the EPT pointer and the CR3 of that core. At a
+//! SYSCALL the Subkernel serves the call, and at a fault, or a VMFUNC that the list refuses, the thread ends or is sent home. All
+//! else is done by instructions, the landing of a call too: the phase of a thread in flight is read off RIP. To contracts the
+//! machine is its bytes, the tables of its kernels and its cores, and a step is `Steps` of the definitions. Where it stands for a
+//! state of the plain machine, the plain machine has a step with the same line, and the machine stands for the state after it.
 //!
 //! Inside: cores (`processor`), the machine (`machine`) and its parts
 //! (`parts`), an instruction (`instruction`), what follows it (`outcome`), VMFUNC (`vmfunc`),

@@ -9,6 +9,7 @@ ghost use Rattle.sb_machine.specs.Laws.{Follows};
 ghost use Rattle.sb_machine.specs.Machine.{core_at};
 ghost use Rattle.sb_machine.specs.Ran.{HasRun};
 ghost use Rattle.sb_machine.specs.StandsFor.{IsMachineOf};
+ghost use Rattle.sb_machine.specs.Translations.{KeepsTranslations};
 ghost use Rattle.sb_machine.specs.Written.{Steps};
 
 use crate::laws::steps_are_plain;
@@ -59,11 +60,15 @@ impl Machine {
     /// The step is the written one, through the walks of the core's own words, and counts one line of its core. From each state
     /// for which the machine stands the plain machine has a step with this line, of which the laws hold (docs/LAWS.md), and the
     /// machine stands for the state after it.
+    ///
+    /// Each translation through each pointer of a list gives the address or the refusal that it gave, but where a call is served.
+    /// That one, if it does not protect, leaves each translation that gave an address.
     pub fn step(&mut self, core: u8) -> Line
         requires { core < length self.old.cores }
         ensures core { result.core ≡ core }
         ensures step { Steps self.old core result.event self.new }
         ensures plain { (state : State) → IsMachineOf self.old state → Follows self.new state core result.event }
+        ensures translations { KeepsTranslations result.event self.old self.new }
         ensures stands { (state : State) × IsMachineOf self.new state }
         ensures counts { CountsLine self.old core self.new }
         ensures cores { length self.new.cores ≡ length self.old.cores }

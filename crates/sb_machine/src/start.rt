@@ -1,11 +1,11 @@
 //! A machine at the start of a loaded bundle.
 
-ghost use Rattle.std.specs.Prelude.{ℕ, ◌≡◌, ◌≢◌, ◌<◌, ◌≤◌, IfOk, None, length};
+ghost use Rattle.std.specs.Prelude.{ℕ, ◌≡◌, ◌≢◌, ◌<◌, ◌≤◌, [], IfOk, None, length};
 ghost use Rattle.sb_abi.specs.declared.space.TheConstants.{WINDOW_THREADS};
 ghost use Rattle.sb_root.specs.Root.{eptp_list_frame};
 ghost use Rattle.sb_root.specs.Standing.{Stands};
 ghost use Rattle.sb_load.specs.FirstState.{first_state};
-ghost use Rattle.sb_machine.specs.StandsFor.{IsMachineOf};
+ghost use Rattle.sb_machine.specs.Ran.{HasRun};
 ghost use Rattle.sb_machine.specs.Start.{first_core, first_cores};
 
 use crate::parts::Parts;
@@ -64,13 +64,14 @@ fn first_cores(
     Ok(cores)
 }
 
-/// The parts of a machine at the start of a loaded bundle: memory of its frames, the two kernels, and the cores.
+/// The parts of a machine at the start of a loaded bundle: memory of its frames, the two kernels, and the cores, none of which
+/// has made a line.
 ///
 /// # Errors
 ///
 /// Want of memory alone.
 pub fn first_parts(alloc: Global, loaded: &Loaded) -> Result<Parts, AllocError>
-    ensures { IfOk result (λ parts. IsMachineOf parts (first_state loaded.now)) }
+    ensures { IfOk result (λ parts. HasRun parts loaded.now [] [] (first_state loaded.now)) }
 {
     let bundle = loaded.bundle();
     let mut memory = Memory::new(alloc, bundle.frames)?;

@@ -26,6 +26,7 @@ pub mod StartPages
 pub mod StartTables
 pub mod StartThreads
 pub mod StartProcesses
+pub mod Frames
 pub mod Begun
 pub mod StartImages
 pub mod StartEntries

@@ -28,7 +28,8 @@ pub over_of : (placement : Placement) (root : RootKernel) (book : Book) (memory 
     → Carries placement root book memory state → IsOver placement root book
 over_of placement root book memory state carries = record { rooted = carries.rooted; unused = carries.unused }
 
-own_set : (placement : Placement) (process : ℕ) (set : TableSet) → (placed_tables placement process set).sets process ≡ set
+-- a process whose tables are placed has them
+pub own_set : (placement : Placement) (process : ℕ) (set : TableSet) → (placed_tables placement process set).sets process ≡ set
 own_set placement process set =
     ap (λ (test : Bool). if test then set else placement.sets process) ((Decides-eqb process process).1 refl)
 
@@ -45,7 +46,8 @@ module _ (placement : Placement) (root : RootKernel) (book between : Book) (memo
   there process = subst (λ n. length state.processes < n) (sym (length-append state.processes (process ∷ []))) (omega arith)
 
   carries_tables : (process : Process)
-      → Carries (placed_tables placement (length state.processes) tables.adds.set) root between mid (with_new_process state process)
+      → Carries (placed_tables placement (length state.processes) tables.adds.set) root between mid
+      (with_new_process state process)
   carries_tables process = record {
     keeps = (process_kept placement state memory mid process carries.keeps none tables.adds).in_place.keeps;
     rooted = tables.over.rooted;

@@ -3,6 +3,7 @@
 ghost use Rattle.std.specs.Prelude.{ℕ, ◌≡◌, ◌≢◌, ◌+◌, ◌<◌, ◌≤◌, List, IfErr, drop, length, slice_set};
 ghost use Rattle.sb_abi.specs.declared.frames.TheConstants.{BIND_FRAMES};
 ghost use Rattle.sb_abi.specs.declared.space.TheConstants.{BUFFER_PAGES, MAX_BINDINGS, MAX_THREADS, MAX_VIEWS};
+ghost use Rattle.sb_memory.specs.Physical.{frame_count};
 ghost use Rattle.sb_frames.specs.Book.{free_count};
 ghost use Rattle.sb_pagewalk.specs.Windows.{IsInWindow};
 ghost use Rattle.sb_trace.specs.KernelCall.{handler_in};
@@ -221,7 +222,8 @@ impl SubKernel {
         ensures server { result.server ≡ server }
         ensures key { result.key ≡ first_key self.old.keys }
         ensures added { AddsServerView self.old.processes root.old root.new book.old book.new memory.old memory.new thread
-            (seat_in self.old thread).home server (record_of_server self.old thread server (first_key self.old.keys)) result.index }
+            (seat_in self.old thread).home server (record_of_server self.old thread server (first_key self.old.keys))
+            result.index }
         ensures fewer { free_count book.new + BIND_FRAMES ≡ free_count book.old }
         ensures noted { self.new ≡ kernel_with self.old thread result }
     {
@@ -250,6 +252,7 @@ impl SubKernel {
         ensures refused { IfErr result (λ _. (self.new ≡ self.old) × (root.new ≡ root.old) × (book.new ≡ book.old)
             × (memory.new ≡ memory.old)) }
         ensures lists { KeepsLists root.old root.new }
+        ensures frames { frame_count memory.new ≡ frame_count memory.old }
         ensures places { PlacesStay self.old root.old book.old memory.old memory.new }
         ensures served { (state : State) → StandsFor self.old root.old book.old memory.old state
             → (thread_at state thread).view ≡ view

@@ -159,6 +159,7 @@ fn build_processes(
     ensures processes { map process_of processes.new ≡ map process_of processes.old }
     ensures length { length processes.new ≡ length processes.old }
     ensures built { HasAllProcesses root.new book.new memory.new loaded.now processes.new }
+    ensures frames { frame_count memory.new ≡ frame_count memory.old }
     ensures fewer { free_count book.new + images_need (images_loaded loaded.now) ≡ free_count book.old }
 {
     for (number, image) in loaded.bundle().images.items().iter().enumerate() {
@@ -182,6 +183,7 @@ fn build_threads(
     requires none { (thread : ℕ) → HasNoViews root.old thread }
     requires some { THREAD_FRAMES * length loaded.now.bundle.cores ≤ free_count book.old }
     ensures started { HasStarted root.new book.new memory.new loaded.now processes.now }
+    ensures frames { frame_count memory.new ≡ frame_count memory.old }
     ensures fewer { free_count book.new + THREAD_FRAMES * length loaded.now.bundle.cores ≡ free_count book.old }
 {
     for (thread, core) in loaded.bundle().cores.items().iter().enumerate() {
@@ -192,7 +194,8 @@ fn build_threads(
 
 impl SubKernel {
     /// The Subkernel at the start of a loaded bundle's run, over memory in which the root kernel was just built: the images are
-    /// placed, and tables, lists and home views are made. What it leaves stands for the start of the plain machine.
+    /// placed, and tables, lists and home views are made. What it leaves stands for the start of the plain machine. No frame of
+    /// memory comes or goes.
     ///
     /// # Errors
     ///
@@ -211,6 +214,7 @@ impl SubKernel {
         ensures stands { IfOk result (λ kernel. StandsFor kernel root.new book.new memory.new (first_state loaded.now)) }
         ensures taken { IfOk result (λ _. free_count book.new
             ≡ have_of loaded.now.bundle - need_of loaded.now.bundle loaded.now.rewritten) }
+        ensures frames { frame_count memory.new ≡ frame_count memory.old }
         ensures unchanged { IfErr result (λ _. (memory.new ≡ memory.old) × (book.new ≡ book.old) × (root.new ≡ root.old)) }
     {
         let mut kernel = bare_kernel(alloc, loaded)?;

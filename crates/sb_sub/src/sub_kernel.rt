@@ -4,6 +4,7 @@ ghost use Rattle.std.specs.Prelude.{◌≡◌, ◌≢◌, ◌+◌, ◌*◌, ◌<
 ghost use Rattle.sb_abi.specs.declared.space.TheConstants.{MAX_STACKS, STACK_PAGES};
 ghost use Rattle.sb_abi.specs.Numbers.{call_number};
 ghost use Rattle.sb_abi.specs.declared.call.Call.TheVariants.{Register, Bind, Protect};
+ghost use Rattle.sb_memory.specs.Physical.{frame_count};
 ghost use Rattle.sb_trace.specs.State.{State, registration_of};
 ghost use Rattle.sb_trace.specs.Registers.{rax, rdi};
 ghost use Rattle.sb_trace.specs.Syscall.{syscall_outcome};
@@ -226,6 +227,7 @@ impl SubKernel {
         ensures root { root.new ≡ root.old }
         ensures pages { IfSome (slice_get self.old.processes process)
             (λ entry. RegistersPages entry.set root.old book.old book.new memory.old memory.new process stacks) }
+        ensures frames { frame_count memory.new ≡ frame_count memory.old }
         ensures fewer { free_count book.new + STACK_PAGES * stacks ≡ free_count book.old }
         ensures noted { self.new ≡ record self.old {
           processes = with_server_entry (slice_get self.old.processes process) self.old.processes process handler stacks;
@@ -251,6 +253,7 @@ impl SubKernel {
         ensures root { root.new ≡ root.old }
         ensures seats { self.new.seats ≡ self.old.seats }
         ensures refused { IfSome result (λ _. (self.new ≡ self.old) × (book.new ≡ book.old) × (memory.new ≡ memory.old)) }
+        ensures frames { frame_count memory.new ≡ frame_count memory.old }
         ensures places { PlacesStay self.old root.old book.old memory.old memory.new }
         ensures served { (state : State) → StandsFor self.old root.old book.old memory.old state
             → RegistersBy self.new root.old book.new memory.new state view process handler stacks result }
@@ -292,7 +295,8 @@ impl SubKernel {
 
     /// A system call of a thread in its present view, with the registers behind SYSCALL. What a refused call leaves differs in
     /// registers alone, so every translation is as it was. After a call with another number than protect each address
-    /// that led to a place leads there; and exit, print and a number that is no call leave memory as it was.
+    /// that led to a place leads there; and exit, print and a number that is no call leave memory as it was. No frame of memory
+    /// comes or goes.
     pub fn serve(
         &mut self,
         memory: &mut Memory,
@@ -308,9 +312,10 @@ impl SubKernel {
             thread view result regs.old regs.new }
         ensures refused { IsRefused result
             → (self.new ≡ self.old) × (root.new ≡ root.old) × (book.new ≡ book.old) × (memory.new ≡ memory.old) }
-        ensures memory { rax regs.old ≢ call_number Protect → rax regs.old ≢ call_number Register → rax regs.old ≢ call_number Bind
-            → memory.new ≡ memory.old }
+        ensures memory { rax regs.old ≢ call_number Protect → rax regs.old ≢ call_number Register
+            → rax regs.old ≢ call_number Bind → memory.new ≡ memory.old }
         ensures lists { KeepsLists root.old root.new }
+        ensures frames { frame_count memory.new ≡ frame_count memory.old }
         ensures places { rax regs.old ≢ call_number Protect
             → PlacesStay self.old root.old book.old memory.old memory.new }
     {

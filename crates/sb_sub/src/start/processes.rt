@@ -2,6 +2,7 @@
 
 ghost use Rattle.std.specs.Prelude.{ℕ, ◌≡◌, ◌+◌, ◌<◌, ◌≤◌};
 ghost use Rattle.sb_abi.specs.declared.space.TheConstants.{MAX_PROCESSES};
+ghost use Rattle.sb_memory.specs.Physical.{frame_count};
 ghost use Rattle.sb_frames.specs.Book.{free_count};
 ghost use Rattle.sb_state.specs.State.{State};
 ghost use Rattle.sb_load.specs.FirstState.{image_of};
@@ -36,6 +37,7 @@ pub fn add_process(
     ensures added { (placement : Placement) (state : State)
         → IsReadyForProcess placement root.old book.old memory.old state process
         → AddedProcess placement root.new book.new memory.new state process (image_of image.now made.now) result }
+    ensures frames { frame_count memory.new ≡ frame_count memory.old }
     ensures fewer { free_count book.new + image_need (image_of image.now made.now) ≡ free_count book.old }
 {
     let set = add_tables(memory, book, root, process);

@@ -3,6 +3,7 @@
 ghost use Rattle.std.specs.Prelude.{ℕ, ◌≡◌, ◌≢◌, ◌+◌, ◌*◌, ◌<◌, ◌≤◌, false, None};
 ghost use Rattle.sb_abi.specs.declared.frames.TheConstants.{THREAD_FRAMES, VIEW_FRAMES};
 ghost use Rattle.sb_abi.specs.declared.space.TheConstants.{MAX_PROCESSES, MAX_THREADS, STACK_PAGES};
+ghost use Rattle.sb_memory.specs.Physical.{frame_count};
 ghost use Rattle.sb_memory.specs.declared.address.Frame.{Frame};
 ghost use Rattle.sb_memory.specs.declared.page.TheConstants.{PAGE_SIZE};
 ghost use Rattle.sb_frames.specs.Book.{free_count};
@@ -202,6 +203,7 @@ pub fn add_thread(
     ensures added { (placement : Placement) (state : State) (address : ℕ)
         → IsReadyForThread placement root.old book.old memory.old state thread home set.now
         → AddedThread placement root.new book.new memory.new state (record { home = home; address = address }) }
+    ensures frames { frame_count memory.new ≡ frame_count memory.old }
     ensures fewer { free_count book.new + THREAD_FRAMES ≡ free_count book.old }
     ensures others { (other : ℕ) → other ≢ thread → HasNoViews root.old other → HasNoViews root.new other }
 {

@@ -20,6 +20,7 @@ loop-number-init c = record {
   same = refl;
   left = first_left c.args.loaded.now c.args.root.now c.args.book.now c.args.memory.now c.args.processes.now c.requires.begun;
   fits = images_fit c.args.loaded.now c.bundle.ensures.loadable;
+  frames = refl;
   some = refl;
 }
 
@@ -95,7 +96,8 @@ loop-number-preserved c =
     record {
       root = c.add_process-set.ensures.root ∙ c.loop-number.invariant.root;
       size = ap (λ (all : List Entry). length all) c.keep_set.ensures
-          ∙ (length_same c.loop-number.processes c.loop-number.number c.add_process-set.result (omega (arith, under, size)) ∙ size);
+          ∙ (length_same c.loop-number.processes c.loop-number.number c.add_process-set.result (omega (arith, under, size))
+          ∙ size);
       same = ap (map process_of) c.keep_set.ensures
           ∙ (processes_same c.loop-number.processes c.loop-number.number c.add_process-set.result (omega (arith, under, size))
           ∙ c.loop-number.invariant.same);
@@ -106,6 +108,7 @@ loop-number-preserved c =
           c.add_process-set.result read left (omega (arith, under, size)) added);
       fits = (subst (AllByRecursion ImageFitsWindows) (images_more load c.loop-number.number image becomes read)
           c.loop-number.invariant.fits).1;
+      frames = c.add_process-set.ensures.frames ∙ c.loop-number.invariant.frames;
       some = omega (arith, need, some, fewer);
     }
 

@@ -1,4 +1,4 @@
-use Rattle.std.proofs.Common.{◌≡◌, ◌<◌, ◌≤◌, ◌∙◌, sym, ap, subst, ℕ, length, get_or, List, arith, rules}
+use Rattle.std.proofs.Common.{◌≡◌, ◌<◌, ◌≤◌, ◌∙◌, sym, ap, subst, ℕ, length, get_or, refl, List, arith, rules}
 use Rattle.sb_bundle.specs.declared.bundle.Bundle.{Bundle}
 use Rattle.sb_bundle.specs.declared.bundle.CoreStart.{CoreStart}
 use Rattle.sb_load.specs.Loading.{Load}
@@ -12,6 +12,7 @@ pub loop-thread-init : goal.loop-thread-init
 loop-thread-init c = record {
   left = first_left c.args.loaded.now c.args.root.now c.args.book.now c.args.memory.now c.args.processes.now c.requires.built;
   none = λ thread above. c.requires.none thread;
+  frames = refl;
   fewer = omega arith;
 }
 
@@ -70,6 +71,7 @@ loop-thread-preserved c =
           (c.add_thread.ensures.added left.placement left.state core.entry prepared);
       none = λ other above. c.add_thread.ensures.others other (λ same. absurd (omega (arith, same, above)))
           (c.loop-thread.invariant.none other (omega (arith, above)));
+      frames = c.add_thread.ensures.frames ∙ c.loop-thread.invariant.frames;
       fewer = omega (arith, fewer, before);
     }
 

@@ -1,4 +1,5 @@
 use Rattle.sb_load.specs.FirstState.{image_of}
+use Rattle.sb_sub.proofs.Frames.{process_frames}
 use Rattle.sb_sub.proofs.StartProcesses.{over_of, can_take_new, process_added}
 use Rattle.sb_sub.proofs.start.processes.add_process.Goals as goal
 
@@ -25,3 +26,14 @@ returns-clause-added c = λ placement state ready.
     (c.add_tables-set.ensures.tables placement
     (over_of placement c.args.root.now c.args.book.now c.args.memory.now state ready.carries) ready.roots)
     booked pages after.booked)
+
+pub returns-clause-frames : goal.returns-clause-frames
+returns-clause-frames c =
+    let ready = c.requires.ready.2 in
+    let pages = rw c.add_tables-set.ensures.root at c.add_process_pages.ensures.added in
+    process_frames c.requires.ready.0 c.args.root.now c.add_tables-set.new.book c.add_process_pages.new.book c.args.memory.now
+    c.add_tables-set.new.memory c.add_process_pages.new.memory c.args.process c.add_tables-set.result
+    (image_of c.args.image.now c.args.made.now)
+    (c.add_tables-set.ensures.tables c.requires.ready.0
+    (over_of c.requires.ready.0 c.args.root.now c.args.book.now c.args.memory.now c.requires.ready.1 ready.carries) ready.roots)
+    pages

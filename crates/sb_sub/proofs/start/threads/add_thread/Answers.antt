@@ -1,3 +1,4 @@
+use Rattle.sb_sub.proofs.Frames.{thread_frames}
 use Rattle.sb_sub.proofs.StartProcesses.{over_of}
 use Rattle.sb_sub.proofs.StartThreads.{can_take_home, thread_added}
 use Rattle.sb_sub.proofs.start.threads.add_thread.Goals as goal
@@ -22,3 +23,12 @@ returns-clause-added c = λ placement state address ready.
     (c.add_home_view.ensures.added placement
     (over_of placement c.args.root.now c.args.book.now c.args.memory.now state ready.carries))
     c.add_home_view.ensures.booked c.add_save_and_stack.ensures.added after.booked)
+
+pub returns-clause-frames : goal.returns-clause-frames
+returns-clause-frames c =
+    let ready = c.requires.ready.2 in
+    thread_frames c.requires.ready.0 c.add_home_view.new.root c.add_home_view.new.book c.add_save_and_stack.new.book
+    c.args.memory.now c.add_home_view.new.memory c.add_save_and_stack.new.memory c.args.thread c.args.home c.args.set.now
+    (c.add_home_view.ensures.added c.requires.ready.0
+    (over_of c.requires.ready.0 c.args.root.now c.args.book.now c.args.memory.now c.requires.ready.1 ready.carries))
+    ready.set_is c.add_save_and_stack.ensures.added

@@ -1,6 +1,8 @@
 use Rattle.std.proofs.Common.{◌∙◌, sym, ap, ℕ, arith}
 use Rattle.sb_sub.specs.Binding.{binding_refusal}
+use Rattle.sb_sub.proofs.Binding.{has_list}
 use Rattle.sb_sub.proofs.Bound.{bind_done, bindings_few, frames_free, lists_after_bind, places_after_bind, refused_by, server_away, server_few, server_inside}
+use Rattle.sb_sub.proofs.Frames.{bound_frames}
 use Rattle.sb_sub.proofs.sub_kernel.SubKernel.bind.Goals as goal
 
 pub returns-in-Some-clause-served : goal.returns-in-Some-clause-served
@@ -71,3 +73,9 @@ returns-clause-served c =
     c.make_binding.new.root c.make_binding.new.book c.make_binding.new.memory c.make_binding.result
     c.make_binding.ensures.server c.make_binding.ensures.key c.make_binding.ensures.added c.make_binding.ensures.fewer
     c.make_binding.new.self c.make_binding.ensures.noted
+
+pub returns-clause-frames : goal.returns-clause-frames
+returns-clause-frames c =
+    bound_frames _ _ _ _ _ _ _ _ _ _ _ _ c.make_binding.ensures.added
+    (has_list c.args.self.now c.args.root.now c.args.book.now c.args.memory.now c.requires.stands.0 c.requires.stands.1
+    c.args.thread c.requires.thread)

@@ -1,4 +1,4 @@
-use Rattle.std.proofs.Common.{◌≢◌, ◌∙◌, sym, ap, subst, rules, ℕ, ◌<◌, List, length}
+use Rattle.std.proofs.Common.{◌≢◌, ◌∙◌, sym, ap, subst, rules, arith, ℕ, ◌<◌, List, length}
 use Rattle.sb_sub.specs.Kernel.{Seat}
 use Rattle.sb_trace.specs.Registers.{rax, rdi}
 use Rattle.sb_trace.specs.declared.event.Event.TheVariants as event
@@ -71,3 +71,10 @@ returns-in-3-clause-served c = λ state stands view.
     state c.args.thread c.args.regs.now c.tell_binding-answer.new.regs by
     (subst (λ (n : ℕ). c.args.thread < n) (sym c.bind-bound.ensures.seats) c.requires.thread)
     c.in-3.is c.tell_binding-answer.ensures.regs)
+
+pub returns-in-4-clause-frames : goal.returns-in-4-clause-frames
+returns-in-4-clause-frames c =
+    let by = c.protect_page-refusal.ensures.served c.args.book.now c.requires.stands.0 c.requires.stands.1 in
+    let new = by.stands.booked.size in
+    let old = c.requires.stands.1.booked.size in
+    omega (arith, new, old)
