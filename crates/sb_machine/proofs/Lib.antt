@@ -29,4 +29,7 @@ pub mod Translated
 pub mod Begun
 pub mod Decided
 pub mod Ending
+pub mod Writing
+pub mod DumpParts
+pub mod Dumped
 pub mod Ran
