@@ -146,6 +146,13 @@ fn dump_shows(parts: &Parts)
 }
 
 impl Machine {
+    /// A law, which does nothing when it is called: what `write_dump` writes shows each state for which the machine stands.
+    pub fn dump_shows(&self)
+        ensures { DumpShows self.now }
+    {
+        dump_shows(&self.parts);
+    }
+
     /// Writes the dump: the number of frames, the words of each core, and each frame that has a byte other than 0. It takes no
     /// memory. What it writes shows each state for which the machine stands.
     ///

@@ -1,16 +1,25 @@
 -- The machine that is left.
-use Rattle.std.proofs.Common.{◌≡◌, ◌⊎◌, inl, inr, ℕ, List, Option, Some, None, refl, sym, subst}
+use Rattle.std.proofs.Common.{◌≡◌, ◌⊎◌, inl, inr, ℕ, List, ◌++◌, Option, Some, None, refl, ap, subst}
 use Rattle.std.specs.Prelude.{IfSome}
 use Rattle.std.specs.Option.{IsSome}
 use Rattle.sb_bundle.specs.declared.bundle.Bundle.{Bundle}
+use Rattle.sb_load.specs.Loading.{Load, IsLoadable}
+use Rattle.sb_machine.specs.Dump.{machine_dump, DumpShows}
 use Rattle.sb_machine.specs.Machine.{Machine}
+use Rattle.sb_shows.specs.Dump.{IsDumpOf}
+use Rattle.sb_trace.specs.Report.{report_text}
+use Rattle.sb_trace.specs.declared.end.EndState.{EndState}
+use Rattle.sb_trace.specs.declared.event.Line.{Line}
 use Rattle.skybridge.specs.declared.status.Status.{Status}
 use Rattle.skybridge.specs.declared.status.Status.TheVariants.{Done, BadWords, ReadFault, WriteFault, BundleRefused, LoadRefused, NoMemory, TooLong}
+use Rattle.skybridge.specs.Words.{AreWordsOf}
+use Rattle.skybridge.specs.declared.words.Command.{Command}
 use Rattle.skybridge.specs.declared.words.Command.TheVariants.{OfBundle}
 use Rattle.skybridge.specs.declared.words.BundleCommand.{BundleCommand}
 use Rattle.skybridge.specs.declared.words.BundleCommand.TheVariants.{Replay, ReplayDump, Plain, Check, Rewrite}
-use Rattle.skybridge.specs.Kept.{RunsMachine, HasRunOf, HasRunFor, LeavesOf, HasDumpOf, ReportedWithDump}
-use Rattle.skybridge.specs.Output.{WasRead}
+use Rattle.skybridge.specs.Kept.{RunsMachine, HasRunOf, HasRunFor, LeavesOf, HasDumpOf, IsLeft, ReportedWithDump}
+use Rattle.skybridge.specs.Output.{WasRead, IsReport, IsReportWithDump}
+use Rattle.skybridge.specs.Runs.{IsTextOfMachineRun}
 use Rattle.skybridge.specs.Written.{Leaves}
 
 -- a text was written, whole or in part
@@ -97,9 +106,62 @@ left_only Check bundle status (Some machine) leaves is = absurd cc
 left_only Rewrite bundle status None leaves is = absurd cc
 left_only Rewrite bundle status (Some machine) leaves is = absurd cc
 
+-- of the command that the words are
+pub left_by_words : (words : List (List ℕ)) (command : Command) (kept : Option Machine) (tells tells' : Option (List ℕ))
+    → AreWordsOf command words
+    → IfSome kept (λ machine. RunsMachine command × HasRunFor command tells tells' machine)
+    → IfSome kept (λ machine. IsLeft words tells tells' machine)
+left_by_words words command None tells tells' are left = tt
+left_by_words words command (Some machine) tells tells' are (runs, ran) = (command, are, runs, ran)
+
 -- what was written is the report and the dump of the machine that is left
 pub dumped : (bundle : Bundle) (kept : Option Machine) (tells tells' held held' : Option (List ℕ)) → WasRead bundle tells tells'
     → IfSome kept (λ machine. HasDumpOf machine bundle held held')
     → IfSome kept (λ machine. ReportedWithDump tells tells' held held' machine)
 dumped bundle None tells tells' held held' read dump = tt
 dumped bundle (Some machine) tells tells' held held' read dump = (bundle, read, dump)
+
+-- ---- what is left of a run
+
+-- a machine of which this holds is left where a text was written
+pub leaves : (Holds : Machine → Type 0) (status : Status) (machine : Machine) → IsWritten status → Holds machine
+    → Leaves Holds status (Some machine)
+leaves Holds Done machine written is = is
+leaves Holds WriteFault machine written is = is
+leaves Holds NoMemory machine (inl same) is = absurd cc
+leaves Holds NoMemory machine (inr same) is = absurd cc
+leaves Holds BadWords machine (inl same) is = absurd cc
+leaves Holds BadWords machine (inr same) is = absurd cc
+leaves Holds ReadFault machine (inl same) is = absurd cc
+leaves Holds ReadFault machine (inr same) is = absurd cc
+leaves Holds BundleRefused machine (inl same) is = absurd cc
+leaves Holds BundleRefused machine (inr same) is = absurd cc
+leaves Holds LoadRefused machine (inl same) is = absurd cc
+leaves Holds LoadRefused machine (inr same) is = absurd cc
+leaves Holds TooLong machine (inl same) is = absurd cc
+leaves Holds TooLong machine (inr same) is = absurd cc
+
+-- a machine that made the run of which a text is written has the run of the bundle
+pub ran_of : (text_of : List Line → EndState → List ℕ) (machine : Machine) (load : Load) (text : List ℕ) → IsLoadable load
+    → IsTextOfMachineRun text_of machine load text → HasRunOf machine load.bundle
+ran_of text_of machine load text loadable (lines, end, ran, is) = (load, (refl, loadable), (lines, end, ran))
+
+-- the report of a machine's run is that of the bundle
+pub report_of : (machine : Machine) (load : Load) (text : List ℕ) → IsLoadable load
+    → IsTextOfMachineRun report_text machine load text → IsReport load.bundle text
+report_of machine load text loadable (lines, end, ran, is) = (load, (refl, loadable), (lines, end, ran.runs, is))
+
+-- with the dump of the machine behind it
+pub report_with_dump : (machine : Machine) (load : Load) (text : List ℕ) → IsLoadable load → DumpShows machine
+    → IsTextOfMachineRun report_text machine load text
+    → IsReportWithDump load.bundle (text ++ machine_dump machine)
+report_with_dump machine load text loadable shows (lines, end, ran, is) = record {
+  load = load;
+  loads = (refl, loadable);
+  lines = lines;
+  end = end;
+  runs = ran.runs;
+  dump = machine_dump machine;
+  text_is = ap (λ (one : List ℕ). one ++ machine_dump machine) is;
+  shows = subst (λ (frames : ℕ). IsDumpOf (machine_dump machine) end frames) ran.frames (shows end ran.stands);
+}

@@ -1,5 +1,6 @@
 -- The laws hold of the run behind each report and each summary.
-use Rattle.std.proofs.Common.{ℕ, List, refl}
+use Rattle.std.proofs.Common.{◌≡◌, ℕ, List, Option, refl}
+use Rattle.sb_port.specs.Port.{Appended}
 use Rattle.sb_bundle.specs.declared.bundle.Bundle.{Bundle}
 use Rattle.sb_load.specs.FirstState.{first_state}
 use Rattle.sb_shows.specs.Dump.{IsDumpOf}
@@ -15,7 +16,10 @@ use Rattle.sb_plain.proofs.FirstSound.{first_sound}
 use Rattle.skybridge.specs.declared.words.BundleCommand.{BundleCommand}
 use Rattle.skybridge.specs.declared.words.BundleCommand.TheVariants.{Replay, ReplayDump, Plain, Check, Rewrite}
 use Rattle.sb_generator.specs.Summary.{summary_text}
-use Rattle.skybridge.specs.Output.{IsReport, IsReportWithDump, IsSummary, IsOutput}
+use Rattle.skybridge.specs.declared.status.Status.{Status}
+use Rattle.skybridge.specs.declared.status.Status.TheVariants.{Done, BadWords, ReadFault, WriteFault, BundleRefused, LoadRefused, NoMemory, TooLong}
+use Rattle.skybridge.specs.Written.{Writes}
+use Rattle.skybridge.specs.Output.{IsReport, IsReportWithDump, IsSummary, IsOutput, WasRead, ReportedAs}
 use Rattle.skybridge.specs.Lawful.{SwitchesAtTwoPlaces, IsLawfulReport, IsLawfulReportWithDump, IsLawfulOutput, IsLawfulSummary}
 
 lawful_report : (bundle : Bundle) (text : List ℕ) → IsReport bundle text → IsLawfulReport bundle text
@@ -56,3 +60,34 @@ lawful_summary number text (load, loads, is) = (
   loads,
   texts_are_of_lawful_runs (summary_text number) (first_state load) load.bundle.schedule text (first_sound load loads.1) is,
 )
+
+-- ---- what was written
+
+-- the laws hold of the run behind an output that was written whole
+pub reported_lawfully : (command : BundleCommand) (bundle : Bundle) (status : Status) (tells tells' held held' : Option (List ℕ))
+    (faults faults' : ℕ)
+    → WasRead bundle tells tells' → Writes (IsOutput command bundle) status held held' faults faults' → status ≡ Done
+    → ReportedAs (IsLawfulOutput command) tells tells' held held'
+reported_lawfully command bundle Done tells tells' held held' faults faults' read (text, is, appended) done =
+    (bundle, text, read, lawful command bundle text is, appended)
+reported_lawfully command bundle WriteFault tells tells' held held' faults faults' read written done = absurd cc
+reported_lawfully command bundle NoMemory tells tells' held held' faults faults' read written done = absurd cc
+reported_lawfully command bundle BadWords tells tells' held held' faults faults' read written done = absurd written
+reported_lawfully command bundle ReadFault tells tells' held held' faults faults' read written done = absurd written
+reported_lawfully command bundle BundleRefused tells tells' held held' faults faults' read written done = absurd written
+reported_lawfully command bundle LoadRefused tells tells' held held' faults faults' read written done = absurd written
+reported_lawfully command bundle TooLong tells tells' held held' faults faults' read written done = absurd written
+
+-- and of that behind a summary
+pub summary_lawfully : (number : ℕ) (status : Status) (held held' : Option (List ℕ)) (faults faults' : ℕ)
+    → Writes (IsSummary number) status held held' faults faults' → status ≡ Done
+    → (text : List ℕ) × IsLawfulSummary number text × Appended held held' text
+summary_lawfully number Done held held' faults faults' (text, is, appended) done =
+    (text, lawful_summary number text is, appended)
+summary_lawfully number WriteFault held held' faults faults' written done = absurd cc
+summary_lawfully number NoMemory held held' faults faults' written done = absurd cc
+summary_lawfully number BadWords held held' faults faults' written done = absurd written
+summary_lawfully number ReadFault held held' faults faults' written done = absurd written
+summary_lawfully number BundleRefused held held' faults faults' written done = absurd written
+summary_lawfully number LoadRefused held held' faults faults' written done = absurd written
+summary_lawfully number TooLong held held' faults faults' written done = absurd written

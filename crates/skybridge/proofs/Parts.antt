@@ -1,5 +1,6 @@
 -- Texts of which a part was written.
-use Rattle.std.proofs.Common.{◌≡◌, ◌∙◌, ℕ, ◌+◌, ◌≤◌, ◌++◌, List, Option, Some, None, length, take, ap, sym, subst, append_assoc}
+use Rattle.std.proofs.Common.{◌≡◌, ◌∙◌, ℕ, ◌+◌, ◌≤◌, ◌++◌, List, String, Option, Some, None, Result, Ok, Err, length, take, ap, sym, subst, append_assoc}
+use Rattle.std.specs.Prelude.{IfOk, MatchResult, string_bytes}
 use Rattle.std.proofs.Math.Seq.{take-append-add}
 use Rattle.std.proofs.lemmas.List.{take-append-le}
 use Rattle.sb_port.specs.Port.{Appended}
@@ -20,6 +21,18 @@ writes_as Is Kind ReadFault held held' faults faults' belongs none = none
 writes_as Is Kind BundleRefused held held' faults faults' belongs none = none
 writes_as Is Kind LoadRefused held held' faults faults' belongs none = none
 writes_as Is Kind TooLong held held' faults faults' belongs none = none
+
+-- a text that was made, where there was memory for it
+pub text_written : {A E : Type 0} (Kind : List ℕ → Type 0) (status : Status) (held held' : Option (List ℕ)) (faults faults' : ℕ)
+    (made : Result (String A) E)
+    → IfOk made (λ text. Kind (string_bytes text))
+    → MatchResult made (λ text. Writes (λ one. one ≡ string_bytes text) status held held' faults faults')
+    (λ _. (status ≡ NoMemory) × (held' ≡ held))
+    → Writes Kind status held held' faults faults'
+text_written Kind status held held' faults faults' (Ok text) is written =
+    writes_as (λ one. one ≡ string_bytes text) Kind status held held' faults faults' (λ one same. subst Kind (sym same) is) written
+text_written Kind status held held' faults faults' (Err lack) is (same, kept) =
+    subst (λ (one : Status). Writes Kind one held held' faults faults') (sym same) kept
 
 -- one text behind another
 pub both_appended : (held between held' : Option (List ℕ)) (text more : List ℕ) → Appended held between text

@@ -25,7 +25,7 @@ use crate::plain_run::plain_report;
 use crate::status::Status;
 use crate::words::{BundleCommand, Command, command_of};
 use crate::writing::{
-    bytes_of, refuse, refuse_by, replay, replay_with_dump, summarize, write_made,
+    refuse, refuse_by, replay, replay_with_dump, summarize, write_made, write_text,
 };
 use sb_input::{InputRefusal, READ_FAULT_LINE, TOO_LONG_LINE, bundle_line, load_line, read_loaded};
 use sb_load::Loaded;
@@ -55,9 +55,9 @@ fn write_output<K: Sink>(
     match command {
         BundleCommand::Replay => replay(alloc, loaded, sink, kept),
         BundleCommand::ReplayDump => replay_with_dump(alloc, loaded, sink, kept),
-        BundleCommand::Plain => write_made(sink, bytes_of(plain_report(alloc, loaded))),
-        BundleCommand::Check => write_made(sink, bytes_of(check_text(alloc, loaded))),
-        BundleCommand::Rewrite => write_made(sink, bytes_of(rewrite_text(alloc, loaded))),
+        BundleCommand::Plain => write_text(sink, plain_report(alloc, loaded)),
+        BundleCommand::Check => write_text(sink, check_text(alloc, loaded)),
+        BundleCommand::Rewrite => write_text(sink, rewrite_text(alloc, loaded)),
     }
 }
 
@@ -224,7 +224,7 @@ pub fn bridge<S: Source, K: Sink>(
         Some(Command::OfBundle(command)) => run_on_bundle(alloc, command, source, sink, kept),
         Some(Command::Generate(number)) => summarize(alloc, number, sink, kept),
         Some(Command::GenerateBundle(number)) => write_made(sink, generated_bytes(alloc, number)),
-        Some(Command::Help) => write_made(sink, bytes_of(help_text(alloc))),
+        Some(Command::Help) => write_text(sink, help_text(alloc)),
     }
 }
 

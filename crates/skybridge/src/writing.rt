@@ -1,6 +1,6 @@
 //! What goes to the sink, and the status with which that ends.
 
-ghost use Rattle.std.specs.Prelude.{◌≡◌, ◌≤◌, ◌++◌, None, IfSome, IsErr, IsOkAnd, MatchResult, string_bytes};
+ghost use Rattle.std.specs.Prelude.{◌≡◌, ◌≤◌, ◌++◌, ◌⊎◌, None, IfSome, MatchResult, string_bytes};
 ghost use Rattle.sb_generator.specs.Generator.{generated};
 ghost use Rattle.sb_input.specs.Told.{WritesLine};
 ghost use Rattle.sb_load.specs.Loading.{IsLoadable};
@@ -48,7 +48,8 @@ pub fn refuse_by<K: Sink>(sink: &mut K, line: Result<String, AllocError>, status
 
 /// Writes bytes, as far as the sink takes them.
 fn write_bytes<K: Sink>(sink: &mut K, bytes: &[u8]) -> Status
-    ensures { Writes (λ text. text ≡ bytes.now) result (K.held sink.old) (K.held sink.new)
+    ensures kinds { (result ≡ Status.Done) ⊎ (result ≡ Status.WriteFault) }
+    ensures written { Writes (λ text. text ≡ bytes.now) result (K.held sink.old) (K.held sink.new)
         (K.faults sink.old) (K.faults sink.new) }
 {
     match write_all(sink, bytes) {
@@ -57,7 +58,7 @@ fn write_bytes<K: Sink>(sink: &mut K, bytes: &[u8]) -> Status
     }
 }
 
-/// Writes what was made, where there was memory for it.
+/// Writes the bytes that were made, where there was memory for them.
 pub fn write_made<K: Sink>(sink: &mut K, made: Result<Vec<u8>, AllocError>) -> Status
     ensures { MatchResult made
         (λ bytes. Writes (λ text. text ≡ bytes.items) result (K.held sink.old) (K.held sink.new)
@@ -70,21 +71,29 @@ pub fn write_made<K: Sink>(sink: &mut K, made: Result<Vec<u8>, AllocError>) -> S
     }
 }
 
-/// The bytes of a text, where there was memory for it.
-pub fn bytes_of(text: Result<String, AllocError>) -> Result<Vec<u8>, AllocError>
-    ensures { MatchResult text (λ text. IsOkAnd result (λ bytes. bytes.items ≡ string_bytes text)) (λ _. IsErr result) }
+/// Writes the text that was made, where there was memory for it.
+pub fn write_text<K: Sink>(sink: &mut K, made: Result<String, AllocError>) -> Status
+    ensures { MatchResult made
+        (λ made. Writes (λ text. text ≡ string_bytes made) result (K.held sink.old) (K.held sink.new)
+        (K.faults sink.old) (K.faults sink.new))
+        (λ _. (result ≡ Status.NoMemory) × (K.held sink.new ≡ K.held sink.old)) }
 {
-    text.map(String::into_bytes)
+    match made {
+        Ok(text) => write_bytes(sink, text.as_bytes()),
+        Err(AllocError) => Status::NoMemory,
+    }
 }
 
 // ---- runs of the machine
 
 /// Writes a report, and the dump of a machine behind it.
 fn write_with_dump<K: Sink>(sink: &mut K, report: &str, machine: &Machine) -> Status
+    ensures kinds { (result ≡ Status.Done) ⊎ (result ≡ Status.WriteFault) }
     ensures written { Writes (λ text. text ≡ report.now ++ machine_dump machine.now) result (K.held sink.old) (K.held sink.new)
         (K.faults sink.old) (K.faults sink.new) }
     ensures shows { DumpShows machine.now }
 {
+    machine.dump_shows();
     let dumped = match write_all(sink, report.as_bytes()) {
         Ok(()) => machine.write_dump(sink),
         Err(fault) => Err(fault),

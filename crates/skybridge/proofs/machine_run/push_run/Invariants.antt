@@ -4,5 +4,5 @@ use Rattle.skybridge.proofs.machine_run.push_run.Given as goal
 
 abbrev pub invariant-loop-core : goal.invariant-loop-core
 invariant-loop-core l =
-    HasRunWithText l.machine l.fn.loaded.now (take l.core-index l.fn.loaded.now.bundle.schedule)
+    HasRunWithText l.machine l.fn.loaded (take l.core-index l.fn.loaded.bundle.schedule)
     (string_bytes l.initial.out) (string_bytes l.out)
