@@ -10,9 +10,9 @@ ghost use Rattle.sb_machine.specs.Written.{FetchesNext, execution_on};
 
 use crate::parts::Parts;
 use sb_bus::BusStop;
-use sb_exec::{Effect, execute, fetch_insn};
+use sb_core_bus::CoreBus;
+use sb_exec::{Effect, execute};
 use sb_insn::{Insn, Regs};
-use sb_nested::NestedBus;
 
 /// The instruction at RIP of a core.
 ///
@@ -28,10 +28,7 @@ pub fn fetch_next(parts: &mut Parts, number: u8) -> Result<Insn, BusStop>
     ensures same { parts.new ≡ parts.old }
 {
     let state = parts.core(number).state;
-    fetch_insn(
-        &mut NestedBus::new(&mut parts.memory, state.eptp, state.cr3),
-        state.regs.rip,
-    )
+    sb_core_bus::fetch_next(&mut parts.memory, state.eptp, state.cr3, state.regs.rip)
 }
 
 /// Executes an instruction, from the registers of a core, on what it sees.
@@ -62,6 +59,6 @@ pub fn perform(
     execute(
         insn,
         regs,
-        &mut NestedBus::new(&mut parts.memory, state.eptp, state.cr3),
+        &mut CoreBus::new(&mut parts.memory, state.eptp, state.cr3),
     )
 }

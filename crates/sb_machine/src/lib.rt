@@ -9,8 +9,8 @@
 //! Inside: cores (`processor`), the machine (`machine`) and its parts
 //! (`parts`), an instruction (`instruction`), what follows it (`outcome`), VMFUNC (`vmfunc`),
 //! system calls (`system_call`), the start (`start`), the step (`step`), the end of a run (`end`), and the dump (`dump`) with its
-//! lines (`dump_lines`). Not inside: the walks (`sb_nested`), the kernels' tables (`sb_root`, `sb_sub`), what the plain machine
-//! does (`sb_trace`), and what the text of a dump determines (`sb_shows`).
+//! lines (`dump_lines`). Not inside: the walks (`sb_nested`) and the bus of a core (`sb_core_bus`), the kernels' tables
+//! (`sb_root`, `sb_sub`), what the plain machine does (`sb_trace`), and what the text of a dump determines (`sb_shows`).
 #![tactic(auto)]
 
 mod dump;

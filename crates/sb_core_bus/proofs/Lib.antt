@@ -1,0 +1,3 @@
+pub mod InPage
+pub mod Numbers
+pub mod Fetched

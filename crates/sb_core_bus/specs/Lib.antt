@@ -1,0 +1,2 @@
+pub mod LiesAt
+pub mod Account
