@@ -3,3 +3,4 @@ pub mod Lawful
 pub mod LineTexts
 pub mod Parts
 pub mod Keeping
+pub mod Stepping

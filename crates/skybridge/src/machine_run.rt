@@ -1,6 +1,6 @@
 //! A run of the machine with page tables on the schedule of a bundle.
 
-ghost use Rattle.std.specs.Prelude.{[], IfOk, OnOk, string_bytes};
+ghost use Rattle.std.specs.Prelude.{◌≡◌, [], IfOk, OnOk, string_bytes};
 ghost use Rattle.sb_load.specs.FirstState.{first_state};
 ghost use Rattle.sb_load.specs.Loading.{IsLoadable};
 ghost use Rattle.sb_machine.specs.Ran.{HasRun};
@@ -15,13 +15,19 @@ use std::alloc::{AllocError, Global};
 // ---- with the report
 
 /// A step for each entry of the schedule, whose line goes behind the text at once.
-fn push_run(out: &mut String, machine: &mut Machine, loaded: &Loaded) -> Result<(), AllocError>
+fn push_run(
+    out: &mut String,
+    machine: &mut Machine,
+    loaded: &Loaded,
+    schedule: &[u8],
+) -> Result<(), AllocError>
+    requires schedule { schedule.now ≡ loaded.now.bundle.schedule }
     requires loadable { IsLoadable loaded.now }
     requires first { HasRun machine.old loaded.now [] [] (first_state loaded.now) }
     ensures { OnOk result
         (HasRunWithText machine.new loaded.now loaded.now.bundle.schedule (string_bytes out.old) (string_bytes out.new)) }
 {
-    for core in loaded.bundle().schedule.items() {
+    for core in schedule {
         push_line(out, &machine.step(*core))?;
     }
     Ok(())
@@ -33,8 +39,9 @@ pub fn machine_report(alloc: Global, loaded: &Loaded) -> Result<(String, Machine
     ensures { IfOk result (λ run. IsTextOfMachineRun report_text run.1 loaded.now (string_bytes run.0)) }
 {
     let mut machine = Machine::new(alloc, loaded)?;
-    let mut out = report_head(alloc, loaded.bundle().schedule.items().len())?;
-    push_run(&mut out, &mut machine, loaded)?;
+    let schedule = loaded.bundle().schedule.items();
+    let mut out = report_head(alloc, schedule.len())?;
+    push_run(&mut out, &mut machine, loaded, schedule)?;
     let end = machine.end(alloc)?;
     push_end(&mut out, &end)?;
     Ok((out, machine))
@@ -43,12 +50,17 @@ pub fn machine_report(alloc: Global, loaded: &Loaded) -> Result<(String, Machine
 // ---- with the lines
 
 /// A step for each entry of the schedule.
-fn run(alloc: Global, machine: &mut Machine, loaded: &Loaded) -> Result<Lines, AllocError>
+fn run(
+    alloc: Global,
+    machine: &mut Machine,
+    loaded: &Loaded,
+    schedule: &[u8],
+) -> Result<Lines, AllocError>
+    requires schedule { schedule.now ≡ loaded.now.bundle.schedule }
     requires loadable { IsLoadable loaded.now }
     requires first { HasRun machine.old loaded.now [] [] (first_state loaded.now) }
     ensures { IfOk result (λ lines. HasRunWithLines machine.new loaded.now loaded.now.bundle.schedule lines) }
 {
-    let schedule = loaded.bundle().schedule.items();
     let mut lines = Vec::with_capacity(alloc, schedule.len())?;
     for core in schedule {
         lines.push(machine.step(*core))?;
@@ -62,7 +74,12 @@ pub fn whole_run(alloc: Global, loaded: &Loaded) -> Result<(Lines, EndState, Mac
     ensures { IfOk result (λ run. IsEndOfMachineRun run.2 loaded.now run.0 run.1) }
 {
     let mut machine = Machine::new(alloc, loaded)?;
-    let lines = run(alloc, &mut machine, loaded)?;
+    let lines = run(
+        alloc,
+        &mut machine,
+        loaded,
+        loaded.bundle().schedule.items(),
+    )?;
     let end = machine.end(alloc)?;
     Ok((lines, end, machine))
 }

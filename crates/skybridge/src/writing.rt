@@ -94,12 +94,11 @@ fn write_with_dump<K: Sink>(sink: &mut K, report: &str, machine: &Machine) -> St
     ensures shows { DumpShows machine.now }
 {
     machine.dump_shows();
-    let dumped = match write_all(sink, report.as_bytes()) {
-        Ok(()) => machine.write_dump(sink),
-        Err(fault) => Err(fault),
-    };
-    match dumped {
-        Ok(()) => Status::Done,
+    match write_all(sink, report.as_bytes()) {
+        Ok(()) => match machine.write_dump(sink) {
+            Ok(()) => Status::Done,
+            Err(_) => Status::WriteFault,
+        },
         Err(_) => Status::WriteFault,
     }
 }
