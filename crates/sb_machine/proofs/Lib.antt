@@ -30,3 +30,6 @@ pub mod Begun
 pub mod Decided
 pub mod Ending
 pub mod Ran
+pub mod Writing
+pub mod DumpParts
+pub mod Dumped

@@ -10,3 +10,4 @@ pub mod Counts
 pub mod Ran
 pub mod Dump
 pub mod Translations
+pub mod Writing

@@ -8,10 +8,13 @@
 //!
 //! Inside: cores (`processor`), the machine (`machine`) and its parts
 //! (`parts`), an instruction (`instruction`), what follows it (`outcome`), VMFUNC (`vmfunc`),
-//! system calls (`system_call`), the start (`start`), the step (`step`), and the end of a run (`end`). Not inside: the walks
-//! (`sb_nested`), the kernels' tables (`sb_root`, `sb_sub`), and what the plain machine does (`sb_trace`).
+//! system calls (`system_call`), the start (`start`), the step (`step`), the end of a run (`end`), and the dump (`dump`) with its
+//! lines (`dump_lines`). Not inside: the walks (`sb_nested`), the kernels' tables (`sb_root`, `sb_sub`), what the plain machine
+//! does (`sb_trace`), and what the text of a dump determines (`sb_shows`).
 #![tactic(auto)]
 
+mod dump;
+mod dump_lines;
 mod end;
 mod instruction;
 mod laws;
