@@ -146,6 +146,13 @@ fn dump_shows(parts: &Parts)
 }
 
 impl Machine {
+    /// The dump shows each state for which the machine stands, also where it is not written.
+    pub fn dump_shows(&self)
+        ensures { DumpShows self.now }
+    {
+        dump_shows(&self.parts);
+    }
+
     /// Writes the dump: the number of frames, the words of each core, and each frame that has a byte other than 0. It takes no
     /// memory. What it writes shows each state for which the machine stands.
     ///
@@ -161,7 +168,7 @@ impl Machine {
         ensures later { K.faults sink.old ≤ K.faults sink.new }
         ensures shows { DumpShows self.now }
     {
-        dump_shows(&self.parts);
+        self.dump_shows();
         write_parts(sink, &self.parts)?;
         Ok(())
     }
