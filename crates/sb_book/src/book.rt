@@ -88,8 +88,9 @@ impl<E: Task, Z: Ledger> Book<E, Z> {
         Ok((book, share))
     }
 
-    /// The machine and its journal, and what is known of a book: its lines are those of the plain machine's run under the journal, none
-    /// is `idle`, the machine stands for the last state of that run, the shares' entries are the journal's, and a stop unit was given only where nothing is left to do.
+    /// The machine and its journal, and what is known of a book: its lines are those of the plain machine's run under the
+    /// journal, none is `idle`, the machine stands for the last state of that run, the shares' entries are the journal's, and a
+    /// stop unit was given only where nothing is left to do.
     pub fn history(&self) -> &History
         ensures history { result.now ≡ self.now.history }
         ensures known { IsBook self.now }
@@ -193,7 +194,8 @@ impl<E: Task, Z: Ledger> Book<E, Z> {
         ensures full { (result ≡ false) ↔ (self.old.stops ≡ 2 ^ 64 - 1) }
         ensures same { self.new.history ≡ self.old.history }
         ensures refused { result ≡ false → (self.new ≡ self.old) × (share.new.stops.amount ≡ share.old.stops.amount) }
-        ensures given { result ≡ true → (self.new.stops ≡ self.old.stops + 1) × (share.new.stops.amount ≡ share.old.stops.amount + 1) }
+        ensures given { result ≡ true
+            → (self.new.stops ≡ self.old.stops + 1) × (share.new.stops.amount ≡ share.old.stops.amount + 1) }
         ensures made { share.new.entries.amount ≡ share.old.entries.amount }
         ensures kept { (share.new.entries.parts ≡ share.old.entries.parts) × (share.new.stops.parts ≡ share.old.stops.parts) }
     {
@@ -228,7 +230,8 @@ impl<E: Task, Z: Ledger> Book<E, Z> {
     pub fn turn(&mut self, core: u8, share: &mut Share<E, Z>) -> bool
         requires parts { (0 < share.old.entries.parts) × (0 < share.old.stops.parts) }
         ensures turn { Turns core self.old.history self.new.history }
-        ensures made { share.new.entries.amount + length self.old.history.journal ≡ share.old.entries.amount + length self.new.history.journal }
+        ensures made { share.new.entries.amount + length self.old.history.journal
+            ≡ share.old.entries.amount + length self.new.history.journal }
         ensures given { result ≡ true → IsDone self.new.history × (share.new.stops.amount ≡ share.old.stops.amount + 1) }
         ensures full { result ≡ false → IsDone self.old.history → self.old.stops ≡ 2 ^ 64 - 1 }
         ensures going { result ≡ false → share.new.stops.amount ≡ share.old.stops.amount }

@@ -25,9 +25,16 @@ impl Model for History {
 
     ghost Value = { History };
 
-    ghost view = { λ h. record { load = h.loaded; machine = h.machine; journal = h.journal.items; lines = h.lines.items; room = h.room } };
+    ghost view = { λ h.
+        record { load = h.loaded; machine = h.machine; journal = h.journal.items; lines = h.lines.items; room = h.room } };
 
-    ghost invariant = { λ h. IsRun (record { load = h.loaded; machine = h.machine; journal = h.journal.items; lines = h.lines.items; room = h.room })
+    ghost invariant = { λ h. IsRun (record {
+      load = h.loaded;
+      machine = h.machine;
+      journal = h.journal.items;
+      lines = h.lines.items;
+      room = h.room;
+    })
         × (vec_len h.journal + h.room ≤ vec_capacity h.journal) × (vec_len h.lines + h.room ≤ vec_capacity h.lines)
         × (length h.journal.items + h.room < 2 ^ 32) };
 }

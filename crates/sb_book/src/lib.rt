@@ -1,11 +1,11 @@
 //! A book that threads share: a machine with the journal of its steps, changed only under a lock.
 //!
 //! Each step is made at one taking of the lock, together with its entry of the journal and its line. So whenever the lock is
-//! free the book's lines are those of the plain machine under its journal, none of them is `idle`, and the machine with page tables
-//! stands for the last state of that run. Two ledgers of
-//! `std::sync::ledger` carry what workers know out of the lock: each has a `Share` of them, with the entries that it made and
-//! a stop unit once it found nothing left to do. When the workers have joined, `audit` shows that every thread has ended or
-//! the journal is full, and that the journal has as many entries as the workers made.
+//! free the book's lines are those of the plain machine under its journal, none of them is `idle`, and the machine, which is
+//! the one with page tables, stands for the last state of that run. Two ledgers of `std::sync::ledger` carry what workers know
+//! out of the lock: each has a `Share` of them, with the entries that it made and a stop unit once it found nothing left to
+//! do. When the workers have joined, `audit` shows that every thread has ended or the journal is full, and that the journal has
+//! as many entries as the workers made.
 //!
 //! Inside: `History` (a machine with its journal, for one thread), `Book` and `Share`, `Gate` (what a worker calls outside the
 //! lock), `work` (a worker), and `history_by_threads` (a worker for each core, each on a thread of its own). Nothing is said of

@@ -70,7 +70,8 @@ fn gather<E: Task, Z: Ledger>(
     all: &mut Share<E, Z>,
     mut stopped: Vec<Result<Stopped<E, Z>, AllocError>>,
 ) -> Result<(), AllocError>
-    ensures parts { OnOk result ((all.new.entries.parts ≡ all.old.entries.parts + vec_len stopped) × (all.new.stops.parts ≡ all.old.stops.parts + vec_len stopped)) }
+    ensures parts { OnOk result ((all.new.entries.parts ≡ all.old.entries.parts + vec_len stopped)
+        × (all.new.stops.parts ≡ all.old.stops.parts + vec_len stopped)) }
     ensures units { OnOk result (all.old.stops.amount + vec_len stopped ≤ all.new.stops.amount) }
 {
     while let Some(one) = stopped.pop() {

@@ -16,6 +16,14 @@ abbrev pub IsOutputOfInput : Run → Option (List ℕ) → Option (List ℕ) →
 IsOutputOfInput run left left' text =
     (load : Load) × IsLoadable load × WholeTold left left' (λ bytes. IsAccepted bytes load.bundle) × IsOutput load run text
 
+-- an output of what was loaded was appended to what the sink held
+abbrev pub WroteOutput : Load → Run → Option (List ℕ) → Option (List ℕ) → Type 0
+WroteOutput load run held held' = (text : List ℕ) × IsOutput load run text × Appended held held' text
+
+-- the same with a prefix of it
+abbrev pub WrotePart : Load → Run → Option (List ℕ) → Option (List ℕ) → Type 0
+WrotePart load run held held' = (text : List ℕ) × IsOutput load run text × PartlyAppended held held' text
+
 -- an output was appended to what the sink held
 abbrev pub Reported : Run → Option (List ℕ) → Option (List ℕ) → Option (List ℕ) → Option (List ℕ) → Type 0
 Reported run left left' held held' = (text : List ℕ) × IsOutputOfInput run left left' text × Appended held held' text

@@ -11,7 +11,7 @@ ghost use Rattle.skycores.specs.Words.{IsCommand, IsWithin, usage_line};
 ghost use Rattle.skycores.specs.Status.{exit_status};
 ghost use Rattle.sb_machine.specs.Dump.{DumpShows};
 ghost use Rattle.skycores.specs.Text.{IsOutputFor, dump_where};
-ghost use Rattle.skycores.specs.Output.{Reported, PartlyReported, Wrote, PartlyWrote, RefusedBundle, RefusedLoad};
+ghost use Rattle.skycores.specs.Output.{WroteOutput, WrotePart, Reported, PartlyReported, Wrote, PartlyWrote, RefusedBundle, RefusedLoad};
 
 use crate::text::output_text;
 use crate::words::{Run, command_of};
@@ -83,6 +83,24 @@ fn refuse_by<K: Sink>(sink: &mut K, line: Result<String, AllocError>, status: St
     }
 }
 
+/// Writes the dump of a machine if it is asked for, as far as the sink takes it.
+fn write_dump_where<K: Sink>(sink: &mut K, machine: &Machine, dump: bool) -> Status
+    ensures done { result ≡ Status.Done
+        → Appended (K.held sink.old) (K.held sink.new) (dump_where dump machine.now) }
+    ensures write_fault { result ≡ Status.WriteFault → Rose (K.faults sink.old) (K.faults sink.new) }
+    ensures write_fault_part { result ≡ Status.WriteFault
+        → PartlyAppended (K.held sink.old) (K.held sink.new) (dump_where dump machine.now) }
+    ensures kinds { (result ≡ Status.Done) ⊎ (result ≡ Status.WriteFault) }
+{
+    if !dump {
+        return Status::Done;
+    }
+    match machine.write_dump(sink) {
+        Ok(()) => Status::Done,
+        Err(_) => Status::WriteFault,
+    }
+}
+
 /// Writes a text, and behind it the dump of a machine if it is asked for, as far as the sink takes them.
 fn write_output<K: Sink>(sink: &mut K, text: &str, machine: &Machine, dump: bool) -> Status
     ensures done { result ≡ Status.Done
@@ -93,12 +111,9 @@ fn write_output<K: Sink>(sink: &mut K, text: &str, machine: &Machine, dump: bool
     ensures kinds { (result ≡ Status.Done) ⊎ (result ≡ Status.WriteFault) }
     ensures shows { DumpShows machine.now }
 {
-    let written = match write_all(sink, text.as_bytes()) {
-        Ok(()) if dump => machine.write_dump(sink),
-        written => written,
-    };
-    match written {
-        Ok(()) => Status::Done,
+    machine.dump_shows();
+    match write_all(sink, text.as_bytes()) {
+        Ok(()) => write_dump_where(sink, machine, dump),
         Err(_) => Status::WriteFault,
     }
 }
@@ -116,6 +131,28 @@ fn output_of<R: Threads + Wait + Sync, G: Gate + Sync>(
 {
     let history = history_by_threads(rt, alloc, loaded, run.steps, run.block, gate)?;
     output_text(alloc, history, &run)
+}
+
+/// Runs what was loaded, and writes its output as far as the sink takes it.
+fn run_loaded<R: Threads + Wait + Sync, K: Sink, G: Gate + Sync>(
+    rt: &R,
+    alloc: Global,
+    run: Run,
+    loaded: Loaded,
+    sink: &mut K,
+    gate: &G,
+) -> Status
+    requires { IsWithin run }
+    ensures done { result ≡ Status.Done → WroteOutput loaded run (K.held sink.old) (K.held sink.new) }
+    ensures write_fault { result ≡ Status.WriteFault → Rose (K.faults sink.old) (K.faults sink.new) }
+    ensures write_fault_part { result ≡ Status.WriteFault → WrotePart loaded run (K.held sink.old) (K.held sink.new) }
+    ensures no_memory { result ≡ Status.NoMemory → K.held sink.new ≡ K.held sink.old }
+    ensures kinds { (result ≡ Status.Done) ⊎ (result ≡ Status.WriteFault) ⊎ (result ≡ Status.NoMemory) }
+{
+    match output_of(rt, alloc, run, loaded, gate) {
+        Ok((text, machine)) => write_output(sink, text.as_str(), &machine, run.dump),
+        Err(AllocError) => Status::NoMemory,
+    }
 }
 
 /// Runs the cores of the bundle that the source gives.
@@ -178,10 +215,7 @@ fn run_on_bundle<R: Threads + Wait + Sync, S: Source, K: Sink, G: Gate + Sync>(
         }
         Err(InputRefusal::Memory) => return Status::NoMemory,
     };
-    match output_of(rt, alloc, run, loaded, gate) {
-        Ok((text, machine)) => write_output(sink, text.as_str(), &machine, run.dump),
-        Err(AllocError) => Status::NoMemory,
-    }
+    run_loaded(rt, alloc, run, loaded, sink, gate)
 }
 
 /// Runs the cores of the bundle that the source gives, each on a thread of its own, and writes the journal of their steps,

@@ -238,6 +238,22 @@ fn one_core_has_one_journal(rt: HostRuntime) -> Result<(), Fail> {
     Ok(())
 }
 
+/// The dump stands behind the same output.
+#[test]
+fn a_dump_follows_the_report(rt: HostRuntime) -> Result<(), Fail> {
+    let alloc = rt.alloc();
+    let five = bundle(alloc, 576, &FIVE, 0)?;
+    let words = "run --steps 100 --block 8 --dump";
+    let (status, text) = gated_output(&rt, alloc, words, five, &OpenGate)?;
+    assert_eq!(rt; status, Status::Done);
+    let mut begins = String::from_str(alloc, "journal 5\n00000\nended\n")?;
+    begins.push_str(FIVE_REPORT)?;
+    begins.push_str("dump 576\n")?;
+    assert!(rt; text.as_str().starts_with(begins.as_str()));
+    assert!(rt; text.as_str().ends_with("\nend\n"));
+    Ok(())
+}
+
 /// A budget below what the thread makes.
 #[test]
 fn the_budget_ends_a_run(rt: HostRuntime) -> Result<(), Fail> {
@@ -290,14 +306,15 @@ fn refusals_write_one_line(rt: HostRuntime) -> Result<(), Fail> {
     let alloc = rt.alloc();
     let good = "run --steps 9 --block 1";
     #[rattlefmt::skip]
-    let rows: [(&str, Vec<u8>, Status, &str); 10] = [
+    let rows: [(&str, Vec<u8>, Status, &str); 11] = [
         ("", Vec::new(alloc), Status::BadWords, USAGE),
         ("run --steps 0 --block 1", Vec::new(alloc), Status::BadWords, USAGE),
         ("run --steps 1048577 --block 1", Vec::new(alloc), Status::BadWords, USAGE),
         ("run --steps 1 --block 257", Vec::new(alloc), Status::BadWords, USAGE),
         ("run --steps 01 --block 1", Vec::new(alloc), Status::BadWords, USAGE),
         ("run --block 1 --steps 1", Vec::new(alloc), Status::BadWords, USAGE),
-        ("run --steps 1 --block 1 --dump", Vec::new(alloc), Status::BadWords, USAGE),
+        ("run --dump --steps 1 --block 1", Vec::new(alloc), Status::BadWords, USAGE),
+        ("run --steps 1 --block 1 --dump --dump", Vec::new(alloc), Status::BadWords, USAGE),
         (good, Vec::new(alloc), Status::BundleRefused, "bundle Short 0\n"),
         (good, bundle(alloc, 513, &FIVE, 0)?, Status::LoadRefused, "frames 25 1\n"),
         (good, bundle(alloc, 576, &FIVE, 1)?, Status::LoadRefused, "entry 0 400001\n"),
