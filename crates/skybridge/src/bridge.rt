@@ -21,11 +21,10 @@ ghost use Rattle.skybridge.specs.Status.{IsOwn};
 use crate::command_text::{check_text, rewrite_text};
 use crate::generated::generated_bytes;
 use crate::help::help_text;
-use crate::plain_run::plain_report;
 use crate::status::Status;
 use crate::words::{BundleCommand, Command, command_of};
 use crate::writing::{
-    refuse, refuse_by, replay, replay_with_dump, summarize, write_made, write_text,
+    refuse, refuse_by, replay, replay_with_dump, summarize, write_made, write_plain, write_text,
 };
 use sb_input::{InputRefusal, READ_FAULT_LINE, TOO_LONG_LINE, bundle_line, load_line, read_loaded};
 use sb_load::Loaded;
@@ -55,7 +54,7 @@ fn write_output<K: Sink>(
     match command {
         BundleCommand::Replay => replay(alloc, loaded, sink, kept),
         BundleCommand::ReplayDump => replay_with_dump(alloc, loaded, sink, kept),
-        BundleCommand::Plain => write_text(sink, plain_report(alloc, loaded)),
+        BundleCommand::Plain => write_plain(alloc, loaded, sink),
         BundleCommand::Check => write_text(sink, check_text(alloc, loaded)),
         BundleCommand::Rewrite => write_text(sink, rewrite_text(alloc, loaded)),
     }

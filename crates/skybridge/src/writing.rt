@@ -11,6 +11,7 @@ ghost use Rattle.skybridge.specs.Written.{Writes, Leaves};
 
 use crate::generated::summary;
 use crate::machine_run::machine_report;
+use crate::plain_run::plain_report;
 use crate::status::Status;
 use sb_input::write_line;
 use sb_load::Loaded;
@@ -84,7 +85,16 @@ pub fn write_text<K: Sink>(sink: &mut K, made: Result<String, AllocError>) -> St
     }
 }
 
-// ---- runs of the machine
+// ---- runs
+
+/// Writes the report of the plain machine's run.
+pub fn write_plain<K: Sink>(alloc: Global, loaded: &Loaded, sink: &mut K) -> Status
+    requires { IsLoadable loaded.now }
+    ensures { Writes (IsReport loaded.now.bundle) result (K.held sink.old) (K.held sink.new)
+        (K.faults sink.old) (K.faults sink.new) }
+{
+    write_text(sink, plain_report(alloc, loaded))
+}
 
 /// Writes a report, and the dump of a machine behind it.
 fn write_with_dump<K: Sink>(sink: &mut K, report: &str, machine: &Machine) -> Status
