@@ -11,3 +11,5 @@ pub mod Ran
 pub mod Dump
 pub mod Translations
 pub mod Writing
+pub mod Seens
+pub mod OwnSteps

@@ -13,6 +13,7 @@
 //! (`sb_root`, `sb_sub`), what the plain machine does (`sb_trace`), and what the text of a dump determines (`sb_shows`).
 #![tactic(auto)]
 
+mod core_state;
 mod dump;
 mod dump_lines;
 mod end;
@@ -22,6 +23,7 @@ mod machine;
 mod outcome;
 mod parts;
 mod phase;
+mod place;
 mod processor;
 mod start;
 mod step;
@@ -30,4 +32,5 @@ mod vmfunc;
 
 pub use laws::steps_are_plain;
 pub use machine::Machine;
+pub use place::{Place, Seen, Seens};
 pub use processor::{Core, CoreState, Origin};
