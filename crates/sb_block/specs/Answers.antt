@@ -1,0 +1,56 @@
+-- What a step over copies answers, and what a block's run answers.
+use Rattle.std.specs.Prelude.{ℕ, ◌≡◌, ◌<◌, ◌⊎◌, List, ◌∷◌, length, map, Result, Ok, Err}
+use Rattle.sb_memory.specs.Physical.{Physical}
+use Rattle.sb_bus.specs.declared.stop.BusStop.{BusStop}
+use Rattle.sb_bus.specs.declared.stop.BusStop.TheVariants as bus
+use Rattle.sb_agree.specs.Noted.{Noted, nothing, noted_rule}
+use Rattle.sb_trace.specs.declared.event.Event.{Event}
+use Rattle.sb_trace.specs.declared.event.Line.{Line}
+use Rattle.sb_machine.specs.declared.processor.CoreState.{CoreState}
+use Rattle.sb_machine.specs.declared.place.Seen.{Seen}
+use Rattle.sb_machine.specs.Seens.{seen_core, seen_words}
+use Rattle.sb_block.specs.declared.one.StepStop.{StepStop}
+use Rattle.sb_block.specs.declared.one.StepStop.TheVariants as why
+use Rattle.sb_block.specs.declared.block.Stop.{Stop}
+use Rattle.sb_block.specs.declared.block.Stop.TheVariants as stop
+use Rattle.sb_block.specs.Run.{at, CoreRuns, lines_of_core}
+use Rattle.sb_block.specs.Step.{At, Rule, CoreOutcome, Made, Needs, Kernel, CoreSteps}
+
+-- ---- a step
+
+-- that no step was made, as what a step comes to
+abbrev pub outcome_of : {Account : Type 0} → StepStop → CoreOutcome Account
+outcome_of (why.NeedFrame frame) = Needs frame.0
+outcome_of why.Kernel = Kernel
+
+-- a step that was made leads from old to new; one that was not leaves the core and the memory
+abbrev pub Stepped : {Account : Type 0} → Rule Account → At Account → At Account → Result Event StepStop → Type 0
+Stepped rule old new (Ok event) = CoreSteps rule old (Made event new)
+Stepped rule old new (Err why) = CoreSteps rule old (outcome_of why) × (new.core ≡ old.core) × (new.memory ≡ old.memory)
+
+-- ---- a block
+
+-- the limit is reached, or the next step meets a frame that is not there, or is the kernels'
+abbrev pub EndsAt : ℕ → ℕ → At Noted → Type 0
+EndsAt limit count last = (count ≡ limit) ⊎ ((count < limit) × ((why : StepStop) × CoreSteps noted_rule last (outcome_of why)))
+
+-- So many steps of the core over the copies, at least one, and what they read and wrote.
+pub record IsRunOf (number : ℕ) (start : CoreState) (limit : ℕ) (copies : Physical)
+    (core : ℕ) (before after : CoreState) (lines : List Line) (reads writes : List Seen) : Type 0 where
+  pub events : List Event
+  pub ended : Physical
+  pub noted : Noted
+  pub runs : CoreRuns noted_rule (at start copies nothing) events (at after ended noted)
+  pub ends : EndsAt limit (length events) (at after ended noted)
+  pub some : 0 < length events
+  pub of : core ≡ number
+  pub from : before ≡ start
+  pub told : lines ≡ lines_of_core number events
+  pub saw : reads ≡ seen_core number start ∷ seen_words copies noted.reads
+  pub wrote : writes ≡ seen_words ended noted.writes
+
+-- why no step is made, over the copies
+abbrev pub Refuses : CoreState → Physical → Stop → Type 0
+Refuses start copies (stop.NeedFrame frame) = CoreSteps noted_rule (at start copies nothing) (Needs frame.0)
+Refuses start copies stop.Kernel = CoreSteps noted_rule (at start copies nothing) Kernel
+Refuses start copies stop.Memory = Unit {0}
