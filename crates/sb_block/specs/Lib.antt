@@ -1,5 +1,5 @@
 pub mod Step
 pub mod Run
 pub mod Block
-pub mod Copies
 pub mod Answers
+pub use Rattle.sb_partial.specs.Copies

@@ -6,12 +6,12 @@ ghost use Rattle.sb_trace.specs.declared.event.Event.{Event};
 ghost use Rattle.sb_machine.specs.OwnSteps.{HasWalks};
 ghost use Rattle.sb_block.specs.Answers.{IsRunOf, Refuses};
 ghost use Rattle.sb_block.specs.Block.{BlockHolds, IsBlock};
-ghost use Rattle.sb_block.specs.Copies.{untouched};
+ghost use Rattle.sb_partial.specs.Copies.{untouched};
 ghost use Rattle.sb_block.specs.Run.{lines_of_core};
 
-use crate::partial::Partial;
 use sb_machine::{CoreState, Seens};
 use sb_memory::Frame;
+use sb_partial::Partial;
 use sb_trace::Lines;
 use std::alloc::Global;
 

@@ -1,6 +1,6 @@
 -- Copies of frames, with what was read of them and what was written.
-use Rattle.std.specs.Prelude.{ℕ, ◌≡◌, ◌*◌, true, false, List, length, set, replicate}
-use Rattle.sb_memory.specs.Physical.{Physical}
+use Rattle.std.specs.Prelude.{ℕ, ◌+◌, ◌*◌, ◌≤◌, true, false, List, All, length, set, replicate}
+use Rattle.sb_memory.specs.Physical.{Physical, frame_count}
 use Rattle.sb_memory.specs.Words.{put_bytes}
 use Rattle.sb_memory.specs.declared.page.TheConstants.{PAGE_SIZE}
 use Rattle.sb_agree.specs.Noted.{Noted, nothing}
@@ -25,3 +25,7 @@ no_copies frames = record { bytes = replicate (PAGE_SIZE * frames) 0; present = 
 abbrev pub with_copy : Physical → ℕ → List ℕ → Physical
 with_copy copies frame bytes =
     record { bytes = put_bytes copies.bytes (PAGE_SIZE * frame) bytes; present = set copies.present frame true }
+
+-- these words, by their numbers, lie in frames of the memory
+abbrev pub AllInside : Physical → List ℕ → Type 0
+AllInside copies words = All (λ word. 8 * word + 8 ≤ PAGE_SIZE * frame_count copies) words

@@ -1,0 +1,2 @@
+//! Two physical memories that hold the same words give the same instruction.
+#![tactic(auto)]
