@@ -104,7 +104,8 @@ execution_same : (rule : PhysCall → Physical → Unit {0} → Unit {0}) (core 
 execution_same rule core account row regs =
     rows_alike SameView (view_interface noted_rule) (view_interface rule)
     (record {
-      stored = λ first second same address size value _ here there. ap (λ (core : View). view_stored core address size value) same;
+      stored = λ first second same address size value _ here there. ap (λ (core : View). view_stored core address size value)
+          same;
     })
     (λ first second same address how is_data. ap (λ (core : View). (view_interface rule).byte core address how) same)
     row regs core core account tt refl
