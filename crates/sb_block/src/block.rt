@@ -6,6 +6,7 @@ ghost use Rattle.sb_trace.specs.declared.event.Event.{Event};
 ghost use Rattle.sb_machine.specs.OwnSteps.{HasWalks};
 ghost use Rattle.sb_block.specs.Answers.{IsRunOf, Refuses};
 ghost use Rattle.sb_block.specs.Block.{BlockHolds, IsBlock};
+ghost use Rattle.sb_block.specs.Places.{AreReadsIn, AreWritesIn};
 ghost use Rattle.sb_partial.specs.Copies.{untouched};
 ghost use Rattle.sb_block.specs.Run.{lines_of_core};
 
@@ -64,6 +65,8 @@ pub fn run_block(
         × IsBlock (frame_count part.old.given) core start.now events block.after block.reads block.writes) }
     ensures holds { IfOk result (λ block. (events : List Event) × (block.lines ≡ lines_of_core core events)
         × BlockHolds (frame_count part.old.given) core start.now events block.after block.reads block.writes) }
+    ensures reads { IfOk result (λ block. AreReadsIn (frame_count part.old.given) core block.reads) }
+    ensures writes { IfOk result (λ block. AreWritesIn (frame_count part.old.given) block.writes) }
     ensures refused { IfErr result (λ stop. Refuses start.now part.old.given stop) }
     ensures copies { part.new ≡ untouched part.old.given }
 {
