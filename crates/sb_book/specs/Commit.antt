@@ -10,6 +10,7 @@ use Rattle.sb_machine.specs.declared.place.Seen.{Seen}
 use Rattle.sb_machine.specs.Counts.{made_by}
 use Rattle.sb_machine.specs.Machine.{Machine}
 use Rattle.sb_machine.specs.OwnSteps.{OwnSteps}
+use Rattle.sb_machine.specs.Seens.{seen_core}
 use Rattle.sb_block.specs.Block.{BlockHolds}
 use Rattle.sb_block.specs.Places.{AreReadsIn, AreWritesIn}
 use Rattle.sb_block.specs.Run.{lines_of_core}
@@ -19,11 +20,14 @@ use Rattle.sb_book.specs.History.{History}
 
 -- ---- what a block must be
 
--- Lines, words read and words written that are a block of this core in a machine of so many frames.
+-- Lines, places read and words written that are a block of this core in a machine of so many frames. How many lines the core had
+-- made is read first.
 pub record IsBlockOf (frames core : ℕ) (before after : CoreState) (lines : List Line) (reads writes : List Seen) : Type 0 where
   pub events : List Event
   pub lines_are : lines ≡ lines_of_core core events
   pub holds : BlockHolds frames core before events after reads writes
+  pub words : List Seen
+  pub count_first : reads ≡ seen_core core before ∷ words
   pub reads_in : AreReadsIn frames core reads
   pub writes_in : AreWritesIn frames writes
 
