@@ -1,11 +1,8 @@
 -- Two memories that agree at all words which are known: writes keep this.
-use Rattle.std.proofs.Common.{◌≡◌, ◌≢◌, ap, sym, subst, ◌∙◌, ℕ, zero, suc, ◌+◌, ◌*◌, ◌%◌, ◌<◌, ◌≤◌, ◌⊎◌, inl, inr, Bool, true, false, ◌||◌, List, [], ◌∷◌, length, get_or, set, length-set, get_or-set_other, get_or-set_same, refl, arith}
+use Rattle.std.proofs.Common.{◌≡◌, ◌≢◌, ap, sym, subst, ◌∙◌, ℕ, ◌+◌, ◌*◌, ◌%◌, ◌<◌, ◌≤◌, ◌⊎◌, inl, inr, Bool, true, false, ◌||◌, List, length, get_or, set, length-set, get_or-set_other, get_or-set_same, refl, arith}
 use Rattle.std.specs.Prelude.{if◌then◌else◌, slice_set, ◌-◌}
 use Rattle.std.proofs.lemmas.Bool.{cases_lt, cases_eq}
 use Rattle.std.proofs.lemmas.List.{get_or_past}
-use Rattle.std.proofs.lemmas.List.Edits.{sets}
-use Rattle.byteorder.specs.Endian.{little_bytes}
-use Rattle.byteorder.specs.Numbers.{length-bytes_low_first}
 use Rattle.sb_memory.specs.Physical.{Physical, frame_count, has_frame, frame_of}
 use Rattle.sb_memory.specs.Words.{put_word, word_at}
 use Rattle.sb_memory.specs.Reading.{byte_written, word_written, with_bytes, word_read, byte_read, missing}

@@ -7,7 +7,7 @@ use Rattle.sb_memory.specs.Reading.{word_read}
 use Rattle.sb_insn.specs.declared.insn.Insn.{Insn}
 use Rattle.sb_insn.specs.declared.registers.Regs.{Regs}
 use Rattle.sb_bus.specs.declared.stop.BusStop.{BusStop}
-use Rattle.sb_bus.specs.Interface.{Interface, FetchByte}
+use Rattle.sb_bus.specs.Interface.{FetchByte}
 use Rattle.sb_exec.specs.declared.action.Effect.{Effect}
 use Rattle.sb_exec.specs.Execution.{execution_of}
 use Rattle.sb_exec.specs.Fetching.{FetchesOn, after_fetches, bytes_from_fetch}
@@ -20,7 +20,7 @@ use Rattle.sb_walks.proofs.Depends.{is_there}
 use Rattle.sb_agree.specs.Noted.{Noted, noted_rule}
 use Rattle.sb_agree.specs.Held.{Agrees, Covers}
 use Rattle.sb_agree.specs.Laws.{EndAlike, SameButAccount, noted_execution}
-use Rattle.sb_agree.proofs.Noting.{rule_known, rule_more, rule_same, rule_writes}
+use Rattle.sb_agree.proofs.Noting.{rule_known, rule_same, rule_writes}
 use Rattle.sb_agree.proofs.Agreeing.{word_held}
 use Rattle.sb_agree.proofs.Calls.{call_more}
 use Rattle.sb_agree.proofs.Rows.{fetched_alike, row_alike}

@@ -123,10 +123,6 @@ module _ (memory changed : Physical) (frames : frame_count changed ≡ frame_cou
 
   -- ---- the place of a byte
 
-  place_no_gap : (at : ℕ) (answer : Result PhysAddr NestedStop) → NoGap bus_gap (place_answer at answer) → NoGap nested_gap answer
-  place_no_gap at (Ok place) g = tt
-  place_no_gap at (Err e) g = sym (stop_told at e) ∙ g
-
   pub place_same : (access : Access) (at : ℕ) → Each HeldCall (walk_calls old access at)
       → NoGap nested_gap (place_of old access at)
       → Same ThereCall (place_of old access at) (place_of new access at) (walk_calls old access at) (walk_calls new access at)
@@ -220,18 +216,6 @@ module _ (memory changed : Physical) (frames : frame_count changed ≡ frame_cou
   store_place_same at h g =
       let same = byte_same Write at h (there_no_gap (view_byte old at Write) _ g) in
       record { answer = rw (same.place, same.byte.answer) refl; reads = same.byte.reads; there = same.byte.there }
-
-  -- the calls for the bytes of a store that are read
-  where_same : (byte : Result ℕ BusStop) (place : PhysAddr) (calls others : List PhysCall) → calls ≡ others
-      → where_ok byte (λ _. calls) ≡ where_ok (where_there byte (Ok place)) (λ _. others)
-  where_same (Ok byte) place calls others e = e
-  where_same (Err s) place calls others e = refl
-
-  where_led : (at : ℕ) (answer : Result PhysAddr NestedStop) (calls others : List PhysCall) → calls ≡ others
-      → where_ok (byte_behind memory at answer) (λ _. calls)
-      ≡ where_ok (where_there (byte_behind memory at answer) (place_answer at answer)) (λ _. others)
-  where_led at (Ok place) calls others e = where_same (byte_answer (byte_read memory place.0)) place calls others e
-  where_led at (Err s) calls others e = refl
 
   -- a store is done: each of its bytes has a place
   first_led : (at : ℕ) (answer : Result PhysAddr NestedStop)

@@ -1,7 +1,7 @@
 -- A call of a core's bus over two memories that agree: the same answer, the same account, and they agree again.
-use Rattle.std.proofs.Common.{◌≡◌, ap, sym, subst, ◌∙◌, ℕ, zero, suc, ◌+◌, ◌/◌, ◌%◌, ◌^◌, ◌==◌, ◌&&◌, ◌<◌, Bool, true, false, List, [], ◌∷◌, refl, arith}
+use Rattle.std.proofs.Common.{◌≡◌, ap, sym, subst, ◌∙◌, ℕ, zero, suc, ◌+◌, ◌/◌, ◌%◌, ◌^◌, ◌==◌, ◌<◌, Bool, true, false, List, [], ◌∷◌, refl, arith}
 use Rattle.std.specs.Prelude.{Result, Ok, Err, if◌then◌else◌}
-use Rattle.std.proofs.lemmas.Bool.Decides.{nat_tests}
+use Rattle.std.proofs.lemmas.Bool.{and_parts, eqb-true}
 use Rattle.sb_memory.specs.Physical.{Physical, has_frame, frame_of}
 use Rattle.sb_memory.specs.Accounts.{PhysCall, ReadByte, ReadWord, WriteByte, WriteWord, word_calls, account_after_reads}
 use Rattle.sb_memory.specs.Reading.{byte_written, word_written}
@@ -16,7 +16,7 @@ use Rattle.sb_bus.specs.declared.stop.BusStop.{BusStop}
 use Rattle.sb_bus.specs.Access.{bytes_from, loaded_from, byte_for, byte_for_write}
 use Rattle.sb_bus.specs.Interface.{BusCall, FetchByte, LoadBytes, LoadForWrite, StoreBytes}
 use Rattle.sb_nested.specs.View.{View, view, place_of, walk_calls, view_byte, byte_calls, calls_from, walk_place}
-use Rattle.sb_nested.specs.Store.{store_place, load_calls, look_calls, put_value, after_writes, put_answer, after_answer, put_word_at, after_word, is_whole, memory_stored, store_rule, view_rule}
+use Rattle.sb_nested.specs.Store.{store_place, load_calls, look_calls, after_bytes_stored, after_word_stored, bytes_stored, word_stored, put_value, after_writes, after_answer, after_word, is_whole, memory_stored, store_rule, view_rule}
 use Rattle.sb_nested.proofs.Writing.{loaded_for_write}
 use Rattle.sb_nested.proofs.WholeWord.{led_offset}
 use Rattle.sb_agree.specs.Noted.{Noted, word_of, read_noted, noted_rule}
@@ -227,16 +227,9 @@ pub done_ok : {A : Type 0} (answer : Result A BusStop) → done answer ≡ Ok tt
 done_ok (Ok value) e = (value, refl)
 done_ok (Err s) e = cc
 
-both_true : (x y : Bool) → (x && y) ≡ true → (x ≡ true) × (y ≡ true)
-both_true true true e = (refl, refl)
-both_true true false e = cc
-both_true false y e = cc
-
-is_number : (a b : ℕ) → (a == b) ≡ true → a ≡ b
-is_number a b e = grind (arith, nat_tests)
-
 whole_size : (at size : ℕ) → is_whole at size ≡ true → (size ≡ 8) × (at % 8 ≡ 0)
-whole_size at size e = let both = both_true (size == 8) (at % 8 == 0) e in (is_number size 8 both.0, is_number (at % 8) 0 both.1)
+whole_size at size e =
+    let both = and_parts (size == 8) (at % 8 == 0) e in (eqb-true size 8 both.0, eqb-true (at % 8) 0 both.1)
 
 -- what a store leaves
 pub record SameStore (all : List ℕ) (start : Physical) (one two : Noted) (memory changed : Physical) : Type 0 where
@@ -253,16 +246,11 @@ module _ (all : List ℕ) (start : Physical) (eptp cr3 : ℕ) (memory changed : 
   new_core = view changed eptp cr3
 
   -- bytes, one by one
-  apart_alike : Covers all
-      (after_answer noted_rule memory (bytes_from (store_place old_core) at size) value
-      (account_after_reads noted_rule memory (load_calls old_core Write at size) account)).reads
+  apart_alike : Covers all (after_bytes_stored noted_rule old_core at size value account).reads
       → (bytes_from (store_place new_core) at size ≡ Ok places)
-      × SameStore all start (after_answer noted_rule memory (bytes_from (store_place old_core) at size) value
-      (account_after_reads noted_rule memory (load_calls old_core Write at size) account))
-      (after_answer noted_rule changed (bytes_from (store_place new_core) at size) value
-      (account_after_reads noted_rule changed (load_calls new_core Write at size) account))
-      (put_answer memory (bytes_from (store_place old_core) at size) value)
-      (put_answer changed (bytes_from (store_place new_core) at size) value)
+      × SameStore all start (after_bytes_stored noted_rule old_core at size value account)
+      (after_bytes_stored noted_rule new_core at size value account) (bytes_stored old_core at size value)
+      (bytes_stored new_core at size value)
   apart_alike covers =
       let looked = account_after_reads noted_rule memory (load_calls old_core Write at size) account in
       let covers' : Covers all (after_writes noted_rule memory places value looked).reads =
@@ -305,15 +293,10 @@ module _ (all : List ℕ) (start : Physical) (eptp cr3 : ℕ) (memory changed : 
   first_held Held calls answer (suc count) some h = each_left Held (calls at) _ h
 
   -- a whole word
-  whole_alike : size ≡ 8 → at % 8 ≡ 0
-      → Covers all (after_word noted_rule memory (place_of old_core Write at) value
-      (account_after_reads noted_rule memory (look_calls old_core at 8) account)).reads
+  whole_alike : size ≡ 8 → at % 8 ≡ 0 → Covers all (after_word_stored noted_rule old_core at value account).reads
       → (bytes_from (store_place new_core) at size ≡ Ok places)
-      × SameStore all start (after_word noted_rule memory (place_of old_core Write at) value
-      (account_after_reads noted_rule memory (look_calls old_core at 8) account))
-      (after_word noted_rule changed (place_of new_core Write at) value
-      (account_after_reads noted_rule changed (look_calls new_core at 8) account))
-      (put_word_at memory (place_of old_core Write at) value) (put_word_at changed (place_of new_core Write at) value)
+      × SameStore all start (after_word_stored noted_rule old_core at value account)
+      (after_word_stored noted_rule new_core at value account) (word_stored old_core at value) (word_stored new_core at value)
   whole_alike eight even covers =
       let led' : bytes_from (store_place old_core) at 8 ≡ Ok places =
       subst (λ (n : ℕ). bytes_from (store_place old_core) at n ≡ Ok places) eight led in
@@ -357,23 +340,15 @@ module _ (all : List ℕ) (start : Physical) (eptp cr3 : ℕ) (memory changed : 
       )
 
   store_by : (test : Bool) → is_whole at size ≡ test
-      → Covers all (if test then after_word noted_rule memory (place_of old_core Write at) value
-      (account_after_reads noted_rule memory (look_calls old_core at 8) account)
-      else after_answer noted_rule memory (bytes_from (store_place old_core) at size) value
-      (account_after_reads noted_rule memory (load_calls old_core Write at size) account)).reads
+      → Covers all (if test then after_word_stored noted_rule old_core at value account
+      else after_bytes_stored noted_rule old_core at size value account).reads
       → (bytes_from (store_place new_core) at size ≡ Ok places)
-      × SameStore all start (if test then after_word noted_rule memory (place_of old_core Write at) value
-      (account_after_reads noted_rule memory (look_calls old_core at 8) account)
-      else after_answer noted_rule memory (bytes_from (store_place old_core) at size) value
-      (account_after_reads noted_rule memory (load_calls old_core Write at size) account))
-      (if test then after_word noted_rule changed (place_of new_core Write at) value
-      (account_after_reads noted_rule changed (look_calls new_core at 8) account)
-      else after_answer noted_rule changed (bytes_from (store_place new_core) at size) value
-      (account_after_reads noted_rule changed (load_calls new_core Write at size) account))
-      (if test then put_word_at memory (place_of old_core Write at) value else put_answer memory
-      (bytes_from (store_place old_core) at size) value)
-      (if test then put_word_at changed (place_of new_core Write at) value else put_answer changed
-      (bytes_from (store_place new_core) at size) value)
+      × SameStore all start (if test then after_word_stored noted_rule old_core at value account
+      else after_bytes_stored noted_rule old_core at size value account)
+      (if test then after_word_stored noted_rule new_core at value account
+      else after_bytes_stored noted_rule new_core at size value account)
+      (if test then word_stored old_core at value else bytes_stored old_core at size value)
+      (if test then word_stored new_core at value else bytes_stored new_core at size value)
   store_by true is covers = let both = whole_size at size is in whole_alike both.0 both.1 covers
   store_by false is covers = apart_alike covers
 
@@ -398,10 +373,8 @@ word_more all memory (Ok place) value account covers = rule_more all memory (Wri
 word_more all memory (Err s) value account covers = covers
 
 store_more : (test : Bool) (all : List ℕ) (core : View) (at size value : ℕ) (account : Noted)
-    → Covers all (if test then after_word noted_rule core.physical (place_of core Write at) value
-    (account_after_reads noted_rule core.physical (look_calls core at 8) account)
-    else after_answer noted_rule core.physical (bytes_from (store_place core) at size) value
-    (account_after_reads noted_rule core.physical (load_calls core Write at size) account)).reads
+    → Covers all (if test then after_word_stored noted_rule core at value account
+    else after_bytes_stored noted_rule core at size value account).reads
     → Covers all account.reads
 store_more true all core at size value account covers =
     after_more all core.physical (look_calls core at 8) account

@@ -1,7 +1,7 @@
 -- A memory that holds words of another agrees with it at them, and memories that agree hold what was written.
 use Rattle.std.proofs.Common.{◌≡◌, ap, sym, subst, ◌∙◌, ℕ, zero, suc, ◌+◌, ◌*◌, ◌%◌, ◌<◌, ◌==◌, Bool, true, false, ◌||◌, List, [], ◌∷◌, get_or, replicate, refl, arith}
-use Rattle.std.proofs.lemmas.Bool.{or_right}
-use Rattle.std.proofs.lemmas.Bool.Decides.{nat_tests}
+use Rattle.std.proofs.lemmas.Bool.{eq-eqb, eqb-true, or_left, or_right}
+use Rattle.std.proofs.Math.Bool.{or-false}
 use Rattle.std.proofs.lemmas.List.{get_or-replicate, length-replicate}
 use Rattle.byteorder.specs.Endian.{little_from}
 use Rattle.sb_memory.specs.Physical.{Physical, IsPhysical, HasAllFrames, frame_count}
@@ -37,20 +37,6 @@ bytes_of_words left right at small also e k below = same_bytes left right small 
 
 -- ---- words that are held
 
-is_number : (a b : ℕ) → (a == b) ≡ true → a ≡ b
-is_number a b e = grind (arith, nat_tests)
-
-same_number : (word : ℕ) → (word == word) ≡ true
-same_number word = grind (arith, nat_tests)
-
-or_left : (x y : Bool) → x ≡ true → (x || y) ≡ true
-or_left true y e = refl
-or_left false y e = cc
-
-or_nothing : (x : Bool) → (x || false) ≡ true → x ≡ true
-or_nothing true e = refl
-or_nothing false e = e
-
 -- a memory holds its own words
 pub holds_own : (memory : Physical) (words : List ℕ) → HoldsWords memory words memory
 holds_own memory [] = tt
@@ -63,7 +49,7 @@ module _ (memory other : Physical) where
 
   held_by : (test : Bool) (word first : ℕ) (words : List ℕ) → (first == word) ≡ test → (test || has_word word words) ≡ true
       → SameWord first → (has_word word words ≡ true → SameWord word) → SameWord word
-  held_by true word first words is e here rest = subst SameWord (is_number first word is) here
+  held_by true word first words is e here rest = subst SameWord (eqb-true first word is) here
   held_by false word first words is e here rest = rest e
 
   -- each word of the list has the same value
@@ -76,7 +62,7 @@ module _ (memory other : Physical) where
   pub holds_each : (words : List ℕ) → ((word : ℕ) → has_word word words ≡ true → SameWord word) → HoldsWords memory words other
   holds_each [] each = tt
   holds_each (word ∷ words) each = (
-    each word (or_left (word == word) _ (same_number word)),
+    each word (or_left (word == word) _ (eq-eqb word word refl)),
     holds_each words (λ later e. each later (or_right (word == later) _ e)),
   )
 
@@ -90,7 +76,7 @@ starts words memory other frames sound also all held = record {
   other_size = also.size.bytes;
   there = λ frame e. let inside = there_inside memory frame e in all frame (rw frames inside);
   same = λ place e.
-      let word = word_held memory other words held (word_of place) (or_nothing (has_word (word_of place) words) e) in
+      let word = word_held memory other words held (word_of place) (sym (or-false (has_word (word_of place) words)) ∙ e) in
       let split : place ≡ 8 * word_of place + place % 8 = omega arith in
       let bytes =
       bytes_of_words other.bytes memory.bytes (8 * word_of place) also.bytes sound.bytes word (place % 8) (omega arith) in

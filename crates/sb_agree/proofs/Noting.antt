@@ -1,9 +1,8 @@
 -- What is noted stays noted, and what a call reads is noted or was written.
-use Rattle.std.proofs.Common.{◌≡◌, ◌≢◌, ap, subst, ◌∙◌, ℕ, ◌==◌, Bool, true, false, ◌||◌, List, [], ◌∷◌, ◌++◌, refl, arith}
+use Rattle.std.proofs.Common.{◌≡◌, ◌≢◌, ap, sym, subst, ◌∙◌, ℕ, ◌==◌, Bool, true, false, ◌||◌, List, [], ◌∷◌, ◌++◌, refl}
 use Rattle.std.specs.Prelude.{if◌then◌else◌}
 use Rattle.std.proofs.lemmas.List.Folds.{list_any-append}
-use Rattle.std.proofs.lemmas.Bool.{or_right}
-use Rattle.std.proofs.lemmas.Bool.Decides.{nat_tests}
+use Rattle.std.proofs.lemmas.Bool.{eq-eqb, ne_eqb, or_left, or_right}
 use Rattle.sb_memory.specs.Physical.{Physical, has_frame, frame_of}
 use Rattle.sb_memory.specs.Accounts.{PhysCall, ReadByte, ReadWord, WriteByte, WriteWord, place_of, account_after_reads}
 use Rattle.sb_agree.specs.Noted.{Noted, has_word, with_word, word_of, read_noted, write_noted, noted_by, noted_rule}
@@ -12,35 +11,22 @@ use Rattle.sb_agree.specs.Held.{Covers, is_known}
 
 -- ---- lists of words
 
-same_number : (word : ℕ) → (word == word) ≡ true
-same_number word = grind (arith, nat_tests)
-
-other_number : (word other : ℕ) → word ≢ other → (other == word) ≡ false
-other_number word other apart = grind (arith, nat_tests)
-
-or_left : (x y : Bool) → x ≡ true → (x || y) ≡ true
-or_left true y e = refl
-or_left false y e = cc
-
-or_falls : (x y : Bool) → (x || y) ≡ true → (x ≡ false) → y ≡ true
-or_falls true y e f = cc
-or_falls false y e f = e
-
 has_pushed : (word : ℕ) (words : List ℕ) → has_word word (words ++ word ∷ []) ≡ true
 has_pushed word words =
-    list_any-append (λ other. other == word) words (word ∷ []) ∙ or_right _ _ (or_left (word == word) false (same_number word))
+    list_any-append (λ other. other == word) words (word ∷ [])
+    ∙ or_right _ _ (or_left (word == word) false (eq-eqb word word refl))
 
 more_pushed : (old word : ℕ) (words : List ℕ) → has_word old words ≡ true → has_word old (words ++ word ∷ []) ≡ true
 more_pushed old word words e = list_any-append (λ other. other == old) words (word ∷ []) ∙ or_left _ _ e
 
-or_nothing : (x y : Bool) → y ≡ false → (x || (y || false)) ≡ x
-or_nothing true y e = refl
-or_nothing false true e = cc
-or_nothing false false e = refl
+or_neither : (x y : Bool) → y ≡ false → (x || (y || false)) ≡ x
+or_neither true y e = refl
+or_neither false true e = cc
+or_neither false false e = refl
 
 other_pushed : (old word : ℕ) (words : List ℕ) → old ≢ word → has_word old (words ++ word ∷ []) ≡ has_word old words
 other_pushed old word words apart =
-    list_any-append (λ other. other == old) words (word ∷ []) ∙ or_nothing _ _ (other_number old word apart)
+    list_any-append (λ other. other == old) words (word ∷ []) ∙ or_neither _ _ (ne_eqb word old (λ same. apart (sym same)))
 
 has_by : (test : Bool) (word : ℕ) (words : List ℕ) → has_word word words ≡ test
     → has_word word (if test then words else words ++ word ∷ []) ≡ true

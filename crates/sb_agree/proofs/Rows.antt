@@ -12,7 +12,7 @@ use Rattle.sb_exec.specs.declared.action.Effect.{Effect}
 use Rattle.sb_bus.specs.Access.{bytes_from, byte_for, store_answer, where_stored}
 use Rattle.sb_bus.specs.Interface.{Interface, FetchByte}
 use Rattle.sb_exec.specs.Row.{Row, MemoryAccess, Loads, LoadsForWrite, Stores, accesses}
-use Rattle.sb_exec.specs.Execution.{Run, Execution, run, run_on, execution_of, effect_after, registers_after, access_answer, meaning_after, call_of}
+use Rattle.sb_exec.specs.Execution.{Run, run, run_on, execution_of, effect_after, registers_after, access_answer, meaning_after, call_of}
 use Rattle.sb_exec.specs.Fetching.{bytes_from_fetch, FetchesOn, fetch_of, after_fetches}
 use Rattle.sb_nested.specs.View.{View, view, view_byte, byte_calls}
 use Rattle.sb_nested.specs.Store.{view_interface, view_rule, store_place, store_rule, memory_stored, view_stored}
@@ -226,11 +226,6 @@ module _ (all : List ℕ) (start : Physical) (eptp cr3 : ℕ) (memory changed : 
   pub fetches_write : (count : ℕ) → (after count).writes ≡ account.writes
   fetches_write zero = refl
   fetches_write (suc count) = one_writes (bytes_from_fetch rip count) (after count) ∙ fetches_write count
-
-  pub fetches_more : (count : ℕ) → Covers all (after count).reads → Covers all account.reads
-  fetches_more zero covers = covers
-  fetches_more (suc count) covers =
-      fetches_more count (call_more all (FetchByte (bytes_from_fetch rip count)) old (after count) covers)
 
   fetches_alike : (count : ℕ) → Covers all (after count).reads
       → ((index : ℕ) → index < count → NoGap bus_gap (fetch_of noting old (bytes_from_fetch rip index)))
