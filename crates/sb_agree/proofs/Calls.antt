@@ -170,10 +170,9 @@ AllHere memory places = Each (λ place. has_frame memory (frame_of place.0) ≡ 
 byte_known : (all : List ℕ) (memory : Physical) (place byte : ℕ) (account : Noted) → has_frame memory (frame_of place) ≡ true
     → Covers all (noted_rule (WriteByte place byte) memory account).reads → is_known all account.writes (word_of place) ≡ true
 byte_known all memory place byte account there covers =
-    read_known all (word_of place) account
+    read_known all _ account
     (subst (λ (words : List ℕ). Covers all words)
-    (ap (λ (a : Noted). a.reads) (rule_there memory (WriteByte place byte) account there)
-    ∙ write_reads (word_of place) (read_noted (word_of place) account)) covers)
+    (ap (λ (a : Noted). a.reads) (rule_there memory (WriteByte place byte) account there) ∙ write_reads _ _) covers)
 
 byte_alike : (all : List ℕ) (start memory changed : Physical) (place byte : ℕ) (account : Noted)
     → has_frame memory (frame_of place) ≡ true → Agrees all start account.writes memory changed

@@ -9,6 +9,7 @@ use Rattle.sb_memory.specs.Words.{word_at}
 use Rattle.sb_memory.proofs.Words.{word_of_same_bytes}
 use Rattle.sb_agree.specs.Noted.{has_word, word_of}
 use Rattle.sb_agree.specs.Held.{Agrees, HoldsWords, is_known}
+use Rattle.sb_agree.specs.Laws.{HoldingMemoriesAgree, WrittenWordsAreHeld}
 use Rattle.sb_agree.proofs.Agreeing.{there_inside}
 
 -- ---- numbers of bytes
@@ -68,9 +69,8 @@ module _ (memory other : Physical) where
 
 -- ---- the relation at the start
 
-pub starts : (words : List ℕ) (memory other : Physical) → frame_count other ≡ frame_count memory → IsPhysical memory
-    → IsPhysical other → HasAllFrames other → HoldsWords memory words other → Agrees words other [] memory other
-starts words memory other frames sound also all held = record {
+pub holding_memories_agree : HoldingMemoriesAgree
+holding_memories_agree words memory other frames sound also all held = record {
   frames = frames;
   size = sound.size.bytes;
   other_size = also.size.bytes;
@@ -89,15 +89,17 @@ starts words memory other frames sound also all held = record {
 
 module _ (all : List ℕ) (start : Physical) (writes : List ℕ) (memory changed : Physical)
     (agree : Agrees all start writes memory changed) where
-  known_word : (word : ℕ) → is_known all writes word ≡ true → word_at changed.bytes (8 * word) ≡ word_at memory.bytes (8 * word)
+  pub known_word : (word : ℕ) → is_known all writes word ≡ true → word_at changed.bytes (8 * word) ≡ word_at memory.bytes (8 * word)
   known_word word e =
       word_of_same_bytes changed.bytes memory.bytes (8 * word)
       (λ k below. agree.same (8 * word + k)
       (let one : word_of (8 * word + k) ≡ word = omega arith in
       subst (λ (w : ℕ). is_known all writes w ≡ true) (sym one) e))
 
-  pub writes_held : HoldsWords memory writes changed
-  writes_held = holds_each memory changed writes (λ word e. known_word word (or_right (has_word word all) _ e))
+pub written_words_are_held : WrittenWordsAreHeld
+written_words_are_held all start writes memory changed agree =
+    holds_each memory changed writes
+    (λ word e. known_word all start writes memory changed agree word (or_right (has_word word all) _ e))
 
 -- ---- a memory of which all frames are there
 

@@ -107,8 +107,8 @@ IsRead (WriteByte place byte) = ⊥
 IsRead (WriteWord place word) = ⊥
 
 by_writes : (call : PhysCall) (account : Noted) → IsRead call → (noted_by call account).writes ≡ account.writes
-by_writes (ReadByte place) account is = read_writes (word_of place) account
-by_writes (ReadWord place) account is = read_writes (word_of place) account
+by_writes (ReadByte place) account is = read_writes _ account
+by_writes (ReadWord place) account is = read_writes _ account
 by_writes (WriteByte place byte) account is = absurd is
 by_writes (WriteWord place word) account is = absurd is
 
@@ -124,11 +124,10 @@ rule_writes memory call account is = where_writes (has_frame memory (frame_of (p
 
 by_more : (old : ℕ) (call : PhysCall) (account : Noted) → has_word old account.reads ≡ true
     → has_word old (noted_by call account).reads ≡ true
-by_more old (ReadByte place) account e = read_more old (word_of place) account e
-by_more old (ReadWord place) account e = read_more old (word_of place) account e
-by_more old (WriteByte place byte) account e =
-    ap (has_word old) (write_reads (word_of place) (read_noted (word_of place) account)) ∙ read_more old (word_of place) account e
-by_more old (WriteWord place word) account e = ap (has_word old) (write_reads (word_of place) account) ∙ e
+by_more old (ReadByte place) account e = read_more old _ account e
+by_more old (ReadWord place) account e = read_more old _ account e
+by_more old (WriteByte place byte) account e = ap (has_word old) (write_reads _ _) ∙ read_more old _ account e
+by_more old (WriteWord place word) account e = ap (has_word old) (write_reads _ account) ∙ e
 
 where_more : (test : Bool) (old : ℕ) (call : PhysCall) (account : Noted) → has_word old account.reads ≡ true
     → has_word old (if test then noted_by call account else account).reads ≡ true
