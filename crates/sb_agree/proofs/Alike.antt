@@ -52,6 +52,7 @@ words_agree all start memory changed account place word agree even e covers =
 
 -- ---- accounts only grow
 
+-- by bytes that are fetched one after another
 bytes_grow : (all : List ℕ) (core : View) (account : Noted) (rip count : ℕ)
     → Covers all (after_fetches (view_interface noted_rule) core rip count account).reads → Covers all account.reads
 bytes_grow all core account rip zero covers = covers
@@ -84,6 +85,7 @@ fetches_without_account rule core rip account fetched result fetches =
 abbrev SameView : View → View → Type 0
 SameView one two = two ≡ one
 
+-- an execution by two rules
 execution_same : (rule : PhysCall → Physical → Unit {0} → Unit {0}) (core : View) (account : Noted) (row : Row) (regs : Regs)
     → Alike SameView (noted_execution row regs core account) (execution_of (view_interface rule) row regs core tt)
 execution_same rule core account row regs =

@@ -48,6 +48,7 @@ module _ (memory other : Physical) where
   abbrev SameWord : ℕ → Type 0
   SameWord word = word_at other.bytes (8 * word) ≡ word_at memory.bytes (8 * word)
 
+  -- a word of the list, by whether it is the first
   held_by : (test : Bool) (word first : ℕ) (words : List ℕ) → (first == word) ≡ test → (test || has_word word words) ≡ true
       → SameWord first → (has_word word words ≡ true → SameWord word) → SameWord word
   held_by true word first words is e here rest = subst SameWord (eqb-true first word is) here
@@ -69,6 +70,7 @@ module _ (memory other : Physical) where
 
 -- ---- the relation at the start
 
+-- a memory that holds some words agrees at them
 pub holding_memories_agree : HoldingMemoriesAgree
 holding_memories_agree words memory other frames sound also all held = record {
   frames = frames;
@@ -89,13 +91,16 @@ holding_memories_agree words memory other frames sound also all held = record {
 
 module _ (all : List ℕ) (start : Physical) (writes : List ℕ) (memory changed : Physical)
     (agree : Agrees all start writes memory changed) where
-  pub known_word : (word : ℕ) → is_known all writes word ≡ true → word_at changed.bytes (8 * word) ≡ word_at memory.bytes (8 * word)
+  -- a known word has the same value in both
+  pub known_word : (word : ℕ) → is_known all writes word ≡ true
+      → word_at changed.bytes (8 * word) ≡ word_at memory.bytes (8 * word)
   known_word word e =
       word_of_same_bytes changed.bytes memory.bytes (8 * word)
       (λ k below. agree.same (8 * word + k)
       (let one : word_of (8 * word + k) ≡ word = omega arith in
       subst (λ (w : ℕ). is_known all writes w ≡ true) (sym one) e))
 
+-- what was written has the same values in both
 pub written_words_are_held : WrittenWordsAreHeld
 written_words_are_held all start writes memory changed agree =
     holds_each memory changed writes
@@ -107,9 +112,11 @@ written_words_are_held all start writes memory changed agree =
 abbrev pub with_all_frames : Physical → Physical
 with_all_frames memory = record memory { present = replicate (frame_count memory) true }
 
+-- it has as many frames
 pub count_of_all : (memory : Physical) → frame_count (with_all_frames memory) ≡ frame_count memory
 count_of_all memory = length-replicate (frame_count memory) true
 
+-- it is a physical memory
 pub physical_with_all : (memory : Physical) → IsPhysical memory → IsPhysical (with_all_frames memory)
 physical_with_all memory sound =
     let count = count_of_all memory in
@@ -118,6 +125,7 @@ physical_with_all memory sound =
       bytes = sound.bytes;
     }
 
+-- it has all its frames
 pub has_all_frames : (memory : Physical) → HasAllFrames (with_all_frames memory)
 has_all_frames memory frame below =
     get_or-replicate (frame_count memory) frame true false (subst (λ (n : ℕ). frame < n) (count_of_all memory) below)
