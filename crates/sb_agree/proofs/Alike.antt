@@ -14,11 +14,11 @@ use Rattle.sb_nested.specs.Store.{view_interface, view_stored}
 use Rattle.sb_walks.proofs.Depends.{is_there}
 use Rattle.sb_agree.specs.Noted.{Noted, noted_rule}
 use Rattle.sb_agree.specs.Held.{Agrees, Covers}
-use Rattle.sb_agree.specs.Laws.{AccountsGrowByCalls, AccountsGrowByExecutions, AccountsGrowByFetches, ExecutionsAgree, ExecutionsWithoutAccount, FetchesAgree, FetchesWithoutAccount, WordsAgree, noted_execution}
-use Rattle.sb_agree.proofs.Noting.{rule_known, rule_more, rule_same, rule_writes}
+use Rattle.sb_agree.specs.Laws.{AccountsGrowByFetches, ExecutionsAgree, ExecutionsWithoutAccount, FetchesAgree, FetchesWithoutAccount, WordsAgree, noted_execution}
+use Rattle.sb_agree.proofs.Noting.{rule_known, rule_same, rule_writes}
 use Rattle.sb_agree.proofs.Agreeing.{word_held}
 use Rattle.sb_agree.proofs.Calls.{call_more}
-use Rattle.sb_agree.proofs.Rows.{fetched_alike, row_alike, row_more}
+use Rattle.sb_agree.proofs.Rows.{fetched_alike, row_alike}
 
 -- ---- over memories that agree
 
@@ -29,19 +29,19 @@ still all start memory changed account after same agree =
     subst (λ (words : List ℕ). Agrees all start words memory changed) (sym same) agree
 
 -- an instruction that is fetched
-pub fetches_agree : FetchesAgree
-fetches_agree all start memory changed eptp cr3 rip account fetched insn agree fetches covers =
+pub fetch_alike_on : FetchesAgree
+fetch_alike_on all start memory changed eptp cr3 rip account fetched insn agree fetches covers =
     let same = fetched_alike all start eptp cr3 memory changed account agree rip insn fetched fetches covers in
     (same.0, still all start memory changed account fetched same.1 agree)
 
 -- an execution that no access stops
-pub executions_agree : ExecutionsAgree
-executions_agree all start memory changed eptp cr3 account row regs effect agree e covers =
+pub execution_alike : ExecutionsAgree
+execution_alike all start memory changed eptp cr3 account row regs effect agree e covers =
     row_alike all start eptp cr3 memory changed account row regs effect agree e covers
 
 -- a word that is read
-pub words_agree : WordsAgree
-words_agree all start memory changed account place word agree even e covers =
+pub word_alike_on : WordsAgree
+word_alike_on all start memory changed account place word agree even e covers =
     let there : has_frame memory (frame_of place) ≡ true = is_there memory changed agree.frames place word e in
     let known = rule_known all memory (ReadWord place) account there tt covers in (
       word_held all start account.writes memory changed agree place (λ _. known) even word e,
@@ -62,23 +62,15 @@ bytes_grow all core account rip (suc count) covers =
     (after_fetches (view_interface noted_rule) core rip count account) covers)
 
 -- by a fetch, whatever comes of it
-pub fetches_grow : AccountsGrowByFetches
-fetches_grow all core rip account fetched result fetches covers =
+pub fetch_more : AccountsGrowByFetches
+fetch_more all core rip account fetched result fetches covers =
     bytes_grow all core account rip fetches.asked (subst (λ (after : Noted). Covers all after.reads) fetches.account covers)
-
--- by an execution
-pub executions_grow : AccountsGrowByExecutions
-executions_grow all core account row regs covers = row_more all core account row regs covers
-
--- by a call of physical memory
-pub calls_grow : AccountsGrowByCalls
-calls_grow all memory call account covers = rule_more all memory call account covers
 
 -- ---- without an account
 
 -- the same fetch
-pub fetches_without_account : FetchesWithoutAccount
-fetches_without_account rule core rip account fetched result fetches =
+pub fetch_unnoted : FetchesWithoutAccount
+fetch_unnoted rule core rip account fetched result fetches =
     record { asked = fetches.asked; fetched = fetches.fetched; account = refl }
 
 -- the same view
@@ -98,7 +90,7 @@ execution_same rule core account row regs =
     row regs core core account tt refl
 
 -- the same execution
-pub executions_without_account : ExecutionsWithoutAccount
-executions_without_account rule core account row regs =
+pub execution_unnoted : ExecutionsWithoutAccount
+execution_unnoted rule core account row regs =
     let same = execution_same rule core account row regs in
     record { answer = same.answer; registers = same.registers; meaning = same.related }

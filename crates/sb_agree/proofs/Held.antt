@@ -71,8 +71,8 @@ module _ (memory other : Physical) where
 -- ---- the relation at the start
 
 -- a memory that holds some words agrees at them
-pub holding_memories_agree : HoldingMemoriesAgree
-holding_memories_agree words memory other frames sound also all held = record {
+pub starts : HoldingMemoriesAgree
+starts words memory other frames sound also all held = record {
   frames = frames;
   size = sound.size.bytes;
   other_size = also.size.bytes;
@@ -101,8 +101,8 @@ module _ (all : List ℕ) (start : Physical) (writes : List ℕ) (memory changed
       subst (λ (w : ℕ). is_known all writes w ≡ true) (sym one) e))
 
 -- what was written has the same values in both
-pub written_words_are_held : WrittenWordsAreHeld
-written_words_are_held all start writes memory changed agree =
+pub writes_held : WrittenWordsAreHeld
+writes_held all start writes memory changed agree =
     holds_each memory changed writes
     (λ word e. known_word all start writes memory changed agree word (or_right (has_word word all) _ e))
 

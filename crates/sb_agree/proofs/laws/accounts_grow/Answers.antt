@@ -1,11 +1,13 @@
-use Rattle.sb_agree.proofs.Alike.{fetches_grow, executions_grow, calls_grow}
+use Rattle.sb_agree.proofs.Alike.{fetch_more}
+use Rattle.sb_agree.proofs.Noting.{rule_more}
+use Rattle.sb_agree.proofs.Rows.{row_more}
 use Rattle.sb_agree.proofs.laws.accounts_grow.Goals as goal
 
 pub returns-clause-fetch : goal.returns-clause-fetch
-returns-clause-fetch c = fetches_grow
+returns-clause-fetch c = fetch_more
 
 pub returns-clause-execution : goal.returns-clause-execution
-returns-clause-execution c = executions_grow
+returns-clause-execution c = row_more
 
 pub returns-clause-call : goal.returns-clause-call
-returns-clause-call c = calls_grow
+returns-clause-call c = rule_more
