@@ -1,7 +1,7 @@
 pub mod Cores
 pub mod Present
 pub mod Afterwards
-pub mod Seen
+pub mod Seeing
 pub mod Places
 pub mod Frames
 pub mod Seats

@@ -13,10 +13,12 @@
 //! (`sb_root`, `sb_sub`), what the plain machine does (`sb_trace`), and what the text of a dump determines (`sb_shows`).
 #![tactic(auto)]
 
+mod apply;
 mod core_state;
 mod dump;
 mod dump_lines;
 mod end;
+mod frame;
 mod instruction;
 mod laws;
 mod machine;
@@ -30,7 +32,7 @@ mod step;
 mod system_call;
 mod vmfunc;
 
-pub use laws::steps_are_plain;
+pub use laws::{own_steps_are_plain, steps_are_plain};
 pub use machine::Machine;
 pub use place::{Place, Seen, Seens};
 pub use processor::{Core, CoreState, Origin};
