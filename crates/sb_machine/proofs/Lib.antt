@@ -33,3 +33,6 @@ pub mod Writing
 pub mod DumpParts
 pub mod Dumped
 pub mod Ran
+pub mod BytesKept
+pub mod Own
+pub mod OwnRuns
