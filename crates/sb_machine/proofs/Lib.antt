@@ -36,3 +36,6 @@ pub mod Ran
 pub mod BytesKept
 pub mod Own
 pub mod OwnRuns
+pub mod WordsPut
+pub mod Undecided
+pub mod Applying

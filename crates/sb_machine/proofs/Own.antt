@@ -1,6 +1,6 @@
 -- A step that a core makes by itself leaves the tables of the root kernel, and with them each list and each translation; and it
 -- leaves bytes in memory.
-use Rattle.std.proofs.Common.{◌≡◌, ◌≢◌, ◌∙◌, sym, ap, subst, ℕ, ◌<◌, ◌==◌, false, true, length, refl, Result, Ok, Err}
+use Rattle.std.proofs.Common.{◌≡◌, ◌≢◌, ◌∙◌, sym, ap, subst, ℕ, ◌<◌, ◌==◌, length, refl, Result, Ok, Err}
 use Rattle.std.specs.Prelude.{IsTrue}
 use Rattle.sb_memory.specs.Physical.{Physical}
 use Rattle.sb_memory.specs.declared.address.Missing.{Missing}

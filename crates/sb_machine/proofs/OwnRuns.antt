@@ -6,12 +6,10 @@ use Rattle.sb_trace.specs.declared.event.Event.{Event}
 use Rattle.sb_trace.specs.declared.event.Event.TheVariants.{Idle}
 use Rattle.sb_trace.specs.declared.event.Line.{Line}
 use Rattle.sb_trace.specs.Changes.{AreBytes}
-use Rattle.sb_trace.specs.State.{State}
 use Rattle.sb_machine.specs.Counts.{made_by}
-use Rattle.sb_machine.specs.Laws.{StepsArePlain, RunsOn, OwnStepsArePlain}
+use Rattle.sb_machine.specs.Laws.{StepsArePlain, FollowsRun, OwnStepsArePlain}
 use Rattle.sb_machine.specs.Machine.{Machine}
 use Rattle.sb_machine.specs.OwnSteps.{OwnSteps, lines_of_core}
-use Rattle.sb_machine.specs.StandsFor.{IsMachineOf}
 use Rattle.sb_machine.proofs.Counting.{step_counts, step_cores, step_frames}
 use Rattle.sb_machine.proofs.Own.{own_keeps, own_translations, pointer_stays, not_idle}
 use Rattle.sb_machine.proofs.Translated.{steps_keep_translations}
@@ -40,7 +38,7 @@ module _ (law : StepsArePlain) where
   pub own_run : OwnStepsArePlain
   unfolding OwnSteps
   own_run old number [] new state there is same =
-      subst (λ (machine : Machine). RunsOn old state number [] machine) (sym same) (record {
+      subst (λ (machine : Machine). FollowsRun old state number [] machine) (sym same) (record {
         end = state;
         runs = refl;
         stands = is;

@@ -1,4 +1,5 @@
--- The machine behind steps that a core has made elsewhere: the core has the state behind them, and memory the words that they wrote.
+-- The machine behind steps that a core has made elsewhere: the core has the state behind them, and memory has the words that they
+-- wrote.
 use Rattle.std.specs.Prelude.{ℕ, ◌*◌, ◌%◌, ◌==◌, ◌&&◌, ◌||◌, not, nat_le, nat_lt, Bool, true, List, [], ◌∷◌, Option, Some, None, slice_index, if◌then◌else◌}
 use Rattle.sb_abi.specs.declared.trampoline.TheConstants.{BRANCH_ON_KEY, TEST_MASK, BRANCH_ON_POOL, BRANCH_ON_EXCHANGE, STACK_OFFSET}
 use Rattle.sb_memory.specs.Physical.{Physical, frame_count}

@@ -40,10 +40,10 @@ StepsArePlain =
 abbrev pub MachinesShow : Type 0
 MachinesShow = (machine : Machine) (state : State) → IsMachineOf machine state → Shows state machine.memory (words_of machine)
 
--- The plain machine has a run of one core with these lines, and the machine stands for the last state. So many lines more has that
--- core made, modulo 2^64, and no other one has; none of them is idle. Each translation, and the number of cores and of frames, is as
--- before.
-pub record RunsOn (old : Machine) (state : State) (number : ℕ) (events : List Event) (new : Machine) : Type 0 where
+-- The plain machine has a run of one core with these lines, of which none is idle, and the machine stands for its last state. The
+-- core has made so many lines more, modulo 2^64, and no other one has; each translation, and how many cores and frames there are,
+-- is as before.
+pub record FollowsRun (old : Machine) (state : State) (number : ℕ) (events : List Event) (new : Machine) : Type 0 where
   pub end : State
   pub runs : Runs state (replicate (length events) number) (lines_of_core number events) end
   pub stands : IsMachineOf new end
@@ -58,4 +58,4 @@ pub record RunsOn (old : Machine) (state : State) (number : ℕ) (events : List 
 abbrev pub OwnStepsArePlain : Type 0
 OwnStepsArePlain =
     (old : Machine) (number : ℕ) (events : List Event) (new : Machine) (state : State) → number < length old.cores
-    → IsMachineOf old state → OwnSteps old number events new → RunsOn old state number events new
+    → IsMachineOf old state → OwnSteps old number events new → FollowsRun old state number events new

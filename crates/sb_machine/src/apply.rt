@@ -10,7 +10,7 @@ use crate::processor::{Core, CoreState, Origin};
 use sb_abi::{BRANCH_ON_EXCHANGE, BRANCH_ON_KEY, BRANCH_ON_POOL, STACK_OFFSET, TEST_MASK};
 use sb_insn::Regs;
 use sb_insn::registers::RAX;
-use sb_memory::{Memory, PAGE_SIZE, PhysAddr, Phys};
+use sb_memory::{Memory, PAGE_SIZE, Phys, PhysAddr};
 
 // ---- the core
 

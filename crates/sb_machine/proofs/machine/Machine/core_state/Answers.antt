@@ -1,4 +1,4 @@
-use Rattle.std.proofs.Common.{◌≡◌, sym, subst, ◌<◌, length}
+use Rattle.std.proofs.Common.{sym, subst, ◌<◌, length}
 use Rattle.sb_memory.specs.Physical.{frame_count}
 use Rattle.sb_machine.specs.declared.processor.Core.{Core}
 use Rattle.sb_machine.specs.Machine.{Machine}
