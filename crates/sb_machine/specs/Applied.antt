@@ -17,8 +17,9 @@ use Rattle.sb_machine.specs.Machine.{Machine, core_at, with_core}
 
 -- ---- the core
 
--- Whether no call in flight is undecided, by the phase and the registers there. At the branch behind a comparison ZF tells it, at
--- the branch behind an exchange too, and while RAX has the mask, RAX. At each other phase there is one answer alone.
+-- Whether a core that is to do this phase with these registers has no call before its decision. At the branches behind the
+-- comparison and the exchange ZF tells it, and at the two phases behind the load of the pool word RAX, which is the mask. Each
+-- other phase is only come to before the decision, or only after it.
 abbrev pub is_decided : Option ℕ → Regs → Bool
 is_decided None regs = true
 is_decided (Some phase) regs =
@@ -31,6 +32,7 @@ is_decided (Some phase) regs =
 abbrev pub origin_kept : CoreState → Option Origin → Option Origin
 origin_kept after origin = if is_decided after.phase after.regs then None else origin
 
+-- a core with this state
 abbrev pub core_with : Core → CoreState → Core
 core_with core after = record core { state = after; origin = origin_kept after core.origin }
 
@@ -50,6 +52,7 @@ abbrev pub with_value : Physical → Place → ℕ → Physical
 with_value memory (Word place) value = with_word memory place value
 with_value memory (CoreOf number) value = memory
 
+-- memory with a word that was seen
 abbrev pub with_seen : Physical → Seen → Physical
 with_seen memory seen = with_value memory seen.place seen.value
 
@@ -60,6 +63,7 @@ with_seens memory (seen ∷ others) = with_seens (with_seen memory seen) others
 
 -- ---- the machine
 
+-- the machine where a core has this state and has written these words
 abbrev pub machine_behind : Machine → ℕ → CoreState → List Seen → Machine
 machine_behind machine number after writes =
     record (with_core machine number (core_with (core_at machine number) after)) { memory = with_seens machine.memory writes }

@@ -14,7 +14,7 @@ use sb_memory::{Memory, PAGE_SIZE, Phys, PhysAddr};
 
 // ---- the core
 
-/// Whether no call in flight is undecided, by the phase and the registers there.
+/// Whether a core that is to do this phase with these registers has no call before its decision.
 fn is_decided(phase: Option<u8>, regs: &Regs) -> bool
     ensures { result ≡ is_decided phase regs.now }
 {
