@@ -48,8 +48,8 @@ stored_frames core address size value =
     (answer_frames core.physical (bytes_from (store_place core) address size) value)
 
 -- the memory behind an instruction has as many frames
-pub frames_kept : {Account : Type 0} (rule : Rule Account) (core : CoreState) (insn : Insn) (memory : Physical) (account : Account)
-    → frame_count (core_execution rule core insn memory account).meaning.physical ≡ frame_count memory
+pub frames_kept : {Account : Type 0} (rule : Rule Account) (core : CoreState) (insn : Insn) (memory : Physical)
+    (account : Account) → frame_count (core_execution rule core insn memory account).meaning.physical ≡ frame_count memory
 frames_kept rule core insn memory account =
     rows_keep (λ seen. frame_count seen.physical ≡ frame_count memory) (view_interface rule)
     (λ seen is address size value permitted. stored_frames seen address size value ∙ is)

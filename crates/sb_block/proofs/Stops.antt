@@ -19,8 +19,8 @@ outcome_of-stop_of account (bus.Missing frame) = refl
 outcome_of-stop_of account (bus.Fault kind address) = refl
 
 -- the fetch stops
-pub fetch_stops : {Account : Type 0} (rule : Rule Account) (core : CoreState) (memory after : Physical) (account fetched : Account)
-    (stop : BusStop) (told : StepStop)
+pub fetch_stops : {Account : Type 0} (rule : Rule Account) (core : CoreState) (memory after : Physical)
+    (account fetched : Account) (stop : BusStop) (told : StepStop)
     → FetchesOn (view_interface rule) (seen_by memory core) core.regs.rip account fetched (Err stop) → told ≡ stop_of stop
     → after ≡ memory → CoreSteps rule (at core memory account) (outcome_of told) × (core ≡ core) × (after ≡ memory)
 fetch_stops {Account} rule core memory after account fetched stop told fetches is same = (

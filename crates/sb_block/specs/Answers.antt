@@ -42,7 +42,8 @@ ComesTo outcome old new (Err why) = (outcome ≡ outcome_of why) × (new.core �
 -- ---- steps one after another
 
 -- steps of the core of this number, told by their lines
-pub record IsToldRun {Account : Type 0} (rule : Rule Account) (number : ℕ) (before : At Account) (lines : List Line) (after : At Account)
+pub record IsToldRun {Account : Type 0} (rule : Rule Account) (number : ℕ) (before : At Account) (lines : List Line)
+    (after : At Account)
     : Type 0 where
   pub events : List Event
   pub told : lines ≡ lines_of_core number events
