@@ -1,18 +1,24 @@
 -- What steps over copies say of a block.
-use Rattle.std.proofs.Common.{◌≡◌, ap, sym, subst, ◌∙◌, inl, inr, ℕ, ◌<◌, List, [], ◌∷◌, length, arith}
+use Rattle.std.proofs.Common.{◌≡◌, refl, ◌+◌, ◌*◌, ◌≤◌, ap, sym, subst, ◌∙◌, inl, inr, ℕ, ◌<◌, List, [], ◌∷◌, length, arith}
 use Rattle.std.proofs.lemmas.List.{length-map}
-use Rattle.std.specs.Prelude.{◌≤◌, Result, Ok, Err, IfErr}
-use Rattle.sb_memory.specs.Physical.{Physical}
+use Rattle.std.proofs.lemmas.List.Elements.{All-cons, All-map}
+use Rattle.std.specs.Prelude.{Result, Ok, Err, IfErr}
+use Rattle.sb_memory.specs.Physical.{Physical, frame_count}
+use Rattle.sb_memory.specs.declared.page.TheConstants.{PAGE_SIZE}
 use Rattle.sb_agree.specs.Noted.{Noted, nothing, noted_rule}
-use Rattle.sb_partial.specs.Copies.{Copied}
+use Rattle.sb_partial.specs.Copies.{AllInside, Copied}
 use Rattle.sb_trace.specs.declared.event.Event.{Event}
 use Rattle.sb_trace.specs.declared.event.Line.{Line}
 use Rattle.sb_machine.specs.declared.processor.CoreState.{CoreState}
+use Rattle.sb_machine.specs.declared.place.Place.{Place}
+use Rattle.sb_machine.specs.declared.place.Place.TheVariants.{Word, Core}
 use Rattle.sb_machine.specs.declared.place.Seen.{Seen}
+use Rattle.sb_machine.specs.Seens.{seen_core, seen_word, seen_words}
 use Rattle.sb_block.specs.declared.one.StepStop.{StepStop}
 use Rattle.sb_block.specs.declared.one.StepStop.TheVariants as why
 use Rattle.sb_block.specs.declared.block.Stop.{Stop}
 use Rattle.sb_block.specs.Answers.{outcome_of, IsToldRun, EndsRun, EndsAt, IsRunOf, told, IsGathered, Refuses}
+use Rattle.sb_block.specs.Places.{IsWordIn, IsPlaceIn, AreReadsIn, AreWritesIn}
 use Rattle.sb_block.specs.Run.{at, CoreRuns, lines_of_core}
 use Rattle.sb_block.specs.Step.{Rule, At, CoreSteps}
 
@@ -77,3 +83,39 @@ run_by number start after copies limit made lines part core before last all read
       saw = got.saw;
       wrote = got.wrote;
     })
+
+-- ---- where its places lie
+
+word_in : (frames word : ℕ) → 8 * word + 8 ≤ PAGE_SIZE * frames → IsWordIn frames (Word (8 * word))
+word_in frames word inside = (omega arith, inside)
+
+words_in : (copies memory : Physical) (words : List ℕ) → AllInside copies words
+    → AreWritesIn (frame_count copies) (seen_words memory words)
+words_in copies memory words inside =
+    All-map (λ (seen : Seen). IsWordIn (frame_count copies) seen.place) (seen_word memory) words
+    (λ index other below. word_in (frame_count copies) _ (inside index other below))
+
+place_in : (frames number : ℕ) (place : Place) → IsWordIn frames place → IsPlaceIn frames number place
+place_in frames number (Word place) inside = inside
+place_in frames number (Core other) inside = absurd inside
+
+places_in : (frames number : ℕ) (seens : List Seen) → AreWritesIn frames seens → AreReadsIn frames number seens
+places_in frames number seens inside = λ index other below. place_in frames number _ (inside index other below)
+
+-- what was read of the copies, behind how many lines the core had made
+pub reads_by : {number core : ℕ} {start after before last : CoreState} {copies : Physical} {lines all : List Line} {part : Copied}
+    {reads writes : List Seen} → IsGathered number start after lines part core before last all reads writes
+    → part.given ≡ copies → AreReadsIn (frame_count copies) number reads
+reads_by {number} {start} {part} got given =
+    rw (got.saw, ← given)
+    (All-cons (λ (seen : Seen). IsPlaceIn (frame_count part.given) number seen.place) (seen_core number start)
+    (seen_words part.given part.began.reads) refl
+    (places_in (frame_count part.given) number (seen_words part.given part.began.reads)
+    (words_in part.given part.given part.began.reads got.reads_inside)))
+
+-- what was written
+pub writes_by : {number core : ℕ} {start after before last : CoreState} {copies : Physical} {lines all : List Line} {part : Copied}
+    {reads writes : List Seen} → IsGathered number start after lines part core before last all reads writes
+    → part.given ≡ copies → AreWritesIn (frame_count copies) writes
+writes_by {part} got given =
+    rw (got.wrote, ← given) (words_in part.given part.memory part.began.writes got.writes_inside)

@@ -13,7 +13,7 @@ use Rattle.sb_block.specs.declared.one.StepStop.{StepStop}
 use Rattle.sb_block.specs.declared.one.StepStop.TheVariants as why
 use Rattle.sb_block.specs.declared.block.Stop.{Stop}
 use Rattle.sb_block.specs.declared.block.Stop.TheVariants as stop
-use Rattle.sb_partial.specs.Copies.{Copied}
+use Rattle.sb_partial.specs.Copies.{AllInside, Copied}
 use Rattle.sb_block.specs.Run.{at, CoreRuns, lines_of_core}
 use Rattle.sb_block.specs.Step.{At, Rule, CoreOutcome, Made, Needs, Kernel, CoreSteps}
 
@@ -89,6 +89,8 @@ pub record IsGathered (number : ℕ) (start last : CoreState) (made : List Line)
   pub all : lines ≡ made
   pub saw : reads ≡ seen_core number start ∷ seen_words part.given part.began.reads
   pub wrote : writes ≡ seen_words part.memory part.began.writes
+  pub reads_inside : AllInside part.given part.began.reads
+  pub writes_inside : AllInside part.given part.began.writes
 
 -- why no step is made, over the copies
 abbrev pub Refuses : CoreState → Physical → Stop → Type 0
