@@ -1,0 +1,4 @@
+pub mod Frames
+pub mod Stops
+pub mod Pushing
+pub mod Ended

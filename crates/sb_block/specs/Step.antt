@@ -9,7 +9,6 @@ use Rattle.sb_insn.specs.declared.insn.Insn.{Insn}
 use Rattle.sb_insn.specs.declared.registers.Regs.{Regs}
 use Rattle.sb_bus.specs.declared.stop.BusStop.{BusStop}
 use Rattle.sb_bus.specs.declared.stop.BusStop.TheVariants as stop
-use Rattle.sb_bus.specs.Interface.{Interface}
 use Rattle.sb_exec.specs.declared.action.Effect.{Effect}
 use Rattle.sb_exec.specs.declared.action.Effect.TheVariants.{Next, Syscall, Switch, Undefined}
 use Rattle.sb_exec.specs.Execution.{Execution, execution_of}
@@ -77,9 +76,9 @@ abbrev pub view_outcome : {Account : Type 0} → CoreState → Insn → ℕ → 
 view_outcome core insn index eptp memory account =
     if index == 0
     then Made (home_line core.phase core.view)
-        (record { core = with_made (home_state eptp core (regs_behind insn core.regs)); memory = memory; account = account })
+    (record { core = with_made (home_state eptp core (regs_behind insn core.regs)); memory = memory; account = account })
     else Made (Landing VMFUNC_PHASE)
-        (record { core = with_made (state_in_flight core insn index eptp); memory = memory; account = account })
+    (record { core = with_made (state_in_flight core insn index eptp); memory = memory; account = account })
 
 -- By the answer of the list. A switch that it refuses is the kernels', and so is one to a pointer that leads to no frame: no
 -- list of a machine that stands for a state has such a one, copies of its frames may.
@@ -124,9 +123,9 @@ fetch_outcome rule core memory account (Err stop) = stop_outcome stop
 
 -- a step by a memory's rule: the instruction at RIP is fetched through the nested walk and executed
 pub record CoreSteps {Account : Type 0} (rule : Rule Account) (before : At Account) (outcome : CoreOutcome Account) : Type 0
-    where
-  pub fetched : Result Insn BusStop
-  pub account : Account
-  pub fetches : FetchesOn (view_interface rule) (seen_by before.memory before.core) before.core.regs.rip before.account account
-      fetched
-  pub comes : outcome ≡ fetch_outcome rule before.core before.memory account fetched
+  where
+    pub fetched : Result Insn BusStop
+    pub account : Account
+    pub fetches : FetchesOn (view_interface rule) (seen_by before.memory before.core) before.core.regs.rip before.account account
+        fetched
+    pub comes : outcome ≡ fetch_outcome rule before.core before.memory account fetched

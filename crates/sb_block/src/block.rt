@@ -1,20 +1,20 @@
 //! Blocks.
 
-ghost use Rattle.std.specs.Prelude.{◌≡◌, ◌≤◌, ◌×◌, IfErr, IfOk, List};
+ghost use Rattle.std.specs.Prelude.{◌≡◌, ◌<◌, ◌≤◌, ◌^◌, IfErr, IfOk};
 ghost use Rattle.sb_memory.specs.Physical.{frame_count};
-ghost use Rattle.sb_trace.specs.declared.event.Event.{Event};
 ghost use Rattle.sb_machine.specs.OwnSteps.{HasWalks};
-ghost use Rattle.sb_block.specs.Answers.{IsRunOf, Refuses};
-ghost use Rattle.sb_block.specs.Block.{BlockHolds, IsBlock};
+ghost use Rattle.sb_block.specs.Answers.{IsGathered, IsRunOf, Refuses, told};
 ghost use Rattle.sb_block.specs.Places.{AreReadsIn, AreWritesIn};
 ghost use Rattle.sb_partial.specs.Copies.{untouched};
-ghost use Rattle.sb_block.specs.Run.{lines_of_core};
 
-use sb_machine::{CoreState, Seens};
-use sb_memory::Frame;
+use crate::collect::{reads_of, writes_of};
+use crate::one::StepStop;
+use crate::run::steps;
+use sb_machine::{CoreState, Place, Seen, Seens};
+use sb_memory::{Frame, Phys};
 use sb_partial::Partial;
-use sb_trace::Lines;
-use std::alloc::Global;
+use sb_trace::{Line, Lines};
+use std::alloc::{AllocError, Global};
 
 /// Steps of a core, the words that they read with the values that they had, and the words that they wrote.
 #[derive(Debug, Drop)]
@@ -41,6 +41,45 @@ pub enum Stop {
     Memory,
 }
 
+/// Why there is no block, where this is why the first step was not made.
+fn none_made(made: Result<(), StepStop>) -> Stop
+    ensures { IfErr made (λ why. result ≡ told why) }
+{
+    match made {
+        Err(StepStop::NeedFrame(frame)) => Stop::NeedFrame(frame),
+        Err(StepStop::Kernel) | Ok(()) => Stop::Kernel,
+    }
+}
+
+/// The block of these lines, by what the copies note.
+fn gather(
+    alloc: Global,
+    part: &Partial,
+    core: u8,
+    before: CoreState,
+    after: CoreState,
+    lines: Vec<Line>,
+) -> Result<Block, AllocError>
+    requires { frame_count part.now.given < 2 ^ 32 }
+    ensures { IfOk result (λ block. IsGathered core before after lines.items part.now
+        block.core block.before block.after block.lines block.reads block.writes) }
+{
+    let own = Seen {
+        place: Place::Core(core),
+        value: before.made,
+    };
+    let reads = reads_of(alloc, part, own)?;
+    let writes = writes_of(alloc, part)?;
+    Ok(Block {
+        core,
+        before,
+        after,
+        reads,
+        writes,
+        lines: Lines::new(lines),
+    })
+}
+
 /// Makes at most so many steps of a core over copies of frames.
 ///
 /// They end where so many are made, or the next one meets a frame of which no copy was given, or is the kernels' to do. After
@@ -49,6 +88,7 @@ pub enum Stop {
 /// # Errors
 ///
 /// Where not even one step is made: `NeedFrame` with the frame that it meets first, or else `Kernel`. `Memory` is want of memory.
+#[tactic(auto, using(crate::proofs::Ended::run_by))]
 pub fn run_block(
     alloc: Global,
     part: &mut Partial,
@@ -61,14 +101,27 @@ pub fn run_block(
     requires walks { HasWalks (frame_count part.old.given) start.now }
     ensures made { IfOk result (λ block. IsRunOf core start.now limit part.old.given
         block.core block.before block.after block.lines block.reads block.writes) }
-    ensures block { IfOk result (λ block. (events : List Event) × (block.lines ≡ lines_of_core core events)
-        × IsBlock (frame_count part.old.given) core start.now events block.after block.reads block.writes) }
-    ensures holds { IfOk result (λ block. (events : List Event) × (block.lines ≡ lines_of_core core events)
-        × BlockHolds (frame_count part.old.given) core start.now events block.after block.reads block.writes) }
     ensures reads { IfOk result (λ block. AreReadsIn (frame_count part.old.given) core block.reads) }
     ensures writes { IfOk result (λ block. AreWritesIn (frame_count part.old.given) block.writes) }
     ensures refused { IfErr result (λ stop. Refuses start.now part.old.given stop) }
     ensures copies { part.new ≡ untouched part.old.given }
 {
-    todo
+    // a memory has less than 2^32 frames
+    part.frames();
+    let mut lines = match Vec::with_capacity(alloc, limit as usize) {
+        Ok(lines) => lines,
+        Err(_) => return Err(Stop::Memory),
+    };
+    let mut after = *start;
+    let made = steps(part, core, &mut after, limit, &mut lines);
+    if lines.is_empty() {
+        part.restore();
+        return Err(none_made(made));
+    }
+    let block = gather(alloc, part, core, *start, after, lines);
+    part.restore();
+    match block {
+        Ok(block) => Ok(block),
+        Err(_) => Err(Stop::Memory),
+    }
 }

@@ -3,8 +3,9 @@
 //! `Partial` is a physical memory of which some frames are there, as copies. It notes which words are read, each once, and holds
 //! back what is written. `run_block` makes steps of a core over it, up to a limit, until one of them meets a frame of which there
 //! is no copy or is the kernels' to do. What comes out is a `Block`: lines, the core behind them, the words that were read with
-//! the values that they had, and the words that were written. By the law `blocks_hold` it is a run of each machine in which those words hold these
-//! values, whatever else has changed there since the copies were made, and the copies may come from different moments.
+//! the values that they had, and the words that were written. By the law `blocks_hold` it is a run of each machine in which those
+//! words hold these values, whatever else has changed there since the copies were made, and the copies may come from different
+//! moments.
 //!
 //! Inside: the step of a core over any physical memory (`one`), steps one after another (`run`), what they read and wrote
 //! (`collect`), blocks (`block`), and the laws (`laws`). Not inside: the copies (`sb_partial`), the machine and how a block is
@@ -26,5 +27,5 @@ mod run;
 pub use block::{Block, Stop, run_block};
 pub use laws::{blocks_are_functions, blocks_hold};
 pub use one::{StepStop, step};
-pub use sb_partial::Partial;
 pub use sb_machine::{CoreState, Place, Seen, Seens};
+pub use sb_partial::Partial;

@@ -39,5 +39,8 @@ mod vmfunc;
 
 pub use laws::{own_steps_are_plain, steps_are_plain};
 pub use machine::Machine;
+pub use outcome::{home_state, line_by};
+pub use phase::phase_behind;
 pub use place::{Place, Seen, Seens};
 pub use processor::{Core, CoreState, Origin};
+pub use vmfunc::{home_line, regs_behind};

@@ -38,8 +38,9 @@ fn line_of(phase: u8, view: u16, regs: &Regs) -> Event
     }
 }
 
-/// The line of an instruction that went on from RIP and left these registers.
-fn line_by(phase: Option<u8>, view: u16, rip: u64, regs: &Regs) -> Event
+/// The line of an instruction that went on from RIP and left these registers: in flight by the phase and the registers, else the
+/// address at which it stood.
+pub fn line_by(phase: Option<u8>, view: u16, rip: u64, regs: &Regs) -> Event
     ensures { result ≡ line_by phase view rip regs.now }
 {
     match phase {

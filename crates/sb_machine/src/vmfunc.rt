@@ -44,8 +44,8 @@ pub fn regs_behind(insn: &Insn, regs: &Regs) -> Regs
     }
 }
 
-/// The line of a way into the home view.
-fn home_line(phase: Option<u8>, view: u16) -> Event
+/// The line of a way into the home view: the end of a refused call in flight, a turn, or a return.
+pub fn home_line(phase: Option<u8>, view: u16) -> Event
     ensures { result ≡ home_line phase view }
 {
     match phase {

@@ -1,0 +1,121 @@
+-- What steps over copies say of a block.
+use Rattle.std.proofs.Common.{◌≡◌, refl, ◌+◌, ◌*◌, ◌≤◌, ap, sym, subst, ◌∙◌, inl, inr, ℕ, ◌<◌, List, [], ◌∷◌, length, arith}
+use Rattle.std.proofs.lemmas.List.{length-map}
+use Rattle.std.proofs.lemmas.List.Elements.{All-cons, All-map}
+use Rattle.std.specs.Prelude.{Result, Ok, Err, IfErr}
+use Rattle.sb_memory.specs.Physical.{Physical, frame_count}
+use Rattle.sb_memory.specs.declared.page.TheConstants.{PAGE_SIZE}
+use Rattle.sb_agree.specs.Noted.{Noted, nothing, noted_rule}
+use Rattle.sb_partial.specs.Copies.{AllInside, Copied}
+use Rattle.sb_trace.specs.declared.event.Event.{Event}
+use Rattle.sb_trace.specs.declared.event.Line.{Line}
+use Rattle.sb_machine.specs.declared.processor.CoreState.{CoreState}
+use Rattle.sb_machine.specs.declared.place.Place.{Place}
+use Rattle.sb_machine.specs.declared.place.Place.TheVariants.{Word, Core}
+use Rattle.sb_machine.specs.declared.place.Seen.{Seen}
+use Rattle.sb_machine.specs.Seens.{seen_core, seen_word, seen_words}
+use Rattle.sb_block.specs.declared.one.StepStop.{StepStop}
+use Rattle.sb_block.specs.declared.one.StepStop.TheVariants as why
+use Rattle.sb_block.specs.declared.block.Stop.{Stop}
+use Rattle.sb_block.specs.Answers.{outcome_of, IsToldRun, EndsRun, EndsAt, IsRunOf, told, IsGathered, Refuses}
+use Rattle.sb_block.specs.Places.{IsWordIn, IsPlaceIn, AreReadsIn, AreWritesIn}
+use Rattle.sb_block.specs.Run.{at, CoreRuns, lines_of_core}
+use Rattle.sb_block.specs.Step.{Rule, At, CoreSteps}
+
+-- ---- no step is made
+
+-- no line: no step
+events_none : {Account : Type 0} (rule : Rule Account) (before after : At Account) (events : List Event) → length events ≡ 0
+    → CoreRuns rule before events after → after ≡ before
+unfolding CoreRuns
+events_none rule before after [] none runs = runs
+events_none rule before after (event ∷ events) none runs = absurd (omega arith)
+
+length-lines : (number : ℕ) (events : List Event) (lines : List Line) → lines ≡ lines_of_core number events
+    → length events ≡ length lines
+length-lines number events lines same =
+    sym (ap length same ∙ length-map events (λ (event : Event). record { core = number; event = event }))
+
+refuses_by : (start : CoreState) (copies : Physical) (stopped : StepStop)
+    → CoreSteps noted_rule (at start copies nothing) (outcome_of stopped) → Refuses start copies (told stopped)
+refuses_by start copies (why.NeedFrame frame) step = step
+refuses_by start copies why.Kernel step = step
+
+-- no line: it is the first step that is not made
+pub refused_by : (number : ℕ) (start : CoreState) (copies memory : Physical) (lines : List Line) (last : At Noted) (limit : ℕ)
+    (made : Result (Unit {0}) StepStop) (answer : Stop) → IsToldRun noted_rule number (at start memory nothing) lines last
+    → EndsRun limit (length lines) last made → IfErr made (λ stopped. answer ≡ told stopped) → memory ≡ copies → 1 ≤ limit
+    → length lines ≡ 0 → Refuses start copies answer
+refused_by number start copies memory lines last limit (Ok done) answer run ends told_by same some none =
+    absurd (omega (arith, ends, none, some))
+refused_by number start copies memory lines last limit (Err stopped) answer run ends told_by same some none =
+    let first = events_none noted_rule (at start memory nothing) last run.events
+    (length-lines number run.events lines run.told ∙ none) run.runs in
+    rw (told_by, ← same) (refuses_by start memory stopped
+    (subst (λ (one : At Noted). CoreSteps noted_rule one (outcome_of stopped)) first ends.1))
+
+-- ---- steps are made
+
+ends_by : (limit count : ℕ) (last : At Noted) (made : Result (Unit {0}) StepStop) → EndsRun limit count last made
+    → EndsAt limit count last
+ends_by limit count last (Ok done) ends = inl ends
+ends_by limit count last (Err stopped) ends = inr (ends.0, (stopped, ends.1))
+
+-- what was gathered after the steps
+pub run_by : (number : ℕ) (start after : CoreState) (copies : Physical) (limit : ℕ) (made : Result (Unit {0}) StepStop)
+    (lines : List Line) (part : Copied) (core : ℕ) (before last : CoreState) (all : List Line) (reads writes : List Seen)
+    → IsToldRun noted_rule number (at start copies nothing) lines (at after part.memory part.began)
+    → EndsRun limit (length lines) (at after part.memory part.began) made → 0 < length lines → part.given ≡ copies
+    → IsGathered number start after lines part core before last all reads writes
+    → IsRunOf number start limit copies core before last all reads writes
+run_by number start after copies limit made lines part core before last all reads writes run ends some given got =
+    let count = length-lines number run.events lines run.told in
+    rw (got.all, got.to, ← given) (record {
+      events = run.events;
+      ended = part.memory;
+      noted = part.began;
+      runs = rw given run.runs;
+      ends = rw count (ends_by limit (length lines) (at after part.memory part.began) made ends);
+      some = rw count some;
+      of = got.of;
+      from = got.from;
+      told = run.told;
+      saw = got.saw;
+      wrote = got.wrote;
+    })
+
+-- ---- where its places lie
+
+word_in : (frames word : ℕ) → 8 * word + 8 ≤ PAGE_SIZE * frames → IsWordIn frames (Word (8 * word))
+word_in frames word inside = (omega arith, inside)
+
+words_in : (copies memory : Physical) (words : List ℕ) → AllInside copies words
+    → AreWritesIn (frame_count copies) (seen_words memory words)
+words_in copies memory words inside =
+    All-map (λ (seen : Seen). IsWordIn (frame_count copies) seen.place) (seen_word memory) words
+    (λ index other below. word_in (frame_count copies) _ (inside index other below))
+
+place_in : (frames number : ℕ) (place : Place) → IsWordIn frames place → IsPlaceIn frames number place
+place_in frames number (Word place) inside = inside
+place_in frames number (Core other) inside = absurd inside
+
+places_in : (frames number : ℕ) (seens : List Seen) → AreWritesIn frames seens → AreReadsIn frames number seens
+places_in frames number seens inside = λ index other below. place_in frames number _ (inside index other below)
+
+-- what was read of the copies, behind how many lines the core had made
+pub reads_by : {number core : ℕ} {start after before last : CoreState} {copies : Physical} {lines all : List Line} {part : Copied}
+    {reads writes : List Seen} → IsGathered number start after lines part core before last all reads writes
+    → part.given ≡ copies → AreReadsIn (frame_count copies) number reads
+reads_by {number} {start} {part} got given =
+    rw (got.saw, ← given)
+    (All-cons (λ (seen : Seen). IsPlaceIn (frame_count part.given) number seen.place) (seen_core number start)
+    (seen_words part.given part.began.reads) refl
+    (places_in (frame_count part.given) number (seen_words part.given part.began.reads)
+    (words_in part.given part.given part.began.reads got.reads_inside)))
+
+-- what was written
+pub writes_by : {number core : ℕ} {start after before last : CoreState} {copies : Physical} {lines all : List Line} {part : Copied}
+    {reads writes : List Seen} → IsGathered number start after lines part core before last all reads writes
+    → part.given ≡ copies → AreWritesIn (frame_count copies) writes
+writes_by {part} got given =
+    rw (got.wrote, ← given) (words_in part.given part.memory part.began.writes got.writes_inside)

@@ -1,0 +1,6 @@
+use Rattle.std.proofs.Common.{◌≡◌, take}
+use Rattle.sb_machine.specs.Seens.{seen_words}
+use Rattle.sb_block.proofs.collect.writes_of.Given as goal
+
+abbrev pub invariant-loop-word : goal.invariant-loop-word
+invariant-loop-word l = l.writes.items ≡ seen_words l.part.memory (take l.word-index l.words)
