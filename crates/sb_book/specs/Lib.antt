@@ -7,3 +7,5 @@ pub use Rattle.sb_machine.specs.Ran
 pub use Rattle.sb_machine.specs.Written
 pub mod History
 pub mod Book
+pub mod Undecided
+pub mod Commit

@@ -1,14 +1,16 @@
 //! The commit of a block.
 
-ghost use Rattle.std.specs.Prelude.{◌≡◌, ◌<◌, ◌→◌, length};
+ghost use Rattle.std.specs.Prelude.{◌≡◌, ◌<◌, length, IfNone, IfSome};
 ghost use Rattle.sb_memory.specs.Physical.{frame_count};
 ghost use Rattle.sb_machine.specs.Counts.{made_by};
 ghost use Rattle.sb_machine.specs.Machine.{state_at};
-ghost use Rattle.sb_book.specs.Commit.{Commits, IsBlockOf};
+ghost use Rattle.sb_book.specs.Commit.{AllHoldNow, ArePlacesOf, Commits, IsBlockOf, IsFirstStale, IsPlaceOf, value_now};
 ghost use Rattle.sb_book.specs.History.{IsRunning};
 
 use crate::history::History;
-use sb_block::{Block, Place};
+use sb_block::{Block, Place, Seen};
+use sb_machine::Machine;
+use sb_memory::PhysAddr;
 
 /// Why a block is not committed.
 #[derive(Clone, Copy, Debug, PartialEq, Eq)]
@@ -17,6 +19,32 @@ pub enum CommitRefusal {
     Full { room: u32 },
     /// The first place that the block read which holds another value now.
     Stale { place: Place, seen: u64, now: u64 },
+}
+
+/// What stands at a place.
+fn value_now(machine: &Machine, place: Place) -> u64
+    requires { IsPlaceOf machine.now place }
+    ensures { result ≡ value_now machine.now place }
+{
+    match place {
+        Place::Word(place) => machine.word(PhysAddr(place)),
+        Place::Core(core) => machine.core_state(core).made,
+    }
+}
+
+/// The first of these that holds another value now, with that value.
+fn first_stale(machine: &Machine, seens: &[Seen]) -> Option<(Seen, u64)>
+    requires { ArePlacesOf machine.now seens.now }
+    ensures none { IfNone result (AllHoldNow machine.now seens.now) }
+    ensures some { IfSome result (λ found. IsFirstStale machine.now seens.now found.0.place found.0.value found.1) }
+{
+    for seen in seens {
+        let now = value_now(machine, seen.place);
+        if now != seen.value {
+            return Some((*seen, now));
+        }
+    }
+    None
 }
 
 impl History {
@@ -35,6 +63,20 @@ impl History {
             → state_at self.old.machine block.now.core ≡ block.now.before }
         ensures { Commits self.old block.now.core block.now.lines block.now.reads result self.new }
     {
-        todo
+        let room = self.room();
+        if (room as usize) < block.lines.items().len() {
+            return Err(CommitRefusal::Full { room });
+        }
+        if let Some((seen, now)) = first_stale(self.machine(), block.reads.items()) {
+            return Err(CommitRefusal::Stale {
+                place: seen.place,
+                seen: seen.value,
+                now,
+            });
+        }
+        // no frame is missing
+        self.machine().frames();
+        self.make(block);
+        Ok(())
     }
 }

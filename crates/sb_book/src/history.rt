@@ -1,10 +1,13 @@
 //! A machine with its journal.
 
-ghost use Rattle.std.specs.Prelude.{◌≡◌, ◌+◌, ◌<◌, ◌≤◌, ◌↔◌, ◌∷◌, ◌++◌, [], length, IsTrue, IsFalse, vec_len, vec_capacity, IfOk, IfSome, IfNone};
+ghost use Rattle.std.specs.Prelude.{◌≡◌, ◌+◌, ◌<◌, ◌≤◌, ◌↔◌, ◌∷◌, ◌++◌, [], length, replicate, IsTrue, IsFalse, vec_len, vec_capacity, IfOk, IfSome, IfNone};
+ghost use Rattle.sb_book.specs.Commit.{AreOwnSteps, LeadsBehind};
 ghost use Rattle.sb_book.specs.History.{IsBegun, IsRunning, AllEnded, IsRun, IsOneStep, IsDone, IsLowest, IsNext};
 
+use crate::steps::make_steps;
+use sb_block::Block;
 use sb_load::Loaded;
-use sb_machine::Machine;
+use sb_machine::{Machine, own_steps_are_plain};
 use sb_trace::Line;
 use std::alloc::{AllocError, Global};
 use std::marker::Model;
@@ -48,6 +51,30 @@ fn put<T: Drop>(list: &mut Vec<T>, value: T)
 {
     // There is room, so it is no error.
     let _ = list.push(value);
+}
+
+/// Appends an entry of a core so many times, for which there is room.
+fn put_entries(journal: &mut Vec<u8>, core: u8, count: usize)
+    requires { vec_len journal.old + count ≤ vec_capacity journal.old }
+    ensures items { journal.new.items ≡ journal.old.items ++ replicate count core }
+    ensures len { vec_len journal.new ≡ vec_len journal.old + count }
+    ensures capacity { vec_capacity journal.old ≤ vec_capacity journal.new }
+{
+    for _ in 0..count {
+        put(journal, core);
+    }
+}
+
+/// Appends lines for which there is room.
+fn put_lines(lines: &mut Vec<Line>, more: &[Line])
+    requires { vec_len lines.old + length more.now ≤ vec_capacity lines.old }
+    ensures items { lines.new.items ≡ lines.old.items ++ more.now }
+    ensures len { vec_len lines.new ≡ vec_len lines.old + length more.now }
+    ensures capacity { vec_capacity lines.old ≤ vec_capacity lines.new }
+{
+    for line in more {
+        put(lines, *line);
+    }
 }
 
 impl History {
@@ -175,5 +202,20 @@ impl History {
         put(&mut self.journal, core);
         put(&mut self.lines, line);
         self.room -= 1;
+    }
+    /// Makes the steps of a block that lead to the core and the words behind it, with an entry and a line for each. It takes no
+    /// memory.
+    pub(crate) fn make(&mut self, block: &Block)
+        requires core { block.now.core < length self.old.machine.cores }
+        requires room { length block.now.lines ≤ self.old.room }
+        requires leads { LeadsBehind self.old.machine block.now.core block.now.lines block.now.after block.now.writes }
+        ensures { AreOwnSteps self.old block.now.core block.now.lines self.new }
+    {
+        own_steps_are_plain();
+        make_steps(&mut self.machine, block);
+        let lines = block.lines.items();
+        put_entries(&mut self.journal, block.core, lines.len());
+        put_lines(&mut self.lines, lines);
+        self.room -= lines.len() as u32;
     }
 }

@@ -18,12 +18,16 @@
 #![tactic(auto)]
 
 mod book;
+mod commit;
+mod flight;
 mod history;
 mod share;
+mod steps;
 mod threads;
 mod worker;
 
 pub use book::{Book, Task};
+pub use commit::CommitRefusal;
 pub use history::History;
 pub use share::Share;
 pub use threads::history_by_threads;

@@ -1,0 +1,68 @@
+//! Flights in the lines of a core.
+
+ghost use Rattle.std.specs.Prelude.{◌≡◌, false};
+ghost use Rattle.sb_book.specs.Undecided.{begins_flight, decides_call, undecided_after};
+
+use sb_abi::VMFUNC_PHASE;
+use sb_trace::{Event, Line};
+
+/// Whether a flight begins with the line.
+fn begins_flight(event: Event) -> bool
+    ensures { result ≡ begins_flight event }
+{
+    match event {
+        Event::Landing { phase } => phase == VMFUNC_PHASE,
+        Event::Step { .. }
+        | Event::Extra { .. }
+        | Event::Stray { .. }
+        | Event::Printed { .. }
+        | Event::Sys { .. }
+        | Event::Exit { .. }
+        | Event::Fault { .. }
+        | Event::ServerFault { .. }
+        | Event::ServerExit { .. }
+        | Event::Entered { .. }
+        | Event::WrongKey { .. }
+        | Event::PoolEmpty { .. }
+        | Event::Unbound { .. }
+        | Event::BadLeaf { .. }
+        | Event::Return
+        | Event::Turn
+        | Event::Idle => false,
+    }
+}
+
+/// Whether a call is decided at the line.
+fn decides_call(event: Event) -> bool
+    ensures { result ≡ decides_call event }
+{
+    match event {
+        Event::Entered { .. } | Event::WrongKey { .. } | Event::PoolEmpty { .. } => true,
+        Event::Step { .. }
+        | Event::Extra { .. }
+        | Event::Stray { .. }
+        | Event::Printed { .. }
+        | Event::Sys { .. }
+        | Event::Exit { .. }
+        | Event::Fault { .. }
+        | Event::ServerFault { .. }
+        | Event::ServerExit { .. }
+        | Event::Unbound { .. }
+        | Event::BadLeaf { .. }
+        | Event::Return
+        | Event::Turn
+        | Event::Landing { .. }
+        | Event::Idle => false,
+    }
+}
+
+/// Whether a flight begins among the lines that is not decided behind them.
+pub fn leaves_undecided(lines: &[Line]) -> bool
+    ensures { result ≡ undecided_after false lines.now }
+{
+    let mut undecided = false;
+    for line in lines {
+        undecided = begins_flight(line.event) || (undecided && !decides_call(line.event));
+    }
+    undecided
+}
