@@ -22,11 +22,11 @@ use Rattle.sb_plain.proofs.Starting.{IsReadAt, images_from}
 use Rattle.sb_shows.specs.Placement.{Placement}
 use Rattle.sb_shows.proofs.WholeStart.{no_process_yet}
 use Rattle.sb_shows.proofs.ManyProcesses.{HasNoPagesFrom, with_images, other_process}
+use Rattle.sb_mapping.specs.Carries.{Carries}
+use Rattle.sb_mapping.specs.StartTables.{HasFreeRoots}
+use Rattle.sb_mapping.specs.StartProcesses.{with_image, image_need, IsReadyForProcess, AddedProcess}
 use Rattle.sb_sub.specs.Kernel.{Entry, process_of}
-use Rattle.sb_sub.specs.Carries.{Carries}
-use Rattle.sb_sub.specs.StartTables.{HasFreeRoots}
-use Rattle.sb_sub.specs.StartProcesses.{with_image, with_set, with_set_at, image_need, IsReadyForProcess, AddedProcess}
-use Rattle.sb_sub.specs.Start.{HasSets, HasBegun, HasAllProcesses, bare_state, threadless_state, images_need}
+use Rattle.sb_sub.specs.Start.{HasSets, HasBegun, HasAllProcesses, bare_state, threadless_state, images_need, with_set, with_set_at}
 use Rattle.sb_sub.proofs.Servable.{set_here}
 
 -- ---- images that are left
