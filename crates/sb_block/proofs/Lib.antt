@@ -2,3 +2,9 @@ pub mod Frames
 pub mod Stops
 pub mod Pushing
 pub mod Ended
+pub mod Made
+pub mod Steps
+pub mod Blocks
+pub mod Once
+pub mod Machines
+pub mod OwnOnce
