@@ -1,0 +1,5 @@
+pub mod Numbers
+pub mod Seen
+pub mod Shared
+pub mod Scratch
+pub mod Plain
