@@ -497,5 +497,5 @@ pub step_alike : {M A N B : Type 0} (bus : Interface M A) (original : Interface 
     (is_extra (place left.regs.rip))
 step_alike bus original Holds IsOutside naming target source place beside stands left right related straight =
     by_position bus original Holds IsOutside naming target source place related.words left right (place left.regs.rip) beside
-    (stands left.regs.rip) related.at related.holds straight.regs straight.leads
-    (straight.outside related.words right.meaning related.holds)
+    (stands left.regs.rip) related.at related.holds straight.regs straight.stays.leads
+    (straight.stays.outside related.words right.meaning related.holds)
