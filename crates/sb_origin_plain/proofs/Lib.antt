@@ -3,3 +3,5 @@ pub mod Seen
 pub mod Shared
 pub mod Scratch
 pub mod Plain
+pub mod Bytes
+pub mod Runs

@@ -34,7 +34,8 @@ held_after thread view words state other after leaves beside =
     subst (λ (s : State). HoldsBeside thread view words s other) (sym leaves.is)
     (leaves.has, given_beside thread view state other leaves.bytes beside)
 
-loaded_word : (thread view : ℕ) (which : ScratchWord) (words : Words) (state other : State) → HoldsBeside thread view words state other
+loaded_word : (thread view : ℕ) (which : ScratchWord) (words : Words) (state other : State)
+    → HoldsBeside thread view words state other
     → loaded_from (byte_for (plain_byte thread view state) Read) (place_of which) 8 ≡ Ok (word_of which words)
 loaded_word thread view which words state other (has, beside) =
     let fits = offset_fits which in
@@ -52,13 +53,16 @@ permitted_word thread view which words state other (has, beside) =
 
 stored_word : (thread view : ℕ) (which : ScratchWord) (words : Words) (state other : State) (value : ℕ)
     → HoldsBeside thread view words state other
-    → HoldsBeside thread view (with_word which (value % 2 ^ 64) words) (plain_stored thread view state (place_of which) 8 value) other
+    → HoldsBeside thread view (with_word which (value % 2 ^ 64) words)
+    (plain_stored thread view state (place_of which) 8 value) other
 stored_word thread view which words state other value (has, beside) =
     let fits = offset_fits which in
-    subst (λ (n : ℕ). HoldsBeside thread view (with_word which (value % 2 ^ 64) words) (plain_stored thread view state n 8 value) other)
+    subst (λ (n : ℕ). HoldsBeside thread view (with_word which (value % 2 ^ 64) words) (plain_stored thread view state n 8
+    value) other)
     (sym (place_is which))
     (held_after thread view (with_word which (value % 2 ^ 64) words) state other _
-    (leaves_words thread view words (with_word which (value % 2 ^ 64) words) state (offset_of which) 8 value has (omega arith) fits
+    (leaves_words thread view words (with_word which (value % 2 ^ 64) words) state (offset_of which) 8 value has (omega arith)
+    fits
     (word_put which has.page.bytes value has.size ∙ ap (λ (w : Words). with_word which (value % 2 ^ 64) w) has.held)) beside)
 
 pub has_words : (thread view : ℕ) → HasWords (plain thread view) (HoldsBeside thread view)
@@ -155,7 +159,8 @@ scratch_by false thread view number index state other is same =
     let no : true ≡ false =
     sym (ap (λ n. same_name n (Scratch thread view)) equal ∙ own_name thread view) ∙ is in cc))
 
-pub differ_beside : (thread view : ℕ) (state other : State) → SameButScratch thread view state other → AreBesideScratch state other
+pub differ_beside : (thread view : ℕ) (state other : State) → SameButScratch thread view state other
+    → AreBesideScratch state other
 differ_beside thread view state other same = record {
   shown = same.shown;
   pages = λ name shared. same.pages name (λ is. not_scratch name thread view shared is);

@@ -53,7 +53,8 @@ reached thread view words state how offset has permitted inside =
 
 pub loaded_at : (thread view : ℕ) (words : Words) (state : State) (offset size : ℕ) → (has : HasScratch thread view words state)
     → offset < 4096 → offset + size ≤ 4096
-    → loaded_from (byte_for (plain_byte thread view state) Read) (address_at offset) size ≡ Ok (number_at has.page.bytes offset size)
+    → loaded_from (byte_for (plain_byte thread view state) Read) (address_at offset) size
+    ≡ Ok (number_at has.page.bytes offset size)
 loaded_at thread view words state offset size has inside fits =
     let place : address_at offset % 4096 ≡ offset = omega arith in
     number_in_page thread view state (address_at offset) size Read (Scratch thread view) has.page (omega arith) (omega arith)
@@ -86,7 +87,8 @@ stored_at thread view words state offset size value has inside fits =
     let place : address_at offset % 4096 ≡ offset = omega arith in
     number_stored thread view state (address_at offset) size value (Scratch thread view) has.page (omega arith) (omega arith)
     (reached thread view words state Write offset has refl inside) has.there
-    ∙ (ap (λ (n : ℕ). with_scratch thread view state (put_number (bytes_of (find_page state.pages (Scratch thread view))) n size value))
+    ∙ (ap (λ (n : ℕ). with_scratch thread view state (put_number (bytes_of (find_page state.pages (Scratch thread view))) n
+    size value))
     place
     ∙ ap (λ found. with_scratch thread view state (put_number (bytes_of found) offset size value)) has.there)
 
@@ -97,18 +99,21 @@ unfolding with_contents
 given_found thread view state page bytes there =
     found_same state.pages (Scratch thread view) bytes ∙ ap (λ found. option_map (with_bytes bytes) found) there
 
-pub given_other : (thread view : ℕ) (state : State) (bytes : List ℕ) (name : PageName) → same_name (Scratch thread view) name ≡ false
+pub given_other : (thread view : ℕ) (state : State) (bytes : List ℕ) (name : PageName)
+    → same_name (Scratch thread view) name ≡ false
     → find_page (with_scratch thread view state bytes).pages name ≡ find_page state.pages name
 unfolding with_contents
 given_other thread view state bytes name apart = found_other state.pages (Scratch thread view) name bytes apart
 
-pub given_threads : (thread view : ℕ) (state : State) (bytes : List ℕ) → (with_scratch thread view state bytes).threads ≡ state.threads
+pub given_threads : (thread view : ℕ) (state : State) (bytes : List ℕ) → (with_scratch thread view state bytes).threads
+    ≡ state.threads
 unfolding with_contents
 given_threads thread view state bytes = refl
 
 -- with other bytes in it the scratch page holds their words
 has_given : (thread view : ℕ) (words new : Words) (state : State) (bytes : List ℕ) → HasScratch thread view words state
-    → length bytes ≡ 4096 → AreBytes bytes → words_in bytes ≡ new → HasScratch thread view new (with_scratch thread view state bytes)
+    → length bytes ≡ 4096 → AreBytes bytes → words_in bytes ≡ new
+    → HasScratch thread view new (with_scratch thread view state bytes)
 has_given thread view words new state bytes has size are held = record {
   process = has.process;
   shown = ap (λ threads. process_shown threads thread view) (given_threads thread view state bytes) ∙ has.shown;

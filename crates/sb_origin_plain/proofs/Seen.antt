@@ -181,10 +181,12 @@ no_data : (state : State) (found : Option SeenPage) (address : ℕ) (how : Acces
 no_data state None address how is_data none = refl
 no_data state (Some page) address access.Fetch is_data none = absurd is_data
 no_data state (Some page) address access.Read is_data none =
-    ap (λ (m : Mode). if permits m access.Read then Ok (byte_in state page.name (address % 4096)) else Err (fault_at Memory address))
+    ap (λ (m : Mode). if permits m access.Read then Ok (byte_in state page.name (address % 4096)) else Err (fault_at Memory
+    address))
     none
 no_data state (Some page) address access.Write is_data none =
-    ap (λ (m : Mode). if permits m access.Write then Ok (byte_in state page.name (address % 4096)) else Err (fault_at Memory address))
+    ap (λ (m : Mode). if permits m access.Write then Ok (byte_in state page.name (address % 4096)) else Err (fault_at Memory
+    address))
     none
 
 pub same_in : (state other : State) (name : PageName) (offset : ℕ) → find_page other.pages name ≡ find_page state.pages name

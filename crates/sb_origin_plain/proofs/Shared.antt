@@ -41,7 +41,8 @@ outside_next address size outside index below at =
     outside (suc index) (omega arith) (ap (λ (n : ℕ). n / 4096) same ∙ at)
 
 -- bytes that are the same outside the scratch page agree there
-pub agree_outside : (left right : ℕ → Result ℕ BusStop) → ((address : ℕ) → address / 4096 ≢ 0x70004 → right address ≡ left address)
+pub agree_outside : (left right : ℕ → Result ℕ BusStop) →
+    ((address : ℕ) → address / 4096 ≢ 0x70004 → right address ≡ left address)
     → (address size : ℕ) → IsOutside address size → AgreeFrom same_stop left right address size
 unfolding AgreeFrom
 agree_outside left right same address zero outside = tt

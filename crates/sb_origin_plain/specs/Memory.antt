@@ -10,6 +10,7 @@ use Rattle.sb_pages.specs.PageWords.{number_at}
 use Rattle.sb_state.specs.State.{State, find_page, contents}
 use Rattle.sb_state.specs.Windows.{process_shown}
 use Rattle.sb_trace.specs.Table.{is_there}
+use Rattle.sb_trace.specs.Sound.{is_code_name}
 use Rattle.sb_trace.specs.Changes.{AreBytes}
 use Rattle.sb_original.specs.Words.{Words}
 
@@ -61,6 +62,13 @@ pub record AreBesideScratch (state other : State) : Type 0 where
 -- the memory of a thread in a view holds these words in its scratch page, and is the other one beside scratch pages
 abbrev pub HoldsBeside : ℕ → ℕ → Words → State → State → Type 0
 HoldsBeside thread view words state other = HasScratch thread view words state × AreBesideScratch state other
+
+-- ---- bytes
+
+-- what stands in each page that can be loaded is a byte
+abbrev pub HaveBytes : State → Type 0
+HaveBytes state =
+    (name : PageName) (page : Page) → is_code_name name ≡ false → find_page state.pages name ≡ Some page → AreBytes page.bytes
 
 -- ---- accesses
 

@@ -3,4 +3,6 @@
 
 mod laws;
 
-pub use laws::{plain_beside, plain_words, scratch_differs, sound_holds};
+pub use laws::{
+    plain_beside, plain_bytes, plain_runs, plain_words, scratch_differs, sound_holds, sound_related,
+};

@@ -76,7 +76,9 @@ accesses_at bus Holds (AtOnce slot) state regs is = tt
 
 -- ---- positions
 
-open_at : {M A N : Type 0} (bus : Interface M A) (Holds : Words → M → N → Type 0) (at : Position) (state : Slotted) (regs : Regs)
+-- at an open position the registers are the original ones
+pub open_at : {M A N : Type 0} (bus : Interface M A) (Holds : Words → M → N → Type 0) (at : Position) (state : Slotted)
+    (regs : Regs)
     → is_open at ≡ true → regs ≡ state.regs → IsAt bus Holds at state regs
 open_at bus Holds Same state regs e is = is
 open_at bus Holds Changed state regs e is = is
