@@ -1,0 +1,4 @@
+pub mod ValidPieces
+pub mod ValidMains
+pub mod ValidConstants
+pub mod ValidForms
