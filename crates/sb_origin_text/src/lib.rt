@@ -3,4 +3,4 @@
 
 mod laws;
 
-pub use laws::replacements_valid;
+pub use laws::{replacements_valid, text_is_made};
