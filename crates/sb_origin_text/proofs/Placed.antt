@@ -102,7 +102,7 @@ pub record IsOne (target source : Code) (place : ℕ → Position) (insn : Insn)
   pub post : HasPost form
   pub original : source at ≡ Some (λ regs. original_row insn regs)
   pub text : HasBytes row_of at
-  (text_bytes_by (bytes_of form) (record { insn = insn; at = at; slot = slot; form = bytes_of form })
+      (text_bytes_by (bytes_of form) (record { insn = insn; at = at; slot = slot; form = bytes_of form })
       ++ text_rest) target
   pub area : HasBytes row_of slot (slot_bytes (bytes_of form) ++ area_rest) target
   pub end : slot + slot_size form ≤ area_end
