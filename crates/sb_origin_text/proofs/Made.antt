@@ -1,8 +1,8 @@
 -- What the rewriter made of a text is made of the original code.
-use Rattle.std.proofs.Common.{◌≡◌, ◌∙◌, sym, ap, subst, inl, inr, ℕ, ◌+◌, ◌*◌, ◌<◌, ◌≤◌, Bool, true, false, List, [], ◌∷◌, length, refl, arith, length-append, Ok}
-use Rattle.std.specs.Prelude.{◌&&◌, nat_le, nat_lt, if◌then◌else◌}
+use Rattle.std.proofs.Common.{◌≡◌, ◌∙◌, ap, subst, ℕ, ◌+◌, ◌<◌, ◌≤◌, Bool, true, false, List, [], ◌∷◌, length, arith, length-append}
+use Rattle.std.specs.Prelude.{nat_le, nat_lt, if◌then◌else◌}
 use Rattle.std.specs.List.{AllByRecursion, Contains}
-use Rattle.std.proofs.lemmas.Bool.{cond-true, cond-false, cond_both, lt-ltb, le-leb, and_from, and_left, and_right, lt-leb}
+use Rattle.std.proofs.lemmas.Bool.{cond-true, cond-false, cond_both, lt-ltb, le-leb, and_from, and_left, lt-leb}
 use Rattle.sb_insn.specs.declared.insn.Insn.{Insn}
 use Rattle.sb_insn.specs.Spelling.{spelling}
 use Rattle.sb_decode.proofs.Exact.{some_spelling}
@@ -12,15 +12,15 @@ use Rattle.sb_forms.specs.Answers.{area_end}
 use Rattle.sb_forms.specs.Places.{HasForm}
 use Rattle.sb_forms.specs.Table.{spelled_bytes}
 use Rattle.sb_forms.proofs.Where.{not_in_jumps}
-use Rattle.sb_rewrite.specs.Listing.{text_address, AllValid, starts_from}
-use Rattle.sb_rewrite.specs.Placing.{Placement, area_address, place, places_from, places}
-use Rattle.sb_rewrite.specs.RewrittenText.{RewrittenText, rewritten_text, starts_of}
-use Rattle.sb_rewrite.specs.Rewriting.{ArePlaces, FitsArea, NoneOf, HasBadTarget, Rewrites}
+use Rattle.sb_rewrite.specs.Listing.{text_address, AllValid}
+use Rattle.sb_rewrite.specs.Placing.{Placement, area_address, places_from, places}
+use Rattle.sb_rewrite.specs.RewrittenText.{rewritten_text, starts_of}
+use Rattle.sb_rewrite.specs.Rewriting.{FitsArea, NoneOf, HasBadTarget}
 use Rattle.sb_rewrite.proofs.Jumps.{AreInText, jump_free, starts_within}
 use Rattle.sb_rewrite.proofs.Placed.{starts_placed}
 use Rattle.sb_origin_run.specs.Machine.{Code}
 use Rattle.sb_origin_run.specs.Position.{Position, Same}
-use Rattle.sb_origin_run.specs.Text.{IsPlaced, IsMadeOf}
+use Rattle.sb_origin_run.specs.Text.{IsPlaced}
 use Rattle.sb_origin_text.specs.Positions.{is_in_text, is_in_area, text_position, area_position, position}
 use Rattle.sb_origin_text.specs.Codes.{AreCodes, IsListed, TextIsMade, RewritingListed}
 use Rattle.sb_origin_text.proofs.Texts.{AreAll, all_in_text, all_in_area}

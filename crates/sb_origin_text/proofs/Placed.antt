@@ -1,9 +1,9 @@
 -- Each address of a rewritten text and of its area lies where its position says.
-use Rattle.std.proofs.Common.{◌≡◌, ◌≢◌, ◌∙◌, ◌⊎◌, sym, ap, subst, inl, inr, ℕ, ◌+◌, ◌-◌, ◌*◌, ◌%◌, ◌^◌, ◌<◌, ◌≤◌, Bool, true, false, List, [], ◌∷◌, ◌++◌, length, replicate, Some, refl, arith, append_assoc, length-append, Ok}
-use Rattle.std.specs.Prelude.{not, ◌==◌, ◌&&◌, nat_le, nat_lt, flat_map, if◌then◌else◌}
+use Rattle.std.proofs.Common.{◌≡◌, ◌∙◌, sym, ap, subst, ℕ, ◌+◌, ◌-◌, ◌<◌, ◌≤◌, Bool, false, List, [], ◌∷◌, ◌++◌, length, replicate, Some, refl, arith, append_assoc, length-append}
+use Rattle.std.specs.Prelude.{not, if◌then◌else◌}
 use Rattle.std.proofs.Math.Path.{fun_ext}
 use Rattle.std.proofs.lemmas.List.{append-nil}
-use Rattle.std.proofs.lemmas.Bool.{cond-true, cond-false, cond_both, eq-eqb, ne_eqb, cases_eq, cases_lt, lt-ltb, le-ltb, le-leb, and_from, and_left, and_right, lt-leb}
+use Rattle.std.proofs.lemmas.Bool.{cond-false, cond_both}
 use Rattle.sb_insn.specs.declared.insn.Insn.{Insn}
 use Rattle.sb_insn.specs.declared.registers.Regs.{Regs}
 use Rattle.sb_insn.specs.Spelling.{spelling}
@@ -16,26 +16,22 @@ use Rattle.sb_forms.specs.Registers.{first_helper, second_helper}
 use Rattle.sb_forms.specs.Mains.{behind_main}
 use Rattle.sb_forms.specs.Pieces.{first_saved, second_saved, restore, jump_insn}
 use Rattle.sb_forms.specs.Places.{HasForm}
-use Rattle.sb_forms.specs.Table.{Replacement, Keep, InPlace, Moved, Unmovable, spelled_bytes, is_vmfunc, replacement, bytes_of, site_of, form_of, move_outcome, jump_form, wide_constant_form, address_and_constant_form, address_form, constant_form, held_form, completes_pattern, nop, add_from_rm}
+use Rattle.sb_forms.specs.Table.{Replacement, Keep, InPlace, Moved, Unmovable, spelled_bytes, is_vmfunc, replacement, bytes_of, site_of, jump_form, wide_constant_form, address_and_constant_form, address_form, constant_form, held_form, completes_pattern, nop, add_from_rm}
 use Rattle.sb_forms.specs.Holding.{holds_pattern}
 use Rattle.sb_forms.proofs.ByTable.{TableCases, by_table}
-use Rattle.sb_forms.proofs.Room.{form_roomy}
-use Rattle.sb_forms.proofs.Small.{jump_5}
 use Rattle.sb_decode.proofs.Exact.{some_spelling}
-use Rattle.sb_rewrite.specs.Listing.{text_address, AllValid}
-use Rattle.sb_rewrite.specs.Placing.{Placement, area_address, slot_bytes, is_after_0f, places_from}
-use Rattle.sb_rewrite.specs.RewrittenText.{text_bytes, text_bytes_by, area_bytes}
+use Rattle.sb_rewrite.specs.Placing.{slot_bytes}
+use Rattle.sb_rewrite.specs.RewrittenText.{text_bytes_by}
 use Rattle.sb_original.specs.Going.{passing_row, original_row}
 use Rattle.sb_origin_run.specs.Machine.{Code}
-use Rattle.sb_origin_run.specs.Position.{Slot, Position, Same, Changed, Entry, AtOnce, InPre, AtMain, InPost, Nowhere, in_pre, HasNext, behind}
-use Rattle.sb_origin_run.specs.Text.{has_row, IsReplaced, IsPlaced}
+use Rattle.sb_origin_run.specs.Position.{Position, Same, Changed, Entry, AtOnce, Nowhere, HasNext, behind}
+use Rattle.sb_origin_run.specs.Text.{IsReplaced, IsPlaced}
 use Rattle.sb_origin_text.specs.Valid.{AreValid}
-use Rattle.sb_origin_text.specs.Positions.{slot_of, post_position, pre_position, in_place, in_slot, replacement_at, slot_size, text_position, area_position}
+use Rattle.sb_origin_text.specs.Positions.{slot_of, post_position, in_place, in_slot, slot_size}
 use Rattle.sb_origin_text.specs.Codes.{HasBytes}
 use Rattle.sb_origin_text.proofs.ValidPieces.{jump_valid}
-use Rattle.sb_origin_text.proofs.ValidForms.{replacements_valid}
 use Rattle.sb_origin_text.proofs.Spelled.{first_code, code_behind}
-use Rattle.sb_origin_text.proofs.Slots.{here, elsewhere, by_address, behind_is, AgreesPost, post_first, post_placed, slot_bytes_from, AgreesPre, pre_first, HasLast, main_next, IsSlot, pre_placed}
+use Rattle.sb_origin_text.proofs.Slots.{elsewhere, by_address, behind_is, AgreesPost, post_first, post_placed, pre_first, HasLast, pre_placed}
 
 -- ---- what the table gives
 
@@ -109,7 +105,7 @@ pub record IsOne (target source : Code) (place : ℕ → Position) (insn : Insn)
   pub in_text : (address : ℕ) → at ≤ address → address < at + length (spelling insn)
       → place address ≡ in_place form insn at slot address
   pub in_area : (address : ℕ) → slot ≤ address → address < slot + slot_size form → place address
-  ≡ in_slot form insn at slot address
+      ≡ in_slot form insn at slot address
 
 abbrev replaced : (target source : Code) (place : ℕ → Position) (insn : Insn) (at slot : ℕ) (after_0f : Bool) (form : Replacement)
     (text_rest area_rest : List ℕ) → IsOne target source place insn at slot after_0f form text_rest area_rest

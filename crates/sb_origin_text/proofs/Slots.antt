@@ -1,7 +1,7 @@
 -- The addresses of a slot: what the rewritten code has there, and where the next instruction lies.
-use Rattle.std.proofs.Common.{◌≡◌, ◌≢◌, ◌∙◌, ◌⊎◌, sym, ap, subst, inl, inr, ℕ, ◌+◌, ◌%◌, ◌^◌, ◌<◌, ◌≤◌, Bool, true, false, List, [], ◌∷◌, ◌++◌, length, Some, refl, arith, append_assoc, length-append}
+use Rattle.std.proofs.Common.{◌≡◌, ◌∙◌, sym, ap, subst, inl, inr, ℕ, ◌+◌, ◌^◌, ◌<◌, ◌≤◌, List, [], ◌∷◌, ◌++◌, length, Some, refl, arith, append_assoc, length-append}
 use Rattle.std.specs.Prelude.{◌==◌, if◌then◌else◌}
-use Rattle.std.proofs.lemmas.Bool.{cond-true, cond-false, eq-eqb, ne_eqb, eqb-true, cases_eq}
+use Rattle.std.proofs.lemmas.Bool.{cond-true, cond-false, eq-eqb, ne_eqb, cases_eq}
 use Rattle.sb_insn.specs.declared.insn.Insn.{Insn}
 use Rattle.sb_insn.specs.Spelling.{spelling}
 use Rattle.sb_insn.specs.Grammar.{IsValid}
@@ -10,8 +10,8 @@ use Rattle.sb_forms.specs.Table.{spelled_bytes}
 use Rattle.sb_decode.proofs.Exact.{some_spelling}
 use Rattle.sb_rewrite.specs.Listing.{AllValid}
 use Rattle.sb_origin_run.specs.Machine.{Code}
-use Rattle.sb_origin_run.specs.Position.{Slot, Position, Same, Changed, Entry, AtOnce, InPre, AtMain, InPost, Nowhere, in_pre, IsNext, HasNext, behind}
-use Rattle.sb_origin_run.specs.Text.{has_row, IsPlaced}
+use Rattle.sb_origin_run.specs.Position.{Slot, Position, InPre, AtMain, InPost, in_pre, IsNext, HasNext, behind}
+use Rattle.sb_origin_run.specs.Text.{IsPlaced}
 use Rattle.sb_origin_text.specs.Positions.{post_position, pre_position}
 use Rattle.sb_origin_text.specs.Codes.{HasBytes}
 use Rattle.sb_origin_text.proofs.Spelled.{first_code, code_behind}

@@ -1,12 +1,11 @@
 -- Codes that have what bytes spell, where the bytes are of several parts.
-use Rattle.std.proofs.Common.{◌≡◌, ◌∙◌, sym, ap, subst, ℕ, ◌+◌, ◌<◌, ◌≤◌, List, [], ◌∷◌, ◌++◌, length, drop, Some, refl, arith, append_assoc, length-append}
+use Rattle.std.proofs.Common.{◌≡◌, ◌∙◌, sym, ap, subst, ℕ, ◌+◌, List, ◌++◌, length, drop, Some, refl, arith}
 use Rattle.std.proofs.Math.Seq.{drop-append-add}
 use Rattle.sb_insn.specs.declared.insn.Insn.{Insn}
 use Rattle.sb_insn.specs.declared.registers.Regs.{Regs}
 use Rattle.sb_insn.specs.Spelling.{spelling}
 use Rattle.sb_insn.specs.Grammar.{IsValid, BeginsWith}
 use Rattle.sb_exec.specs.Row.{Row}
-use Rattle.sb_forms.specs.Table.{spelled_bytes}
 use Rattle.sb_origin_run.specs.Machine.{Code}
 use Rattle.sb_origin_text.specs.Codes.{HasBytes}
 

@@ -1,11 +1,10 @@
 -- Each address of a rewritten text and of its area lies where its position says, instruction by instruction.
-use Rattle.std.proofs.Common.{◌≡◌, ◌∙◌, sym, ap, subst, ℕ, ◌+◌, ◌-◌, ◌*◌, ◌^◌, ◌<◌, ◌≤◌, Bool, true, false, List, [], ◌∷◌, ◌++◌, length, replicate, Some, refl, arith, append_assoc, length-append, Ok, inl, inr}
-use Rattle.std.specs.Prelude.{◌&&◌, nat_le, nat_lt, flat_map, if◌then◌else◌}
+use Rattle.std.proofs.Common.{◌≡◌, ◌∙◌, sym, ap, subst, ℕ, ◌+◌, ◌-◌, ◌<◌, ◌≤◌, List, [], ◌∷◌, length, replicate, refl, arith, length-append, inl, inr}
+use Rattle.std.specs.Prelude.{nat_lt, flat_map, if◌then◌else◌}
 use Rattle.std.specs.List.{AllByRecursion}
 use Rattle.std.proofs.lemmas.Bool.{cond-true, cond-false, cases_lt, lt-ltb, le-ltb}
 use Rattle.sb_insn.specs.declared.insn.Insn.{Insn}
 use Rattle.sb_insn.specs.Spelling.{spelling}
-use Rattle.sb_insn.specs.Grammar.{IsValid}
 use Rattle.sb_exec.specs.Rows.{row_of}
 use Rattle.sb_forms.specs.declared.answer.Form.{Form}
 use Rattle.sb_forms.specs.declared.answer.Form.TheVariants as form
@@ -14,16 +13,15 @@ use Rattle.sb_forms.proofs.Small.{jump_5}
 use Rattle.std.proofs.lemmas.List.{length-replicate}
 use Rattle.sb_forms.specs.Answers.{IsSite, HasRoom, area_end}
 use Rattle.sb_forms.specs.Places.{HasForm}
-use Rattle.sb_forms.specs.Table.{Replacement, spelled_bytes, bytes_of, site_of, form_of}
+use Rattle.sb_forms.specs.Table.{spelled_bytes, bytes_of, site_of, form_of}
 use Rattle.sb_forms.proofs.Room.{form_roomy}
-use Rattle.sb_decode.proofs.Exact.{some_spelling}
 use Rattle.sb_rewrite.specs.Listing.{text_address, AllValid}
-use Rattle.sb_rewrite.specs.Placing.{Placement, area_address, slot_bytes, is_after_0f, places_from}
+use Rattle.sb_rewrite.specs.Placing.{slot_bytes, is_after_0f, places_from}
 use Rattle.sb_rewrite.specs.RewrittenText.{text_bytes, text_bytes_by, area_bytes}
 use Rattle.sb_rewrite.specs.Rewriting.{NoneOf, EndsBehindArea}
 use Rattle.sb_original.specs.Going.{original_row}
 use Rattle.sb_origin_run.specs.Machine.{Code}
-use Rattle.sb_origin_run.specs.Position.{Position, Nowhere}
+use Rattle.sb_origin_run.specs.Position.{Position}
 use Rattle.sb_origin_run.specs.Text.{IsPlaced}
 use Rattle.sb_origin_text.specs.Positions.{in_place, in_slot, replacement_at, slot_size, text_position, area_position}
 use Rattle.sb_origin_text.specs.Codes.{HasBytes}
