@@ -6,12 +6,15 @@ use Rattle.sb_exec.specs.Interface.{Interface}
 use Rattle.sb_original.specs.Words.{Words, HasWords}
 use Rattle.sb_original.specs.Slot.{Slotted}
 use Rattle.sb_original.specs.Beside.{AreBeside}
+use Rattle.sb_exec.specs.Words.{AreWords}
+use Rattle.sb_original.specs.Original.{IsRegs}
 use Rattle.sb_origin_run.specs.Machine.{Code, Thread, step, run}
 use Rattle.sb_origin_run.specs.Position.{Position, is_extra, original_at, original_lines, Stands}
 use Rattle.sb_origin_run.specs.Text.{IsMadeOf}
 use Rattle.sb_origin_run.specs.Served.{State, System, served_lines, original_served, served_entries, StatesRelated, ServesAlike, ServedStraight, ServedAlike}
 use Rattle.sb_origin_run.specs.Many.{Threads, threads_run, threads_lines, entries, HoldsOf, beside_words, ThreadsRelated, ThreadsStraight, ThreadsAlike}
-use Rattle.sb_origin_run.specs.Related.{IsAt, AccessesAt, Related, IsStraight, AreStraight, StepAlike, RunAlike}
+use Rattle.sb_origin_run.specs.Related.{IsAt, AccessesAt, Related, IsStraight, AreStraight, AreNotStray, StepAlike, RunAlike}
+use Rattle.sb_origin_run.specs.Registers.{AreInstructions, KeepsBytes, IsOfWords}
 
 -- the original registers of a thread are a function of its registers and its words
 abbrev pub OriginalState : {M A N : Type 0} → Interface M A → (Words → M → N → Type 0) → Type 0
@@ -41,6 +44,28 @@ RunsAlike {M} {A} {N} {B} bus original Holds IsOutside naming target source plac
     → AreStraight bus Holds IsOutside target source place count left
     → RunAlike bus Holds naming place (run bus target count left)
     (run original source (length (original_lines place naming (run bus target count left).lines)) right)
+
+-- ---- registers
+
+-- words are registers of a machine
+abbrev pub WordsAreRegs : Type 0
+WordsAreRegs = (regs : Regs) → AreWords regs → IsRegs regs
+
+-- a step leaves words
+abbrev pub StepsKeepWords : {M A : Type 0} → Interface M A → (M → Type 0) → Code → Type 0
+StepsKeepWords {M} {A} bus HasBytes target =
+    KeepsBytes bus HasBytes → AreInstructions target → (left : Thread M A) → IsOfWords HasBytes left
+    → IsOfWords HasBytes (step bus target left).thread
+
+-- so a run that begins with words needs no more than that no step is stray
+abbrev pub WordsRunStraight : {M A N : Type 0} → Interface M A → (Words → M → N → Type 0) → (ℕ → ℕ → Type 0) → (M → Type 0)
+    → Code → Code → (ℕ → Position) → Type 0
+WordsRunStraight {M} {A} bus Holds IsOutside HasBytes target source place =
+    KeepsBytes bus HasBytes → AreInstructions target → (count : ℕ) (left : Thread M A) → IsOfWords HasBytes left
+    → AreNotStray bus Holds IsOutside target source place count left
+    → AreStraight bus Holds IsOutside target source place count left
+
+-- ---- several threads
 
 -- a run of several threads, each with its own words
 abbrev pub ThreadsRunAlike : {M A N B : Type 0} → (ℕ → Interface M A) → (ℕ → Interface N B) → ((ℕ → Words) → M → N → Type 0)

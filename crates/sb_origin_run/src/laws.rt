@@ -1,6 +1,6 @@
 //! Laws of steps and runs, as functions with nothing to run.
 
-ghost use Rattle.sb_origin_run.specs.Laws.{OriginalState, SlotAccesses, StepsAlike, RunsAlike, ThreadsRunAlike, TextStands, RewrittenRuns, RewrittenThreadsRun, RewrittenSystemRuns};
+ghost use Rattle.sb_origin_run.specs.Laws.{OriginalState, SlotAccesses, StepsAlike, RunsAlike, WordsAreRegs, StepsKeepWords, WordsRunStraight, ThreadsRunAlike, TextStands, RewrittenRuns, RewrittenThreadsRun, RewrittenSystemRuns};
 
 /// Rewritten code on one memory, and the original code on another. It has no values: a type stands for them.
 pub trait Codes {
@@ -38,6 +38,9 @@ pub trait Codes {
 
     /// Where each address lies in the rewritten code.
     ghost place: { ℕ → Position };
+
+    /// Loads from the memory give bytes.
+    ghost has_bytes: { Meaning → Type 0 };
 }
 
 /// The original registers of a thread are a function of its registers and its words.
@@ -58,6 +61,14 @@ pub fn steps_alike<R: Codes>()
 /// The lines of a run without stray steps are, without the extra ones, those of the original code.
 pub fn runs_alike<R: Codes>()
     ensures { RunsAlike R.bus R.original R.holds R.outside R.naming R.target R.source R.place }
+{}
+
+/// Registers of 64 bits are those of a machine. A step leaves them so where the code has instructions and the memory gives
+/// bytes, and a run that begins with them needs no more than that no step is stray.
+pub fn registers_stay<R: Codes>()
+    ensures words { WordsAreRegs }
+    ensures steps { StepsKeepWords R.bus R.has_bytes R.target }
+    ensures runs { WordsRunStraight R.bus R.holds R.outside R.has_bytes R.target R.source R.place }
 {}
 
 /// The same of several threads, for each of which the codes and the memory are so.
