@@ -1,7 +1,7 @@
 -- A call of a core's bus over two memories that agree: the same answer, the same account, and they agree again.
-use Rattle.std.proofs.Common.{◌≡◌, ap, sym, subst, ◌∙◌, ℕ, zero, suc, ◌+◌, ◌/◌, ◌%◌, ◌^◌, ◌==◌, ◌&&◌, ◌<◌, Bool, true, false, List, [], ◌∷◌, refl, arith}
+use Rattle.std.proofs.Common.{◌≡◌, ap, sym, subst, ◌∙◌, ℕ, zero, suc, ◌+◌, ◌/◌, ◌%◌, ◌^◌, ◌==◌, ◌<◌, Bool, true, false, List, [], ◌∷◌, refl, arith}
 use Rattle.std.specs.Prelude.{Result, Ok, Err, if◌then◌else◌}
-use Rattle.std.proofs.lemmas.Bool.Decides.{nat_tests}
+use Rattle.std.proofs.lemmas.Bool.{and_parts, eqb-true}
 use Rattle.sb_memory.specs.Physical.{Physical, has_frame, frame_of}
 use Rattle.sb_memory.specs.Accounts.{PhysCall, ReadByte, ReadWord, WriteByte, WriteWord, word_calls, account_after_reads}
 use Rattle.sb_memory.specs.Reading.{byte_written, word_written}
@@ -16,7 +16,7 @@ use Rattle.sb_bus.specs.declared.stop.BusStop.{BusStop}
 use Rattle.sb_bus.specs.Access.{bytes_from, loaded_from, byte_for, byte_for_write}
 use Rattle.sb_bus.specs.Interface.{BusCall, FetchByte, LoadBytes, LoadForWrite, StoreBytes}
 use Rattle.sb_nested.specs.View.{View, view, place_of, walk_calls, view_byte, byte_calls, calls_from, walk_place}
-use Rattle.sb_nested.specs.Store.{store_place, load_calls, look_calls, put_value, after_writes, put_answer, after_answer, put_word_at, after_word, is_whole, memory_stored, store_rule, view_rule}
+use Rattle.sb_nested.specs.Store.{store_place, load_calls, look_calls, after_bytes_stored, after_word_stored, bytes_stored, word_stored, put_value, after_writes, after_answer, after_word, is_whole, memory_stored, store_rule, view_rule}
 use Rattle.sb_nested.proofs.Writing.{loaded_for_write}
 use Rattle.sb_nested.proofs.WholeWord.{led_offset}
 use Rattle.sb_agree.specs.Noted.{Noted, word_of, read_noted, noted_rule}
@@ -29,27 +29,33 @@ use Rattle.sb_agree.proofs.Agreeing.{byte_kept, word_kept, byte_put, word_held, 
 
 -- ---- the calls of walks and bytes read
 
+-- words are read
 words_read : (places : List ℕ) → Each IsRead (word_calls places)
 words_read [] = tt
 words_read (place ∷ places) = (tt, words_read places)
 
+-- a walk only reads
 pub walk_read : (core : View) (access : Access) (at : ℕ) → Each IsRead (walk_calls core access at)
 unfolding walk_calls
 walk_read core access at = words_read (translation_reads (memory_behind core.physical core.eptp) core.cr3 at access)
 
+-- the byte behind it is read
 one_read : (answer : Result PhysAddr NestedStop) → Each IsRead (where_ok answer (λ place. ReadByte place.0 ∷ []))
 one_read (Ok place) = (tt, tt)
 one_read (Err e) = tt
 
+-- the calls for a byte only read
 pub byte_read_only : (core : View) (access : Access) (at : ℕ) → Each IsRead (byte_calls core access at)
 unfolding byte_calls
 byte_read_only core access at = each_joined IsRead _ _ (walk_read core access at) (one_read (place_of core access at))
 
+-- the calls behind an answer
 where_read : {A : Type 0} (answer : Result A BusStop) (calls : List PhysCall) → Each IsRead calls
     → Each IsRead (where_ok answer (λ _. calls))
 where_read (Ok a) calls are = are
 where_read (Err e) calls are = tt
 
+-- calls for bytes one after another only read, where those for each byte do
 pub from_read : {A : Type 0} (calls : ℕ → List PhysCall) (answer : ℕ → Result A BusStop) → ((at : ℕ) → Each IsRead (calls at))
     → (at count : ℕ) → Each IsRead (calls_from calls answer at count)
 unfolding calls_from
@@ -57,11 +63,13 @@ from_read calls answer are at zero = tt
 from_read calls answer are at (suc count) =
     each_joined IsRead _ _ (are at) (where_read (answer at) _ (from_read calls answer are ((at + 1) % 2 ^ 64) count))
 
+-- a load only reads
 pub loads_read : (core : View) (access : Access) (at size : ℕ) → Each IsRead (load_calls core access at size)
 unfolding load_calls
 loads_read core access at size =
     from_read (byte_calls core access) (byte_for (view_byte core) access) (byte_read_only core access) at size
 
+-- looking up bytes only reads
 pub looks_read : (core : View) (at size : ℕ) → Each IsRead (look_calls core at size)
 unfolding look_calls
 looks_read core at size = from_read (walk_calls core Write) (walk_place core Write) (walk_read core Write) at size
@@ -75,28 +83,35 @@ ok_no_gap (Err s) value e = cc
 
 module _ (all : List ℕ) (start : Physical) (eptp cr3 : ℕ) (memory changed : Physical) (account : Noted)
     (agree : Agrees all start account.writes memory changed) where
+  -- what a core sees over the one memory
   abbrev old : View
   old = view memory eptp cr3
 
+  -- and over the other
   abbrev new : View
   new = view changed eptp cr3
 
+  -- what a call reads is the same in both
   abbrev Held : PhysCall → Type 0
   Held = HeldCall memory changed agree.frames eptp cr3
 
+  -- the frame of a call is there
   abbrev Here : PhysCall → Type 0
   Here = ThereCall memory changed agree.frames eptp cr3
 
+  -- a known word or byte that a call reads is the same in both
   call_held : (call : PhysCall) → KnownCall all memory account.writes call → Held call
   call_held (ReadByte place) is = byte_held all start account.writes memory changed agree place is
   call_held (ReadWord place) is = word_held all start account.writes memory changed agree place is
   call_held (WriteByte place byte) is = tt
   call_held (WriteWord place word) is = tt
 
+  -- so is what calls read
   calls_held : (calls : List PhysCall) → Each (KnownCall all memory account.writes) calls → Each Held calls
   calls_held [] are = tt
   calls_held (call ∷ calls) are = (call_held call are.0, calls_held calls are.1)
 
+  -- what calls read is the same in both, where the account after them is covered
   pub held_by : (calls : List PhysCall) → Each IsRead calls
       → Covers all (account_after_reads noted_rule memory calls account).reads → Each Held calls
   held_by calls are covers = calls_held calls (after_known all memory calls account are covers)
@@ -107,6 +122,7 @@ module _ (all : List ℕ) (start : Physical) (eptp cr3 : ℕ) (memory changed : 
   account_same calls others e are =
       ap (λ c. account_after_reads noted_rule changed c account) e ∙ after_same all memory changed agree.there calls account are
 
+  -- a byte that is fetched
   pub fetch_alike : (at : ℕ) → Covers all (view_rule noted_rule (FetchByte at) old account).reads
       → NoGap bus_gap (view_byte old at Fetch)
       → (view_byte new at Fetch ≡ view_byte old at Fetch)
@@ -117,6 +133,7 @@ module _ (all : List ℕ) (start : Physical) (eptp cr3 : ℕ) (memory changed : 
       (held_by (byte_calls old Fetch at) (byte_read_only old Fetch at) covers) g in
       (same.byte.answer, account_same (byte_calls old Fetch at) (byte_calls new Fetch at) same.byte.reads same.byte.there)
 
+  -- a number that is loaded, for any access
   load_any : (access : Access) (at size : ℕ)
       → Covers all (account_after_reads noted_rule memory (load_calls old access at size) account).reads
       → NoGap bus_gap (loaded_from (byte_for (view_byte old) access) at size)
@@ -128,6 +145,7 @@ module _ (all : List ℕ) (start : Physical) (eptp cr3 : ℕ) (memory changed : 
       (held_by (load_calls old access at size) (loads_read old access at size) covers) g in
       (same.answer, account_same (load_calls old access at size) (load_calls new access at size) same.reads same.there)
 
+  -- a number that is loaded
   pub load_alike : (at size value : ℕ) → Covers all (view_rule noted_rule (LoadBytes at size) old account).reads
       → loaded_from (byte_for (view_byte old) Read) at size ≡ Ok value
       → (loaded_from (byte_for (view_byte new) Read) at size ≡ Ok value)
@@ -138,6 +156,7 @@ module _ (all : List ℕ) (start : Physical) (eptp cr3 : ℕ) (memory changed : 
       let both = load_any Read at size covers (ok_no_gap _ value e) in
       (both.0 ∙ e, both.1, after_writes_same all memory (load_calls old Read at size) account (loads_read old Read at size))
 
+  -- a number that is loaded to be written back
   pub load_for_write_alike : (at size value : ℕ) → Covers all (view_rule noted_rule (LoadForWrite at size) old account).reads
       → loaded_from (byte_for_write (view_byte old)) at size ≡ Ok value
       → (loaded_from (byte_for_write (view_byte new)) at size ≡ Ok value)
@@ -155,6 +174,7 @@ module _ (all : List ℕ) (start : Physical) (eptp cr3 : ℕ) (memory changed : 
 
 -- ---- bytes are put
 
+-- writing bytes keeps what was noted as read
 pub writes_more : (all : List ℕ) (memory : Physical) (places : List PhysAddr) (value : ℕ) (account : Noted)
     → Covers all (after_writes noted_rule memory places value account).reads → Covers all account.reads
 writes_more all memory [] value account covers = covers
@@ -163,6 +183,7 @@ writes_more all memory (place ∷ places) value account covers =
     (writes_more all (byte_written memory place.0 (value % 256)) places (value / 256)
     (noted_rule (WriteByte place.0 (value % 256)) memory account) covers)
 
+-- these places are in frames that are there
 abbrev AllHere : Physical → List PhysAddr → Type 0
 AllHere memory places = Each (λ place. has_frame memory (frame_of place.0) ≡ true) places
 
@@ -170,11 +191,11 @@ AllHere memory places = Each (λ place. has_frame memory (frame_of place.0) ≡ 
 byte_known : (all : List ℕ) (memory : Physical) (place byte : ℕ) (account : Noted) → has_frame memory (frame_of place) ≡ true
     → Covers all (noted_rule (WriteByte place byte) memory account).reads → is_known all account.writes (word_of place) ≡ true
 byte_known all memory place byte account there covers =
-    read_known all (word_of place) account
+    read_known all _ account
     (subst (λ (words : List ℕ). Covers all words)
-    (ap (λ (a : Noted). a.reads) (rule_there memory (WriteByte place byte) account there)
-    ∙ write_reads (word_of place) (read_noted (word_of place) account)) covers)
+    (ap (λ (a : Noted). a.reads) (rule_there memory (WriteByte place byte) account there) ∙ write_reads _ _) covers)
 
+-- a byte that is written into both
 byte_alike : (all : List ℕ) (start memory changed : Physical) (place byte : ℕ) (account : Noted)
     → has_frame memory (frame_of place) ≡ true → Agrees all start account.writes memory changed
     → Covers all (noted_rule (WriteByte place byte) memory account).reads
@@ -191,6 +212,7 @@ byte_alike all start memory changed place byte account there agree covers =
     (sym (rule_there memory (WriteByte place byte) account there))
     (byte_kept all start (read_noted (word_of place) account) memory changed before place there byte is)
 
+-- the bytes of a value that are written into both, one after another
 pub puts_alike : (all : List ℕ) (start memory changed : Physical) (places : List PhysAddr) (value : ℕ) (account : Noted)
     → AllHere memory places → Agrees all start account.writes memory changed
     → Covers all (after_writes noted_rule memory places value account).reads
@@ -214,6 +236,7 @@ puts_alike all start memory changed (place ∷ places) value account are agree c
 
 -- ---- a store
 
+-- a word that is written into both
 word_alike : (all : List ℕ) (start memory changed : Physical) (place word : ℕ) (account : Noted)
     → has_frame memory (frame_of place) ≡ true → place % 8 ≡ 0 → Agrees all start account.writes memory changed
     → Agrees all start (noted_rule (WriteWord place word) memory account).writes (word_written memory place word)
@@ -223,20 +246,15 @@ word_alike all start memory changed place word account there even agree =
     (sym (rule_there memory (WriteWord place word) account there))
     (word_kept all start account memory changed agree place there even word)
 
+-- an answer that is done is there
 pub done_ok : {A : Type 0} (answer : Result A BusStop) → done answer ≡ Ok tt → (value : A) × (answer ≡ Ok value)
 done_ok (Ok value) e = (value, refl)
 done_ok (Err s) e = cc
 
-both_true : (x y : Bool) → (x && y) ≡ true → (x ≡ true) × (y ≡ true)
-both_true true true e = (refl, refl)
-both_true true false e = cc
-both_true false y e = cc
-
-is_number : (a b : ℕ) → (a == b) ≡ true → a ≡ b
-is_number a b e = grind (arith, nat_tests)
-
+-- a whole word has 8 bytes and lies at a multiple of 8
 whole_size : (at size : ℕ) → is_whole at size ≡ true → (size ≡ 8) × (at % 8 ≡ 0)
-whole_size at size e = let both = both_true (size == 8) (at % 8 == 0) e in (is_number size 8 both.0, is_number (at % 8) 0 both.1)
+whole_size at size e =
+    let both = and_parts (size == 8) (at % 8 == 0) e in (eqb-true size 8 both.0, eqb-true (at % 8) 0 both.1)
 
 -- what a store leaves
 pub record SameStore (all : List ℕ) (start : Physical) (one two : Noted) (memory changed : Physical) : Type 0 where
@@ -246,23 +264,20 @@ pub record SameStore (all : List ℕ) (start : Physical) (one two : Noted) (memo
 module _ (all : List ℕ) (start : Physical) (eptp cr3 : ℕ) (memory changed : Physical) (account : Noted)
     (agree : Agrees all start account.writes memory changed) (at size value : ℕ)
     (places : List PhysAddr) (led : bytes_from (store_place (view memory eptp cr3)) at size ≡ Ok places) where
+  -- what a core sees over the one memory
   abbrev old_core : View
   old_core = view memory eptp cr3
 
+  -- and over the other
   abbrev new_core : View
   new_core = view changed eptp cr3
 
   -- bytes, one by one
-  apart_alike : Covers all
-      (after_answer noted_rule memory (bytes_from (store_place old_core) at size) value
-      (account_after_reads noted_rule memory (load_calls old_core Write at size) account)).reads
+  apart_alike : Covers all (after_bytes_stored noted_rule old_core at size value account).reads
       → (bytes_from (store_place new_core) at size ≡ Ok places)
-      × SameStore all start (after_answer noted_rule memory (bytes_from (store_place old_core) at size) value
-      (account_after_reads noted_rule memory (load_calls old_core Write at size) account))
-      (after_answer noted_rule changed (bytes_from (store_place new_core) at size) value
-      (account_after_reads noted_rule changed (load_calls new_core Write at size) account))
-      (put_answer memory (bytes_from (store_place old_core) at size) value)
-      (put_answer changed (bytes_from (store_place new_core) at size) value)
+      × SameStore all start (after_bytes_stored noted_rule old_core at size value account)
+      (after_bytes_stored noted_rule new_core at size value account) (bytes_stored old_core at size value)
+      (bytes_stored new_core at size value)
   apart_alike covers =
       let looked = account_after_reads noted_rule memory (load_calls old_core Write at size) account in
       let covers' : Covers all (after_writes noted_rule memory places value looked).reads =
@@ -290,6 +305,7 @@ module _ (all : List ℕ) (start : Physical) (eptp cr3 : ℕ) (memory changed : 
       (places_stand memory changed agree.frames eptp cr3 at size places led) agree' covers' in
       (led', (rw (led, led', accounts) (record { account = puts.0; agrees = puts.1 })))
 
+  -- the first byte of a store has a place
   first_of : (count : ℕ) → 0 < count → bytes_from (store_place old_core) at count ≡ Ok places
       → (place : PhysAddr) × (store_place old_core at ≡ Ok place)
   unfolding bytes_from
@@ -298,6 +314,7 @@ module _ (all : List ℕ) (start : Physical) (eptp cr3 : ℕ) (memory changed : 
       (first_of_places memory eptp cr3 (store_place old_core at) (bytes_from (store_place old_core) ((at + 1) % 2 ^ 64) count)
       places e).0
 
+  -- what the first byte reads is held
   first_held : (Held : PhysCall → Type 0) (calls : ℕ → List PhysCall) (answer : ℕ → Result PhysAddr BusStop) (count : ℕ)
       → 0 < count → Each Held (calls_from calls answer at count) → Each Held (calls at)
   unfolding calls_from
@@ -305,15 +322,10 @@ module _ (all : List ℕ) (start : Physical) (eptp cr3 : ℕ) (memory changed : 
   first_held Held calls answer (suc count) some h = each_left Held (calls at) _ h
 
   -- a whole word
-  whole_alike : size ≡ 8 → at % 8 ≡ 0
-      → Covers all (after_word noted_rule memory (place_of old_core Write at) value
-      (account_after_reads noted_rule memory (look_calls old_core at 8) account)).reads
+  whole_alike : size ≡ 8 → at % 8 ≡ 0 → Covers all (after_word_stored noted_rule old_core at value account).reads
       → (bytes_from (store_place new_core) at size ≡ Ok places)
-      × SameStore all start (after_word noted_rule memory (place_of old_core Write at) value
-      (account_after_reads noted_rule memory (look_calls old_core at 8) account))
-      (after_word noted_rule changed (place_of new_core Write at) value
-      (account_after_reads noted_rule changed (look_calls new_core at 8) account))
-      (put_word_at memory (place_of old_core Write at) value) (put_word_at changed (place_of new_core Write at) value)
+      × SameStore all start (after_word_stored noted_rule old_core at value account)
+      (after_word_stored noted_rule new_core at value account) (word_stored old_core at value) (word_stored new_core at value)
   whole_alike eight even covers =
       let led' : bytes_from (store_place old_core) at 8 ≡ Ok places =
       subst (λ (n : ℕ). bytes_from (store_place old_core) at n ≡ Ok places) eight led in
@@ -356,27 +368,21 @@ module _ (all : List ℕ) (start : Physical) (eptp cr3 : ℕ) (memory changed : 
         })),
       )
 
+  -- a store, by whether it is of a whole word
   store_by : (test : Bool) → is_whole at size ≡ test
-      → Covers all (if test then after_word noted_rule memory (place_of old_core Write at) value
-      (account_after_reads noted_rule memory (look_calls old_core at 8) account)
-      else after_answer noted_rule memory (bytes_from (store_place old_core) at size) value
-      (account_after_reads noted_rule memory (load_calls old_core Write at size) account)).reads
+      → Covers all (if test then after_word_stored noted_rule old_core at value account
+      else after_bytes_stored noted_rule old_core at size value account).reads
       → (bytes_from (store_place new_core) at size ≡ Ok places)
-      × SameStore all start (if test then after_word noted_rule memory (place_of old_core Write at) value
-      (account_after_reads noted_rule memory (look_calls old_core at 8) account)
-      else after_answer noted_rule memory (bytes_from (store_place old_core) at size) value
-      (account_after_reads noted_rule memory (load_calls old_core Write at size) account))
-      (if test then after_word noted_rule changed (place_of new_core Write at) value
-      (account_after_reads noted_rule changed (look_calls new_core at 8) account)
-      else after_answer noted_rule changed (bytes_from (store_place new_core) at size) value
-      (account_after_reads noted_rule changed (load_calls new_core Write at size) account))
-      (if test then put_word_at memory (place_of old_core Write at) value else put_answer memory
-      (bytes_from (store_place old_core) at size) value)
-      (if test then put_word_at changed (place_of new_core Write at) value else put_answer changed
-      (bytes_from (store_place new_core) at size) value)
+      × SameStore all start (if test then after_word_stored noted_rule old_core at value account
+      else after_bytes_stored noted_rule old_core at size value account)
+      (if test then after_word_stored noted_rule new_core at value account
+      else after_bytes_stored noted_rule new_core at size value account)
+      (if test then word_stored old_core at value else bytes_stored old_core at size value)
+      (if test then word_stored new_core at value else bytes_stored new_core at size value)
   store_by true is covers = let both = whole_size at size is in whole_alike both.0 both.1 covers
   store_by false is covers = apart_alike covers
 
+  -- a store has the same places in both, notes the same, and the memories after it agree
   pub store_alike : Covers all (store_rule noted_rule old_core at size value account).reads
       → (bytes_from (store_place new_core) at size ≡ Ok places)
       × SameStore all start (store_rule noted_rule old_core at size value account)
@@ -387,21 +393,22 @@ module _ (all : List ℕ) (start : Physical) (eptp cr3 : ℕ) (memory changed : 
 
 -- ---- accounts only grow
 
+-- bytes that are stored keep what was noted as read
 answer_more : (all : List ℕ) (memory : Physical) (places : Result (List PhysAddr) BusStop) (value : ℕ) (account : Noted)
     → Covers all (after_answer noted_rule memory places value account).reads → Covers all account.reads
 answer_more all memory (Ok places) value account covers = writes_more all memory places value account covers
 answer_more all memory (Err s) value account covers = covers
 
+-- so does a word
 word_more : (all : List ℕ) (memory : Physical) (place : Result PhysAddr NestedStop) (value : ℕ) (account : Noted)
     → Covers all (after_word noted_rule memory place value account).reads → Covers all account.reads
 word_more all memory (Ok place) value account covers = rule_more all memory (WriteWord place.0 value) account covers
 word_more all memory (Err s) value account covers = covers
 
+-- and so does a store, by whether it is of a whole word
 store_more : (test : Bool) (all : List ℕ) (core : View) (at size value : ℕ) (account : Noted)
-    → Covers all (if test then after_word noted_rule core.physical (place_of core Write at) value
-    (account_after_reads noted_rule core.physical (look_calls core at 8) account)
-    else after_answer noted_rule core.physical (bytes_from (store_place core) at size) value
-    (account_after_reads noted_rule core.physical (load_calls core Write at size) account)).reads
+    → Covers all (if test then after_word_stored noted_rule core at value account
+    else after_bytes_stored noted_rule core at size value account).reads
     → Covers all account.reads
 store_more true all core at size value account covers =
     after_more all core.physical (look_calls core at 8) account
@@ -410,6 +417,7 @@ store_more false all core at size value account covers =
     after_more all core.physical (load_calls core Write at size) account
     (answer_more all core.physical (bytes_from (store_place core) at size) value _ covers)
 
+-- a call of the bus keeps what was noted as read
 pub call_more : (all : List ℕ) (call : BusCall) (core : View) (account : Noted)
     → Covers all (view_rule noted_rule call core account).reads → Covers all account.reads
 unfolding view_rule store_rule

@@ -1,7 +1,7 @@
 -- A memory that holds words of another agrees with it at them, and memories that agree hold what was written.
 use Rattle.std.proofs.Common.{◌≡◌, ap, sym, subst, ◌∙◌, ℕ, zero, suc, ◌+◌, ◌*◌, ◌%◌, ◌<◌, ◌==◌, Bool, true, false, ◌||◌, List, [], ◌∷◌, get_or, replicate, refl, arith}
-use Rattle.std.proofs.lemmas.Bool.{or_right}
-use Rattle.std.proofs.lemmas.Bool.Decides.{nat_tests}
+use Rattle.std.proofs.lemmas.Bool.{eq-eqb, eqb-true, or_left, or_right}
+use Rattle.std.proofs.Math.Bool.{or-false}
 use Rattle.std.proofs.lemmas.List.{get_or-replicate, length-replicate}
 use Rattle.byteorder.specs.Endian.{little_from}
 use Rattle.sb_memory.specs.Physical.{Physical, IsPhysical, HasAllFrames, frame_count}
@@ -9,6 +9,7 @@ use Rattle.sb_memory.specs.Words.{word_at}
 use Rattle.sb_memory.proofs.Words.{word_of_same_bytes}
 use Rattle.sb_agree.specs.Noted.{has_word, word_of}
 use Rattle.sb_agree.specs.Held.{Agrees, HoldsWords, is_known}
+use Rattle.sb_agree.specs.Laws.{HoldingMemoriesAgree, WrittenWordsAreHeld}
 use Rattle.sb_agree.proofs.Agreeing.{there_inside}
 
 -- ---- numbers of bytes
@@ -37,20 +38,6 @@ bytes_of_words left right at small also e k below = same_bytes left right small 
 
 -- ---- words that are held
 
-is_number : (a b : ℕ) → (a == b) ≡ true → a ≡ b
-is_number a b e = grind (arith, nat_tests)
-
-same_number : (word : ℕ) → (word == word) ≡ true
-same_number word = grind (arith, nat_tests)
-
-or_left : (x y : Bool) → x ≡ true → (x || y) ≡ true
-or_left true y e = refl
-or_left false y e = cc
-
-or_nothing : (x : Bool) → (x || false) ≡ true → x ≡ true
-or_nothing true e = refl
-or_nothing false e = e
-
 -- a memory holds its own words
 pub holds_own : (memory : Physical) (words : List ℕ) → HoldsWords memory words memory
 holds_own memory [] = tt
@@ -61,9 +48,10 @@ module _ (memory other : Physical) where
   abbrev SameWord : ℕ → Type 0
   SameWord word = word_at other.bytes (8 * word) ≡ word_at memory.bytes (8 * word)
 
+  -- a word of the list, by whether it is the first
   held_by : (test : Bool) (word first : ℕ) (words : List ℕ) → (first == word) ≡ test → (test || has_word word words) ≡ true
       → SameWord first → (has_word word words ≡ true → SameWord word) → SameWord word
-  held_by true word first words is e here rest = subst SameWord (is_number first word is) here
+  held_by true word first words is e here rest = subst SameWord (eqb-true first word is) here
   held_by false word first words is e here rest = rest e
 
   -- each word of the list has the same value
@@ -76,21 +64,21 @@ module _ (memory other : Physical) where
   pub holds_each : (words : List ℕ) → ((word : ℕ) → has_word word words ≡ true → SameWord word) → HoldsWords memory words other
   holds_each [] each = tt
   holds_each (word ∷ words) each = (
-    each word (or_left (word == word) _ (same_number word)),
+    each word (or_left (word == word) _ (eq-eqb word word refl)),
     holds_each words (λ later e. each later (or_right (word == later) _ e)),
   )
 
 -- ---- the relation at the start
 
-pub starts : (words : List ℕ) (memory other : Physical) → frame_count other ≡ frame_count memory → IsPhysical memory
-    → IsPhysical other → HasAllFrames other → HoldsWords memory words other → Agrees words other [] memory other
+-- a memory that holds some words agrees at them
+pub starts : HoldingMemoriesAgree
 starts words memory other frames sound also all held = record {
   frames = frames;
   size = sound.size.bytes;
   other_size = also.size.bytes;
   there = λ frame e. let inside = there_inside memory frame e in all frame (rw frames inside);
   same = λ place e.
-      let word = word_held memory other words held (word_of place) (or_nothing (has_word (word_of place) words) e) in
+      let word = word_held memory other words held (word_of place) (sym (or-false (has_word (word_of place) words)) ∙ e) in
       let split : place ≡ 8 * word_of place + place % 8 = omega arith in
       let bytes =
       bytes_of_words other.bytes memory.bytes (8 * word_of place) also.bytes sound.bytes word (place % 8) (omega arith) in
@@ -103,15 +91,20 @@ starts words memory other frames sound also all held = record {
 
 module _ (all : List ℕ) (start : Physical) (writes : List ℕ) (memory changed : Physical)
     (agree : Agrees all start writes memory changed) where
-  known_word : (word : ℕ) → is_known all writes word ≡ true → word_at changed.bytes (8 * word) ≡ word_at memory.bytes (8 * word)
+  -- a known word has the same value in both
+  pub known_word : (word : ℕ) → is_known all writes word ≡ true
+      → word_at changed.bytes (8 * word) ≡ word_at memory.bytes (8 * word)
   known_word word e =
       word_of_same_bytes changed.bytes memory.bytes (8 * word)
       (λ k below. agree.same (8 * word + k)
       (let one : word_of (8 * word + k) ≡ word = omega arith in
       subst (λ (w : ℕ). is_known all writes w ≡ true) (sym one) e))
 
-  pub writes_held : HoldsWords memory writes changed
-  writes_held = holds_each memory changed writes (λ word e. known_word word (or_right (has_word word all) _ e))
+-- what was written has the same values in both
+pub writes_held : WrittenWordsAreHeld
+writes_held all start writes memory changed agree =
+    holds_each memory changed writes
+    (λ word e. known_word all start writes memory changed agree word (or_right (has_word word all) _ e))
 
 -- ---- a memory of which all frames are there
 
@@ -119,9 +112,11 @@ module _ (all : List ℕ) (start : Physical) (writes : List ℕ) (memory changed
 abbrev pub with_all_frames : Physical → Physical
 with_all_frames memory = record memory { present = replicate (frame_count memory) true }
 
+-- it has as many frames
 pub count_of_all : (memory : Physical) → frame_count (with_all_frames memory) ≡ frame_count memory
 count_of_all memory = length-replicate (frame_count memory) true
 
+-- it is a physical memory
 pub physical_with_all : (memory : Physical) → IsPhysical memory → IsPhysical (with_all_frames memory)
 physical_with_all memory sound =
     let count = count_of_all memory in
@@ -130,6 +125,7 @@ physical_with_all memory sound =
       bytes = sound.bytes;
     }
 
+-- it has all its frames
 pub has_all_frames : (memory : Physical) → HasAllFrames (with_all_frames memory)
 has_all_frames memory frame below =
     get_or-replicate (frame_count memory) frame true false (subst (λ (n : ℕ). frame < n) (count_of_all memory) below)

@@ -12,7 +12,7 @@ use Rattle.sb_exec.specs.declared.action.Effect.{Effect}
 use Rattle.sb_bus.specs.Access.{bytes_from, byte_for, store_answer, where_stored}
 use Rattle.sb_bus.specs.Interface.{Interface, FetchByte}
 use Rattle.sb_exec.specs.Row.{Row, MemoryAccess, Loads, LoadsForWrite, Stores, accesses}
-use Rattle.sb_exec.specs.Execution.{Run, Execution, run, run_on, execution_of, effect_after, registers_after, access_answer, meaning_after, call_of}
+use Rattle.sb_exec.specs.Execution.{Run, run, run_on, execution_of, effect_after, registers_after, access_answer, meaning_after, call_of}
 use Rattle.sb_exec.specs.Fetching.{bytes_from_fetch, FetchesOn, fetch_of, after_fetches}
 use Rattle.sb_nested.specs.View.{View, view, view_byte, byte_calls}
 use Rattle.sb_nested.specs.Store.{view_interface, view_rule, store_place, store_rule, memory_stored, view_stored}
@@ -27,6 +27,7 @@ use Rattle.sb_agree.proofs.Calls.{fetch_alike, load_alike, load_for_write_alike,
 
 -- ---- an access
 
+-- what a core sees, with the account of the words
 abbrev noting : Interface View Noted
 noting = view_interface noted_rule
 
@@ -41,11 +42,13 @@ pub record SameAccess (all : List ℕ) (start : Physical) (eptp cr3 : ℕ) (valu
   pub right : other ≡ view changed eptp cr3
   pub agrees : Agrees all start first.writes memory changed
 
+-- a store that goes on was done
 stored_answer : (answer : Result (Unit {0}) BusStop) (loaded value : ℕ) → and_then answer (λ _. Ok loaded) ≡ Ok value
     → (answer ≡ Ok tt) × (loaded ≡ value)
 stored_answer (Ok tt) loaded value e = (refl, cc)
 stored_answer (Err s) loaded value e = cc
 
+-- a store among the accesses of an instruction
 store_alike_on : (all : List ℕ) (start : Physical) (eptp cr3 : ℕ) (memory changed : Physical) (account : Noted)
     → Agrees all start account.writes memory changed
     → (at size number loaded value : ℕ)
@@ -76,6 +79,7 @@ store_alike_on all start eptp cr3 memory changed account agree at size number lo
       agrees = same.1.agrees;
     })
 
+-- an access that goes on
 access_alike : (all : List ℕ) (start : Physical) (eptp cr3 : ℕ) (memory changed : Physical) (account : Noted)
     → Agrees all start account.writes memory changed
     → (one_access : MemoryAccess) (loaded value : ℕ) → access_answer noting one_access (view memory eptp cr3) loaded ≡ Ok value
@@ -113,6 +117,7 @@ access_alike all start eptp cr3 memory changed account agree (Stores at size num
 
 -- ---- accesses in their order
 
+-- accesses behind an answer keep what was noted as read
 run_more_on : (all : List ℕ) (next : View → Noted → ℕ → Run View Noted) (answer : Result ℕ BusStop) (core : View)
     (account : Noted)
     → ((loaded : ℕ) → Covers all (next core account loaded).account.reads → Covers all account.reads)
@@ -120,6 +125,7 @@ run_more_on : (all : List ℕ) (next : View → Noted → ℕ → Run View Noted
 run_more_on all next (Ok loaded) core account later covers = later loaded covers
 run_more_on all next (Err s) core account later covers = covers
 
+-- accesses keep what was noted as read
 pub run_more : (all : List ℕ) (accesses : List MemoryAccess) (core : View) (account : Noted) (loaded : ℕ)
     → Covers all (run noting accesses core account loaded).account.reads → Covers all account.reads
 run_more all [] core account loaded covers = covers
@@ -130,12 +136,14 @@ run_more all (one_access ∷ accesses) core account loaded covers =
     (λ next. run_more all accesses (meaning_after noting one_access core loaded)
     (view_rule noted_rule (call_of one_access loaded) core account) next) covers)
 
+-- where a run of accesses ends with a number, its first one goes on
 first_ok : (next : View → Noted → ℕ → Run View Noted) (answer : Result ℕ BusStop) (core : View) (account : Noted) (value : ℕ)
     → (run_on next answer core account).answer ≡ Ok value
     → (loaded : ℕ) × (answer ≡ Ok loaded)
 first_ok next (Ok loaded) core account value e = (loaded, refl)
 first_ok next (Err s) core account value e = cc
 
+-- a first access that is the same in both, and the others behind it
 joined : (all : List ℕ) (start : Physical) (eptp cr3 value : ℕ) (next : View → Noted → ℕ → Run View Noted)
     (one two : Result ℕ BusStop) (mean other first second : View) (account also : Noted) (loaded : ℕ)
     → one ≡ Ok loaded → two ≡ Ok loaded → mean ≡ first → other ≡ second → also ≡ account
@@ -145,6 +153,7 @@ joined : (all : List ℕ) (start : Physical) (eptp cr3 value : ℕ) (next : View
     (run_on next two other also).account (run_on next one mean account).meaning (run_on next two other also).meaning
 joined all start eptp cr3 value next one two mean other first second account also loaded e f g h k same = rw (e, f, g, h, k) same
 
+-- accesses that no stop ends have the same answer and account in both, and the memories after them agree
 pub run_alike : (all : List ℕ) (start : Physical) (eptp cr3 : ℕ) (accesses : List MemoryAccess) (memory changed : Physical)
     (account : Noted) (loaded value : ℕ) → Agrees all start account.writes memory changed
     → (run noting accesses (view memory eptp cr3) account loaded).answer ≡ Ok value
@@ -179,11 +188,13 @@ run_alike all start eptp cr3 (one_access ∷ accesses) memory changed account lo
 
 -- ---- a row
 
+-- an instruction with an effect was run to its end
 ran_ok : (effect done : Effect) (answer : Result ℕ BusStop) → effect_after effect answer ≡ Ok done
     → ((loaded : ℕ) × (answer ≡ Ok loaded)) × (effect ≡ done)
 ran_ok effect done (Ok loaded) e = ((loaded, refl), cc)
 ran_ok effect done (Err s) e = cc
 
+-- an instruction with an effect ends alike over both
 pub row_alike : (all : List ℕ) (start : Physical) (eptp cr3 : ℕ) (memory changed : Physical) (account : Noted) (row : Row)
     (regs : Regs) (effect : Effect) → Agrees all start account.writes memory changed
     → (execution_of noting row regs (view memory eptp cr3) account).answer ≡ Ok effect
@@ -201,6 +212,7 @@ row_alike all start eptp cr3 memory changed account row regs effect agree e cove
       agrees = rw (same.left, same.right) same.agrees;
     }
 
+-- an instruction keeps what was noted as read
 pub row_more : (all : List ℕ) (core : View) (account : Noted) (row : Row) (regs : Regs)
     → Covers all (execution_of noting row regs core account).account.reads → Covers all account.reads
 unfolding execution_of
@@ -210,28 +222,29 @@ row_more all core account row regs covers = run_more all (accesses row) core acc
 
 module _ (all : List ℕ) (start : Physical) (eptp cr3 : ℕ) (memory changed : Physical) (account : Noted)
     (agree : Agrees all start account.writes memory changed) (rip : ℕ) where
+  -- what a core sees over the one memory
   abbrev old : View
   old = view memory eptp cr3
 
+  -- and over the other
   abbrev new : View
   new = view changed eptp cr3
 
+  -- the account after so many bytes are fetched
   abbrev after : ℕ → Noted
   after count = after_fetches noting old rip count account
 
+  -- fetching a byte notes nothing as written
   one_writes : (at : ℕ) (now : Noted) → (view_rule noted_rule (FetchByte at) old now).writes ≡ now.writes
   unfolding view_rule
   one_writes at now = after_writes_same all memory (byte_calls old Fetch at) now (byte_read_only old Fetch at)
 
+  -- fetching bytes notes nothing as written
   pub fetches_write : (count : ℕ) → (after count).writes ≡ account.writes
   fetches_write zero = refl
   fetches_write (suc count) = one_writes (bytes_from_fetch rip count) (after count) ∙ fetches_write count
 
-  pub fetches_more : (count : ℕ) → Covers all (after count).reads → Covers all account.reads
-  fetches_more zero covers = covers
-  fetches_more (suc count) covers =
-      fetches_more count (call_more all (FetchByte (bytes_from_fetch rip count)) old (after count) covers)
-
+  -- bytes that are fetched are the same, with the same account
   fetches_alike : (count : ℕ) → Covers all (after count).reads
       → ((index : ℕ) → index < count → NoGap bus_gap (fetch_of noting old (bytes_from_fetch rip index)))
       → ((index : ℕ) → index < count

@@ -44,7 +44,7 @@ use Rattle.sb_machine.proofs.Afterwards.{afterwards}
 use Rattle.sb_machine.proofs.Following.{follows_by}
 use Rattle.sb_machine.proofs.Grounded.{core_is, index_is, eptp_now}
 use Rattle.sb_machine.proofs.Present.{home_shown}
-use Rattle.sb_machine.proofs.Seen.{small, home_entry, set_view}
+use Rattle.sb_machine.proofs.Seeing.{small, home_entry, set_view}
 
 -- ---- the thread after a call
 

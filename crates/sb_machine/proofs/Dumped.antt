@@ -15,7 +15,7 @@ use Rattle.sb_shows.specs.Shows.{present_index}
 use Rattle.sb_machine.specs.Dump.{DumpShows, machine_dump}
 use Rattle.sb_machine.specs.Machine.{Machine, words_of}
 use Rattle.sb_machine.specs.StandsFor.{IsMachineOf}
-use Rattle.sb_machine.proofs.Seen as seen
+use Rattle.sb_machine.proofs.Seeing as seen
 use Rattle.sb_machine.proofs.Shown.{machines_show}
 
 -- an EPT pointer that a root kernel keeps is a word

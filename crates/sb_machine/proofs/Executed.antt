@@ -23,7 +23,7 @@ use Rattle.sb_machine.specs.StandsFor.{IsMachineOf}
 use Rattle.sb_machine.specs.Written.{execution_on}
 use Rattle.sb_machine.proofs.Frames.{frames_kept}
 use Rattle.sb_machine.proofs.Seats.{seats_stay}
-use Rattle.sb_machine.proofs.Seen.{executed}
+use Rattle.sb_machine.proofs.Seeing.{executed}
 
 -- a step that changes pages and its own thread, but no binding, process, free frame or key word
 pub record IsQuiet (old new : State) : Type 0 where

@@ -16,7 +16,7 @@ use Rattle.sb_machine.specs.StandsFor.{IsMachineOf}
 use Rattle.sb_machine.specs.Laws.{Follows}
 use Rattle.sb_machine.proofs.Grounded.{regs_are, core_is, eptp_now}
 use Rattle.sb_machine.proofs.Moved.{moved_follows}
-use Rattle.sb_machine.proofs.Seen.{home_entry}
+use Rattle.sb_machine.proofs.Seeing.{home_entry}
 
 -- the machine's outcome follows the plain machine's
 abbrev pub FollowsOutcome : State → ℕ → PlainOutcome → Outcome → Type 0

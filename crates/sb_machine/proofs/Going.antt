@@ -26,7 +26,7 @@ use Rattle.sb_machine.proofs.Afterwards.{afterwards}
 use Rattle.sb_machine.proofs.Following.{follows_by}
 use Rattle.sb_machine.proofs.Grounded.{core_is, eptp_now}
 use Rattle.sb_machine.proofs.Executed.{IsQuiet, instruction_stands}
-use Rattle.sb_machine.proofs.Seen.{small, executed}
+use Rattle.sb_machine.proofs.Seeing.{small, executed}
 
 module _ (machine : Machine) (state : State) (is : IsMachineOf machine state) (number : ℕ) (there : number < length machine.cores)
     (grounded : flight_at state number ≡ None) (insn : Insn) where

@@ -52,7 +52,7 @@ use Rattle.sb_machine.proofs.Following.{follows_by}
 use Rattle.sb_machine.proofs.InFlight.{core_is, plain_step, outcome, next, insn, lands, flies, after, law_beside}
 use Rattle.sb_machine.proofs.Phases.{undecided_away, entered_away}
 use Rattle.sb_machine.proofs.Present.{home_shown}
-use Rattle.sb_machine.proofs.Seen.{small, root_stands, set_view, list_is}
+use Rattle.sb_machine.proofs.Seeing.{small, root_stands, set_view, list_is}
 
 -- ---- RAX and RCX at the VMFUNC home
 

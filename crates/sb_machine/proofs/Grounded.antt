@@ -17,7 +17,7 @@ use Rattle.sb_shows.specs.Shows.{index_of, present_index}
 use Rattle.sb_machine.specs.Machine.{Machine, core_at, state_at, regs_of}
 use Rattle.sb_machine.specs.StandsFor.{IsCoreOf, IsMachineOf}
 use Rattle.sb_machine.specs.Written.{FetchesNext}
-use Rattle.sb_machine.proofs.Seen.{eptp_is, fetched}
+use Rattle.sb_machine.proofs.Seeing.{eptp_is, fetched}
 
 module _ (machine : Machine) (state : State) (is : IsMachineOf machine state) (number : ℕ) (there : number < length machine.cores)
     (grounded : flight_at state number ≡ None) where

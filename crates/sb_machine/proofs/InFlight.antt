@@ -46,7 +46,7 @@ use Rattle.sb_machine.proofs.FlightAfter.{IsAfterPhase, after_phase}
 use Rattle.sb_machine.proofs.Executed.{IsQuiet, instruction_stands}
 use Rattle.sb_machine.proofs.Following.{follows_by}
 use Rattle.sb_machine.proofs.Phases.{phase_read}
-use Rattle.sb_machine.proofs.Seen.{eptp_is, fetched, executed}
+use Rattle.sb_machine.proofs.Seeing.{eptp_is, fetched, executed}
 
 apart_by : (test : Bool) (first second : ℕ) → (first == second) ≡ test → first ≢ second → test ≡ false
 apart_by false first second is apart = refl

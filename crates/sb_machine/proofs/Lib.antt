@@ -1,7 +1,7 @@
 pub mod Cores
 pub mod Present
 pub mod Afterwards
-pub mod Seen
+pub mod Seeing
 pub mod Places
 pub mod Frames
 pub mod Seats
@@ -33,3 +33,9 @@ pub mod Writing
 pub mod DumpParts
 pub mod Dumped
 pub mod Ran
+pub mod BytesKept
+pub mod Own
+pub mod OwnRuns
+pub mod WordsPut
+pub mod Undecided
+pub mod Applying

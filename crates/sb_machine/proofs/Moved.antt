@@ -17,7 +17,7 @@ use Rattle.sb_machine.specs.Laws.{Follows}
 use Rattle.sb_machine.proofs.Afterwards.{afterwards}
 use Rattle.sb_machine.proofs.Following.{follows_by}
 use Rattle.sb_machine.proofs.Present.{thread_is}
-use Rattle.sb_machine.proofs.Seen.{small}
+use Rattle.sb_machine.proofs.Seeing.{small}
 
 -- a core that has what a thread out of flight has, and keeps its own words
 pub record IsCoreWith (old : Core) (entry : ℕ) (thread : Thread) (core : Core) : Type 0 where

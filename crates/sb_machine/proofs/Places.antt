@@ -16,9 +16,10 @@ use Rattle.sb_shows.specs.Shows.{present_index}
 use Rattle.sb_sub.specs.Kernel.{seat_of}
 use Rattle.sb_sub.specs.StandsFor.{StandsFor}
 use Rattle.sb_machine.specs.Machine.{Machine, state_at}
+use Rattle.sb_machine.specs.OwnSteps.{HasWalks}
 use Rattle.sb_machine.specs.StandsFor.{IsMachineOf}
 use Rattle.sb_machine.specs.Written.{FetchesNext, execution_on}
-use Rattle.sb_machine.proofs.Seen.{small, pointer, pointer_inside, list_inside, entry_is_word, fetched, executed}
+use Rattle.sb_machine.proofs.Seeing.{small, pointer, pointer_inside, list_inside, entry_is_word, fetched, executed}
 
 module _ (machine : Machine) (number : ℕ) (some : (state : State) × IsMachineOf machine state)
     (there : number < length machine.cores) where
@@ -34,7 +35,11 @@ module _ (machine : Machine) (number : ℕ) (some : (state : State) × IsMachine
   pub list_frame : (state_at machine number).list.0 < frame_count machine.memory
   list_frame = list_inside machine some.0 some.1 number there
 
-  -- and so is the entry of its home view
+  -- so the core has what its walks and its VMFUNC need
+  pub has_walks : HasWalks (frame_count machine.memory) (state_at machine number)
+  has_walks = record { pointer = is_pointer; root = root_inside; list = list_frame }
+
+  -- the entry of its home view is there too
   pub home_word : IsWordPlace machine.memory (entry_in (state_at machine number).list.0 0)
   home_word = entry_is_word machine some.0 some.1 number there
 

@@ -47,7 +47,7 @@ use Rattle.sb_machine.proofs.Going.{next_follows}
 use Rattle.sb_machine.proofs.GoingHome.{home_follows}
 use Rattle.sb_machine.proofs.Grounded.{plain_steps}
 use Rattle.sb_machine.proofs.InFlight.{apart_test, fetches_row, answers, goes_on_follows}
-use Rattle.sb_machine.proofs.Seen.{fetched, executed}
+use Rattle.sb_machine.proofs.Seeing.{fetched, executed}
 use Rattle.sb_machine.proofs.Switched.{vmfunc_follows}
 
 -- what follows an outcome

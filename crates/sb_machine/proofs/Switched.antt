@@ -45,7 +45,7 @@ use Rattle.sb_machine.proofs.Grounded.{regs_are, core_is, eptp_now}
 use Rattle.sb_machine.proofs.Faulted.{FollowsOutcome, fault_follows}
 use Rattle.sb_machine.proofs.Moved.{moved_follows}
 use Rattle.sb_machine.proofs.Present.{thread_is, thread_sound, home_shown}
-use Rattle.sb_machine.proofs.Seen.{small, root_stands, set_view, list_is}
+use Rattle.sb_machine.proofs.Seeing.{small, root_stands, set_view, list_is}
 
 module _ (machine : Machine) (state : State) (is : IsMachineOf machine state) (number : ℕ)
     (there : number < length machine.cores) where

@@ -25,7 +25,7 @@ use Rattle.sb_machine.specs.Machine.{Machine, state_at, view_at, words_of, no_ac
 use Rattle.sb_machine.specs.StandsFor.{IsMachineOf}
 use Rattle.sb_machine.specs.Translations.{IsPointer, list_word, translation_through, SameTranslations, SameAddresses, KeepsTranslations}
 use Rattle.sb_machine.specs.Written.{execution_on}
-use Rattle.sb_machine.proofs.Seen.{small, sees, executed}
+use Rattle.sb_machine.proofs.Seeing.{small, sees, executed}
 use Rattle.sb_machine.proofs.Shown.{machines_show}
 use Rattle.sb_machine.proofs.Words.{Leaves, SameWords}
 

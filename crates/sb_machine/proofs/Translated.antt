@@ -33,7 +33,7 @@ use Rattle.sb_machine.specs.Written.{Calls, FollowsFetch, PerformsBy, Steps, Ste
 use Rattle.sb_machine.proofs.CallNumbers.{IsLineOf, tells_number}
 use Rattle.sb_machine.proofs.Counting.{works_keep}
 use Rattle.sb_machine.proofs.Present.{thread_is}
-use Rattle.sb_machine.proofs.Seen.{small}
+use Rattle.sb_machine.proofs.Seeing.{small}
 use Rattle.sb_machine.proofs.Through.{AddressesThrough, SameThrough, addresses_by, executed_stays, keeps_all, keeps_on, same_by, same_left, shows, through_is}
 use Rattle.sb_machine.proofs.Words.{Leaves, SameWords, answered, fault_leaves, leaves_all, line_leaves, stop_leaves, switch_leaves, words_put}
 

@@ -13,3 +13,4 @@ pub mod Translations
 pub mod Writing
 pub mod Seens
 pub mod OwnSteps
+pub mod Applied

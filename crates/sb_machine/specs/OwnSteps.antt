@@ -1,8 +1,9 @@
 -- Steps of one core, one after another, in which the kernels have no part.
-use Rattle.std.specs.Prelude.{ℕ, ◌≡◌, ◌<◌, ◌⊎◌, Bool, true, false, IsTrue, List, [], ◌∷◌, length, Option, None}
+use Rattle.std.specs.Prelude.{ℕ, ◌≡◌, ◌<◌, ◌⊎◌, Bool, true, false, IsTrue, List, [], ◌∷◌, length, map, Option, None}
 use Rattle.sb_state.specs.declared.end_kind.EndKind.TheVariants.{Running}
 use Rattle.sb_trace.specs.declared.event.Event.{Event}
 use Rattle.sb_trace.specs.declared.event.Event.TheVariants as event
+use Rattle.sb_trace.specs.declared.event.Line.{Line}
 use Rattle.sb_walks.specs.Entry.{frame_in}
 use Rattle.sb_walks.specs.Ept.{is_eptp}
 use Rattle.sb_machine.specs.declared.processor.CoreState.{CoreState}
@@ -33,6 +34,10 @@ is_own (event.ServerExit status) = false
 is_own (event.Unbound index) = false
 is_own (event.BadLeaf index) = false
 is_own event.Idle = false
+
+-- the lines of one core
+abbrev pub lines_of_core : ℕ → List Event → List Line
+lines_of_core number events = map (λ (event : Event). record { core = number; event = event }) events
 
 -- so many such steps of one core, with these lines
 unfoldable pub OwnSteps : Machine → ℕ → List Event → Machine → Type 0

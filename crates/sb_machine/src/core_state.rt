@@ -1,6 +1,6 @@
 //! What steps of a core that are made elsewhere need of the machine, and how they are applied to it.
 
-ghost use Rattle.std.specs.Prelude.{◌≡◌, ◌<◌, length};
+ghost use Rattle.std.specs.Prelude.{◌≡◌, ◌<◌, List, length};
 ghost use Rattle.sb_memory.specs.Frames.{frame_bytes};
 ghost use Rattle.sb_memory.specs.Physical.{IsWordPlace, frame_count};
 ghost use Rattle.sb_memory.specs.Words.{word_at};
@@ -13,6 +13,9 @@ ghost use Rattle.sb_machine.specs.OwnSteps.{AreSteps, HasWalks};
 ghost use Rattle.sb_machine.specs.StandsFor.{IsMachineOf};
 ghost use Rattle.sb_machine.specs.Translations.{SameTranslations};
 
+use crate::apply::apply;
+use crate::frame::frame_bytes;
+use crate::laws::own_steps_are_plain;
 use crate::machine::Machine;
 use crate::place::Seens;
 use crate::processor::CoreState;
@@ -25,7 +28,7 @@ impl Machine {
         ensures state { result ≡ state_at self.now core }
         ensures walks { HasWalks (frame_count self.now.memory) result }
     {
-        todo
+        self.parts.core(core).state
     }
 
     /// The 4,096 bytes of a frame.
@@ -34,7 +37,7 @@ impl Machine {
         ensures bytes { result.now ≡ frame_bytes self.now.memory frame.0 }
         ensures size { length result.now ≡ PAGE_SIZE }
     {
-        todo
+        frame_bytes(&self.parts.memory, frame)
     }
 
     /// The word at a physical address.
@@ -42,7 +45,7 @@ impl Machine {
         requires { IsWordPlace self.now.memory at.0 }
         ensures { result ≡ word_at self.now.memory.bytes at.0 }
     {
-        todo
+        self.parts.memory.word(at)
     }
 
     /// Leaves the machine as it is behind steps of a core that it makes by itself, of which the state of the core and the words
@@ -61,6 +64,7 @@ impl Machine {
         ensures frames { frame_count self.new.memory ≡ frame_count self.old.memory }
         ensures cores { length self.new.cores ≡ length self.old.cores }
     {
-        todo
+        own_steps_are_plain();
+        apply(&mut self.parts, core, after, writes);
     }
 }

@@ -3,7 +3,6 @@
 ghost use Rattle.std.specs.Prelude.{◌≡◌, ◌+◌, ◌*◌, ◌^◌, ◌<◌, ◌≤◌, ◌==◌, IfOk, IfErr, OnOk, OnErr, length, not, take};
 ghost use Rattle.std.specs.List.{list_any};
 ghost use Rattle.sb_abi.specs.declared.space.TheConstants.{WINDOW_THREADS};
-ghost use Rattle.sb_memory.specs.Frames.{frame_bytes};
 ghost use Rattle.sb_memory.specs.Physical.{HasSize, frame_count};
 ghost use Rattle.sb_port.specs.Port.{Appended, Rose};
 ghost use Rattle.sb_shows.specs.Dump.{core_line, bytes_line};
@@ -12,6 +11,7 @@ ghost use Rattle.sb_machine.specs.Machine.{words_of};
 ghost use Rattle.sb_machine.specs.Writing.{Wrote, frame_part, texts};
 
 use crate::dump_lines::{bytes_line, core_line, count_line, frame_line};
+use crate::frame::frame_bytes;
 use crate::machine::Machine;
 use crate::parts::Parts;
 use sb_memory::{Frame, Memory, PAGE_SIZE, Phys};
@@ -68,17 +68,6 @@ fn write_bytes<K: Sink>(sink: &mut K, first: usize, bytes: &[u8]) -> Result<usiz
         written = put(sink, written, line.bytes())?;
     }
     Ok(written)
-}
-
-/// The bytes of a frame.
-fn frame_bytes(memory: &Memory, frame: Frame) -> &[u8]
-    requires size { HasSize memory.now }
-    requires there { frame.0 < frame_count memory.now }
-    ensures bytes { result.now ≡ frame_bytes memory.now frame.0 }
-    ensures size { length result.now ≡ PAGE_SIZE }
-{
-    let start = frame.base().0 as usize;
-    &memory.bytes()[start..start + PAGE_SIZE as usize]
 }
 
 /// Whether there is a byte other than 0.

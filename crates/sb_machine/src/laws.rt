@@ -1,6 +1,6 @@
 //! The laws of the machine.
 
-ghost use Rattle.sb_machine.specs.Laws.{StepsArePlain, MachinesShow};
+ghost use Rattle.sb_machine.specs.Laws.{StepsArePlain, MachinesShow, OwnStepsArePlain};
 
 use sb_landing::steps_stay_beside;
 
@@ -11,4 +11,12 @@ pub fn steps_are_plain()
     ensures shows { MachinesShow }
 {
     steps_stay_beside();
+}
+
+/// Steps that a core makes by itself, from a machine that stands for a state of the plain machine, are a run of the plain machine
+/// from there, with the same lines, of which none is idle.
+pub fn own_steps_are_plain()
+    ensures { OwnStepsArePlain }
+{
+    steps_are_plain();
 }

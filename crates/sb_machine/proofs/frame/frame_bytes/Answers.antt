@@ -1,6 +1,6 @@
 use Rattle.std.proofs.Common.{◌≡◌, ◌+◌, ◌-◌, ◌*◌, arith, refl}
 use Rattle.sb_memory.specs.Frames.{frame_bytes}
-use Rattle.sb_machine.proofs.dump.frame_bytes.Goals as goal
+use Rattle.sb_machine.proofs.frame.frame_bytes.Goals as goal
 
 pub returns-clause-bytes : goal.returns-clause-bytes
 unfolding frame_bytes

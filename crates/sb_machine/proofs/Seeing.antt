@@ -84,9 +84,14 @@ module _ (machine : Machine) (state : State) (is : IsMachineOf machine state) (n
       let inside = list_inside in
       record { inside = omega (arith, inside); aligned = omega arith }
 
-  -- the entry of the home view
+  -- an entry of the list is that of the root kernel
+  pub entry_is : (index : ℕ) → index < 512
+      → word_at machine.memory.bytes (entry_in (state_at machine number).list.0 index) ≡ list_entry machine.root number index
+  entry_is index few = (root_stands.lists number (state_at machine number).list list_is).entry index few
+
+  -- that of the home view too
   pub home_entry : word_at machine.memory.bytes (entry_in (state_at machine number).list.0 0) ≡ list_entry machine.root number 0
-  home_entry = (root_stands.lists number (state_at machine number).list list_is).entry 0 (lit< tt)
+  home_entry = entry_is 0 (lit< tt)
 
   -- ---- an instruction
 
