@@ -42,16 +42,15 @@ refuses_by start copies (why.NeedFrame frame) step = step
 refuses_by start copies why.Kernel step = step
 
 -- no line: it is the first step that is not made
-pub refused_by : (number : ℕ) (start : CoreState) (copies memory : Physical) (lines : List Line) (last : At Noted) (limit : ℕ)
-    (made : Result (Unit {0}) StepStop) (answer : Stop) → IsToldRun noted_rule number (at start memory nothing) lines last
-    → EndsRun limit (length lines) last made → IfErr made (λ stopped. answer ≡ told stopped) → memory ≡ copies → 1 ≤ limit
+pub refused_by : {number limit : ℕ} {start : CoreState} {copies : Physical} {lines : List Line} {last : At Noted}
+    (made : Result (Unit {0}) StepStop) (answer : Stop) → IsToldRun noted_rule number (at start copies nothing) lines last
+    → EndsRun limit (length lines) last made → IfErr made (λ stopped. answer ≡ told stopped) → 1 ≤ limit
     → length lines ≡ 0 → Refuses start copies answer
-refused_by number start copies memory lines last limit (Ok done) answer run ends told_by same some none =
-    absurd (omega (arith, ends, none, some))
-refused_by number start copies memory lines last limit (Err stopped) answer run ends told_by same some none =
-    let first = events_none noted_rule (at start memory nothing) last run.events
+refused_by (Ok done) answer run ends told_by some none = absurd (omega (arith, ends, none, some))
+refused_by {number} {start} {copies} {lines} {last} (Err stopped) answer run ends told_by some none =
+    let first = events_none noted_rule (at start copies nothing) last run.events
     (length-lines number run.events lines run.told ∙ none) run.runs in
-    rw (told_by, ← same) (refuses_by start memory stopped
+    rw told_by (refuses_by start copies stopped
     (subst (λ (one : At Noted). CoreSteps noted_rule one (outcome_of stopped)) first ends.1))
 
 -- ---- steps are made
@@ -62,13 +61,13 @@ ends_by limit count last (Ok done) ends = inl ends
 ends_by limit count last (Err stopped) ends = inr (ends.0, (stopped, ends.1))
 
 -- what was gathered after the steps
-pub run_by : (number : ℕ) (start after : CoreState) (copies : Physical) (limit : ℕ) (made : Result (Unit {0}) StepStop)
-    (lines : List Line) (part : Copied) (core : ℕ) (before last : CoreState) (all : List Line) (reads writes : List Seen)
+pub run_by : {number limit core : ℕ} {start after before last : CoreState} {copies : Physical} {lines all : List Line}
+    {part : Copied} {reads writes : List Seen} (made : Result (Unit {0}) StepStop)
     → IsToldRun noted_rule number (at start copies nothing) lines (at after part.memory part.began)
-    → EndsRun limit (length lines) (at after part.memory part.began) made → 0 < length lines → part.given ≡ copies
-    → IsGathered number start after lines part core before last all reads writes
+    → EndsRun limit (length lines) (at after part.memory part.began) made → 0 < length lines
+    → IsGathered number start after lines part core before last all reads writes → part.given ≡ copies
     → IsRunOf number start limit copies core before last all reads writes
-run_by number start after copies limit made lines part core before last all reads writes run ends some given got =
+run_by {number} {limit} {after} {lines} {part} made run ends some got given =
     let count = length-lines number run.events lines run.told in
     rw (got.all, got.to, ← given) (record {
       events = run.events;
@@ -103,8 +102,8 @@ places_in : (frames number : ℕ) (seens : List Seen) → AreWritesIn frames see
 places_in frames number seens inside = λ index other below. place_in frames number _ (inside index other below)
 
 -- what was read of the copies, behind how many lines the core had made
-pub reads_by : {number core : ℕ} {start after before last : CoreState} {copies : Physical} {lines all : List Line} {part : Copied}
-    {reads writes : List Seen} → IsGathered number start after lines part core before last all reads writes
+pub reads_by : {number core : ℕ} {start after before last : CoreState} {copies : Physical} {lines all : List Line}
+    {part : Copied} {reads writes : List Seen} → IsGathered number start after lines part core before last all reads writes
     → part.given ≡ copies → AreReadsIn (frame_count copies) number reads
 reads_by {number} {start} {part} got given =
     rw (got.saw, ← given)
@@ -114,8 +113,8 @@ reads_by {number} {start} {part} got given =
     (words_in part.given part.given part.began.reads got.reads_inside)))
 
 -- what was written
-pub writes_by : {number core : ℕ} {start after before last : CoreState} {copies : Physical} {lines all : List Line} {part : Copied}
-    {reads writes : List Seen} → IsGathered number start after lines part core before last all reads writes
+pub writes_by : {number core : ℕ} {start after before last : CoreState} {copies : Physical} {lines all : List Line}
+    {part : Copied} {reads writes : List Seen} → IsGathered number start after lines part core before last all reads writes
     → part.given ≡ copies → AreWritesIn (frame_count copies) writes
 writes_by {part} got given =
     rw (got.wrote, ← given) (words_in part.given part.memory part.began.writes got.writes_inside)

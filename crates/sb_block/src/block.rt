@@ -88,7 +88,6 @@ fn gather(
 /// # Errors
 ///
 /// Where not even one step is made: `NeedFrame` with the frame that it meets first, or else `Kernel`. `Memory` is want of memory.
-#[tactic(auto, using(crate::proofs::Ended::run_by))]
 pub fn run_block(
     alloc: Global,
     part: &mut Partial,
