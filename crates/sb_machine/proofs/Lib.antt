@@ -33,3 +33,4 @@ pub mod Writing
 pub mod DumpParts
 pub mod Dumped
 pub mod Ran
+pub mod LandingRegisters

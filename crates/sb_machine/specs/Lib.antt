@@ -11,3 +11,4 @@ pub mod Ran
 pub mod Dump
 pub mod Translations
 pub mod Writing
+pub mod Landing

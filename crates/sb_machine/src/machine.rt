@@ -5,6 +5,7 @@ ghost use Rattle.sb_load.specs.FirstState.{first_state};
 ghost use Rattle.sb_memory.specs.Physical.{frame_count};
 ghost use Rattle.sb_trace.specs.State.{State, thread_at};
 ghost use Rattle.sb_machine.specs.Counts.{CountsLine};
+ghost use Rattle.sb_machine.specs.Landing.{HaveLandingRegisters};
 ghost use Rattle.sb_machine.specs.Laws.{Follows};
 ghost use Rattle.sb_machine.specs.Machine.{core_at};
 ghost use Rattle.sb_machine.specs.Ran.{HasRun};
@@ -69,6 +70,7 @@ impl Machine {
         ensures step { Steps self.old core result.event self.new }
         ensures plain { (state : State) → IsMachineOf self.old state → Follows self.new state core result.event }
         ensures translations { KeepsTranslations result.event self.old self.new }
+        ensures landing { HaveLandingRegisters self.new }
         ensures stands { (state : State) × IsMachineOf self.new state }
         ensures counts { CountsLine self.old core self.new }
         ensures cores { length self.new.cores ≡ length self.old.cores }
