@@ -1,5 +1,5 @@
 -- Each thread in flight has the registers of its phase, by the words that its core loads.
-use Rattle.std.proofs.Common.{◌≡◌, ◌≢◌, ◌∙◌, sym, ap, subst, ℕ, ◌+◌, ◌%◌, ◌^◌, ◌<◌, ◌==◌, false, length, refl, arith, Result, Ok}
+use Rattle.std.proofs.Common.{◌≡◌, ◌∙◌, sym, ap, subst, ℕ, ◌+◌, ◌<◌, ◌==◌, false, length, refl, arith, Result, Ok}
 use Rattle.std.proofs.Math.Path.{fun_ext}
 use Rattle.std.specs.Prelude.{Option, Some, None}
 use Rattle.std.specs.Option.{option_map}
@@ -30,7 +30,6 @@ use Rattle.sb_trace.specs.Windows.{page_for}
 use Rattle.sb_trace.proofs.Threads.{bound_there}
 use Rattle.sb_landing.specs.AtPhase.{AtPhase, AtPhaseBy, kept_regs, landing_of, record_word}
 use Rattle.sb_landing.specs.Related.{IsBeside}
-use Rattle.sb_landing.specs.Rows.{address_of}
 use Rattle.sb_landing.proofs.Bound.{HasPages, binding_pages, flight_sound}
 use Rattle.sb_landing.proofs.Exchange.{not_zero}
 use Rattle.sb_landing.proofs.Ground.{server_shown}
@@ -41,7 +40,7 @@ use Rattle.sb_shows.specs.Shows.{index_of, present_index}
 use Rattle.sb_shows.proofs.Bytes.{bytes_same}
 use Rattle.sb_machine.specs.declared.processor.Core.{Core}
 use Rattle.sb_machine.specs.Landing.{LoadsWord, IsKept, IsStart, flight_in_view, HasLandingRegisters, HaveLandingRegisters}
-use Rattle.sb_machine.specs.End.{plain_regs, plain_regs_by, decided_regs}
+use Rattle.sb_machine.specs.End.{plain_regs, plain_regs_by}
 use Rattle.sb_machine.specs.Machine.{Machine, core_at, regs_of, view_at}
 use Rattle.sb_machine.specs.Phase.{phase_at}
 use Rattle.sb_machine.specs.StandsFor.{IsCoreOf, IsMachineOf, origin_by}

@@ -34,3 +34,9 @@ pub mod DumpParts
 pub mod Dumped
 pub mod Ran
 pub mod LandingRegisters
+pub mod NamedPages
+pub mod OtherCores
+pub mod OtherPages
+pub mod StepLines
+pub mod OtherPools
+pub mod Apart

@@ -1,19 +1,30 @@
--- The landing of a call, said of the machine alone: the registers of a thread in flight.
-use Rattle.std.specs.Prelude.{◌≡◌, ◌≢◌, ℕ, ◌+◌, ◌^◌, ◌<◌, Bool, Option, Some, None, Ok}
-use Rattle.sb_abi.specs.declared.trampoline.TheConstants.{COMPARE_KEY, RECORD_ADDRESS, VMFUNC_ADDRESS}
-use Rattle.sb_memory.specs.declared.address.Access.TheVariants.{Read}
+-- The landing of a call, said of the machine alone: the registers of a thread in flight, and what the step of another core leaves of
+-- all that it looks at.
+use Rattle.std.specs.Prelude.{◌≡◌, ◌≢◌, ◌⊎◌, ℕ, ◌+◌, ◌-◌, ◌/◌, ◌^◌, ◌<◌, ◌≤◌, length, Bool, Option, Some, None, Ok}
+use Rattle.sb_abi.specs.declared.trampoline.TheConstants.{COMPARE_KEY, POOL_ADDRESS, POOL_PAGE, RECORD_ADDRESS, RECORD_PAGE, TRAMPOLINE_PAGE, VMFUNC_ADDRESS}
+use Rattle.sb_memory.specs.declared.address.Access.{Access}
+use Rattle.sb_memory.specs.declared.address.Access.TheVariants.{Read, Write}
+use Rattle.sb_memory.specs.declared.address.PhysAddr.{PhysAddr}
+use Rattle.sb_memory.specs.declared.page.TheConstants.{PAGE_SIZE}
 use Rattle.sb_insn.specs.declared.registers.Regs.{Regs}
 use Rattle.sb_bus.specs.Access.{byte_for, loaded_from}
-use Rattle.sb_nested.specs.View.{view_byte}
+use Rattle.sb_nested.specs.View.{View, view_byte}
 use Rattle.sb_state.specs.Registers.{eax, ecx, rsi}
 use Rattle.sb_state.specs.declared.state.Decision.{Decision}
 use Rattle.sb_state.specs.declared.state.Flight.{Flight}
+use Rattle.sb_trace.specs.KernelCall.{lowest_bit}
 use Rattle.sb_trace.specs.Sound.{IsMask}
+use Rattle.sb_trace.specs.declared.event.Event.{Event}
+use Rattle.sb_trace.specs.declared.event.Event.TheVariants.{Entered, Extra, Step, Stray}
 use Rattle.sb_landing.specs.AtPhase.{AtPhaseBy}
+use Rattle.sb_shows.specs.Shows.{LeadsTo, seen_through}
 use Rattle.sb_machine.specs.declared.processor.Core.{Core}
 use Rattle.sb_machine.specs.End.{plain_regs}
-use Rattle.sb_machine.specs.Machine.{Machine, core_at, state_at, regs_of, view_at}
+use Rattle.sb_machine.specs.Machine.{Machine, core_at, state_at, regs_of, view_at, words_of}
 use Rattle.sb_machine.specs.Phase.{phase_at}
+use Rattle.sb_machine.specs.Translations.{IsPointer, list_word}
+
+-- ---- the registers of a thread in flight
 
 -- the thread of a core is in flight, at this phase
 abbrev pub IsAtPhase : Machine → ℕ → ℕ → Type 0
@@ -73,3 +84,68 @@ pub record HasLandingRegisters (machine : Machine) (number phase : ℕ) : Type 0
 abbrev pub HaveLandingRegisters : Machine → Type 0
 HaveLandingRegisters machine =
     (number phase : ℕ) → IsAtPhase machine number phase → HasLandingRegisters machine number phase
+
+-- ---- what the step of another core leaves
+
+-- what a core sees through an entry of its list
+abbrev pub seen_at : Machine → ℕ → ℕ → View
+seen_at machine core index = seen_through machine.memory (words_of machine core) index
+
+-- through it each address of a page gives the byte that it gave, or the fault
+abbrev pub BytesStay : Machine → Machine → ℕ → ℕ → ℕ → Type 0
+BytesStay old new core index page =
+    (address : ℕ) (access : Access) → address / PAGE_SIZE ≡ page
+    → view_byte (seen_at new core index) address access ≡ view_byte (seen_at old core index) address access
+
+-- the page stays where it is too: each of its addresses that led to a place leads there
+pub record PageStays (old new : Machine) (core index page : ℕ) : Type 0 where
+  pub bytes : BytesStay old new core index page
+  pub places : (address : ℕ) (access : Access) (place : PhysAddr) → address / PAGE_SIZE ≡ page
+      → LeadsTo (seen_at old core index) access address place → LeadsTo (seen_at new core index) access address place
+
+-- the present view of a core leads to the pool page that another one sees through an entry of its list
+abbrev pub SharesPool : Machine → ℕ → ℕ → ℕ → Type 0
+SharesPool machine core other index =
+    (place : PhysAddr) × LeadsTo (view_at machine core) Write POOL_ADDRESS place
+    × LeadsTo (seen_at machine other index) Write POOL_ADDRESS place
+
+-- the pool word that is seen there
+abbrev pub SeesPool : Machine → ℕ → ℕ → ℕ → Type 0
+SeesPool machine core index word = loaded_from (byte_for (view_byte (seen_at machine core index)) Read) POOL_ADDRESS 8 ≡ Ok word
+
+-- of the pool word the lowest bit is taken, and the rest of the page stays
+pub record LosesStack (old new : Machine) (core index slot : ℕ) : Type 0 where
+  pub word : ℕ
+  pub was : SeesPool old core index word
+  pub some : word ≢ 0
+  pub lowest : slot ≡ lowest_bit word
+  pub now : SeesPool new core index (word - 2 ^ slot)
+  pub rest : (address : ℕ) (access : Access) → address / PAGE_SIZE ≡ POOL_PAGE → POOL_ADDRESS + 8 ≤ address
+      → view_byte (seen_at new core index) address access ≡ view_byte (seen_at old core index) address access
+
+-- The pool page of a server that another core sees, by the line of a core's step: an instruction may write it where the core's view
+-- shows that server, an entry takes a stack of it where it enters that server, and each other step leaves its bytes.
+abbrev pub PoolAfter : Event → Machine → Machine → ℕ → ℕ → ℕ → Type 0
+PoolAfter (Step rip) old new core other index = BytesStay old new other index POOL_PAGE ⊎ SharesPool old core other index
+PoolAfter (Extra rip) old new core other index = BytesStay old new other index POOL_PAGE ⊎ SharesPool old core other index
+PoolAfter (Stray rip) old new core other index = BytesStay old new other index POOL_PAGE ⊎ SharesPool old core other index
+PoolAfter (Entered entered slot) old new core other index =
+    BytesStay old new other index POOL_PAGE ⊎ LosesStack old new other index slot
+PoolAfter _ old new core other index = BytesStay old new other index POOL_PAGE
+
+-- What a step of a core, with this line, leaves of another core.
+pub record LeavesCore (event : Event) (old new : Machine) (core other : ℕ) : Type 0 where
+  -- its registers, its words, its view and phase, the registers that it keeps of the VMFUNC, and how its thread has ended
+  pub same : core_at new other ≡ core_at old other
+  -- each entry of its list
+  pub list : (index : ℕ) → index < 512 → list_word new other index ≡ list_word old other index
+  -- through each pointer of the list the trampoline page and the record page, in their frames
+  pub trampoline : (index : ℕ) → IsPointer old other index → PageStays old new other index TRAMPOLINE_PAGE
+  pub words : (index : ℕ) → IsPointer old other index → PageStays old new other index RECORD_PAGE
+  -- and through each one to a server its pool page, but for what the line permits
+  pub pool : (index : ℕ) → IsPointer old other index → index ≢ 0 → PoolAfter event old new core other index
+
+-- each other core
+abbrev pub LeavesCores : Event → ℕ → Machine → Machine → Type 0
+LeavesCores event core old new =
+    (other : ℕ) → other ≢ core → other < length old.cores → LeavesCore event old new core other
