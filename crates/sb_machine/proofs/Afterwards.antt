@@ -70,7 +70,8 @@ module _ (old new : Machine) (state next : State) (number : ℕ) (event : Event)
       → list_entry stands.placement.root n index ≡ list_entry is.stands.placement.root n index
   entry_stays n index shows =
       ap (λ root. list_entry root n index) stands.rooted
-      ∙ (ap entry_of_index (lists.views n index (set_is n index shows)) ∙ sym (ap (λ root. list_entry root n index) is.stands.rooted))
+      ∙ (ap entry_of_index (lists.views n index (set_is n index shows))
+      ∙ sym (ap (λ root. list_entry root n index) is.stands.rooted))
 
   -- ---- the words
 

@@ -1,9 +1,10 @@
 -- Each thread in flight has the registers of its phase, by the words that its core loads.
-use Rattle.std.proofs.Common.{◌≡◌, ◌∙◌, sym, ap, subst, ℕ, ◌+◌, ◌<◌, ◌==◌, false, length, refl, arith, Result, Ok}
+use Rattle.std.proofs.Common.{◌≡◌, ◌∙◌, sym, ap, subst, ℕ, ◌+◌, ◌<◌, ◌==◌, Bool, false, length, refl, arith, Result, Ok}
 use Rattle.std.proofs.Math.Path.{fun_ext}
 use Rattle.std.specs.Prelude.{Option, Some, None}
 use Rattle.std.specs.Option.{option_map}
 use Rattle.std.proofs.lemmas.Option.{slice_get_within}
+use Rattle.sb_abi.specs.declared.space.TheConstants.{FIRST_STACK_TOP}
 use Rattle.sb_abi.specs.declared.trampoline.TheConstants.{RECORD_ADDRESS}
 use Rattle.sb_memory.specs.declared.address.Access.TheVariants.{Read}
 use Rattle.sb_insn.specs.declared.registers.Regs.{Regs}
@@ -21,10 +22,10 @@ use Rattle.sb_state.specs.declared.state.Flight.{Flight}
 use Rattle.sb_state.specs.declared.state.Thread.{Thread}
 use Rattle.sb_tramp.specs.declared.record_words.RecordWords.{RecordWords}
 use Rattle.sb_trace.specs.End.{phase_of}
-use Rattle.sb_trace.specs.KernelCall.{handler_in}
+use Rattle.sb_trace.specs.KernelCall.{binding_with, handler_in}
 use Rattle.sb_trace.specs.Sound.{IsInFlight, IsThreadOfFlight}
 use Rattle.sb_trace.specs.Start.{record_bytes}
-use Rattle.sb_trace.specs.State.{State, find_page, thread_at, flight_at, registration_at}
+use Rattle.sb_trace.specs.State.{State, find_page, thread_at, flight_at, registration_at, registration_of}
 use Rattle.sb_trace.specs.SyscallBind.{server_words}
 use Rattle.sb_trace.specs.Windows.{page_for}
 use Rattle.sb_trace.proofs.Threads.{bound_there}
@@ -36,18 +37,22 @@ use Rattle.sb_landing.proofs.Ground.{server_shown}
 use Rattle.sb_landing.proofs.Loads.{record_seen, key_loaded, base_loaded, handler_loaded}
 use Rattle.sb_landing.proofs.Steps.{at_row, record_has}
 use Rattle.sb_landing.proofs.Words as page_words
-use Rattle.sb_shows.specs.Shows.{index_of, present_index}
+use Rattle.sb_shows.specs.Shows.{IsEntryFor, IsView, index_of, present_index}
+use Rattle.sb_sub.specs.Kernel.{Seat, seat_in}
+use Rattle.sb_sub.specs.Refusals.{process_in}
 use Rattle.sb_shows.proofs.Bytes.{bytes_same}
 use Rattle.sb_machine.specs.declared.processor.Core.{Core}
-use Rattle.sb_machine.specs.Landing.{LoadsWord, IsKept, IsStart, flight_in_view, HasLandingRegisters, HaveLandingRegisters}
-use Rattle.sb_machine.specs.End.{plain_regs, plain_regs_by}
-use Rattle.sb_machine.specs.Machine.{Machine, core_at, regs_of, view_at}
+use Rattle.sb_machine.specs.Landing.{LoadsWord, KeepsStart, IsStart, flight_in, handler_now, HasLandingRegisters, HaveLandingRegisters}
+use Rattle.sb_machine.specs.End.{handler_shown, plain_regs}
+use Rattle.sb_machine.specs.Translations.{IsPointer, list_word}
+use Rattle.sb_machine.specs.Machine.{Machine, core_at, state_at, regs_of, view_at}
 use Rattle.sb_machine.specs.Phase.{phase_at}
 use Rattle.sb_machine.specs.StandsFor.{IsCoreOf, IsMachineOf, origin_by}
-use Rattle.sb_machine.proofs.Decided.{decided_are}
+use Rattle.sb_machine.proofs.Ending.{regs_same, seat_same, server_from, shows, told}
 use Rattle.sb_machine.proofs.Phases.{phase_read}
-use Rattle.sb_machine.proofs.Present.{thread_sound}
+use Rattle.sb_machine.proofs.Present.{own_shown, thread_is, thread_sound}
 use Rattle.sb_machine.proofs.Seen.{sees, small}
+use Rattle.sb_machine.proofs.Shown.{machines_show}
 
 module _ (machine : Machine) (state : State) (is : IsMachineOf machine state) (number : ℕ)
     (flight : Flight) (flying : flight_at state number ≡ Some flight) where
@@ -101,7 +106,7 @@ module _ (machine : Machine) (state : State) (is : IsMachineOf machine state) (n
       record_has state number flight.index 0 pages.words.0 (record_bytes words) page_there pages.words.2
       ∙ page_words.key_in words pages.key
 
-  top_is : record_word state number flight.index 8 ≡ 0x4003FF8
+  top_is : record_word state number flight.index 8 ≡ FIRST_STACK_TOP
   top_is =
       record_has state number flight.index 8 pages.words.0 (record_bytes words) page_there pages.words.2
       ∙ page_words.base_in words (omega arith)
@@ -141,40 +146,64 @@ module _ (machine : Machine) (state : State) (is : IsMachineOf machine state) (n
   loads_handler : LoadsWord machine number (RECORD_ADDRESS + 0x10) (word_of 0x10)
   loads_handler = loads 0x70002010 (word_of 0x10) (handler_loaded state number flight.index seen)
 
+  -- the key is that of the binding, and the handler that which the Subkernel keeps
+  loads_binding : LoadsWord machine number RECORD_ADDRESS binding.key
+  loads_binding = subst (LoadsWord machine number RECORD_ADDRESS) key_is loads_key
+
+  handler_is : word_of 0x10 ≡ handler_now machine number
+  handler_is =
+      record_has state number flight.index 0x10 pages.words.0 (record_bytes words) page_there pages.words.2
+      ∙ (page_words.handler_in words pages.handler
+      ∙ sym (ap (handler_shown machine number) own.view
+      ∙ (ap (λ (process : ℕ). handler_in (registration_of (process_in machine.kernel process)))
+      (shows machine state is number there flight.index ∙ server_from thread flight.index binding away flies.bound)
+      ∙ ap handler_in (told machine state is number there binding.server))))
+
+  bound_is : binding_with (seat_in machine.kernel number).bindings (state_at machine number).view ≡ Some binding
+  bound_is =
+      ap (λ (seat : Seat). binding_with seat.bindings (state_at machine number).view)
+      (seat_same machine state is number there)
+      ∙ (ap (binding_with thread.bindings) own.view ∙ flies.bound)
+
   -- ---- the registers at the VMFUNC
 
-  kept_by : (start : Regs) → thread.regs ≡ start → flight.decided ≡ None → IsKept core flight.phase (word_of 0) start
+  own_view : IsView state number thread.view
+  own_view =
+      let view = is.sound.views number in
+      (view.0, own_shown state number view.0 (thread_is state number (small machine state is number there)) view.1)
+
+  from : IsPointer machine number thread.view
+  from =
+      let few = (is.stands.keeps.leads.views number thread.view own_view.0 own_view.1).few in
+      let below : thread.view < 512 = omega (arith, few) in
+      record {
+        core_is = there;
+        index_is = below;
+        pointer = subst (λ found. IsEntryFor found (list_word machine number thread.view)) own_view.1
+            ((machines_show machine state is).entries number thread.view (small machine state is number there) below);
+      }
+
+  kept_by : (start : Regs) → thread.regs ≡ start → flight.decided ≡ None
+      → KeepsStart machine number flight.phase binding.key start
   kept_by start same none =
       let stage = subst (λ found. IsThreadOfFlight found thread flight binding) none flies.stage in
       let small_rip = (thread_sound state number is.sound (small machine state is number there)).words.rip in
       let address = stage.0.address in
       let rip : thread.regs.rip ≡ 0x70000040 = omega (arith, address, small_rip) in
-      subst (IsKept core flight.phase (word_of 0)) same (record {
+      subst (KeepsStart machine number flight.phase binding.key) same (record {
         view = thread.view;
         origin = own.origin ∙ ap (origin_by thread) none;
+        from = from;
         address = rip;
         leaf = stage.0.leaf;
         index = stage.0.names ∙ sym own.view;
-        fits = λ behind. stage.1 behind ∙ sym key_is;
+        fits = stage.1;
       })
 
   start_by : (decided : Option Decision) (start : Regs) → flight.decided ≡ decided
-      → (decided ≡ None → thread.regs ≡ start) → IsStart decided core flight.phase (word_of 0) start
+      → (decided ≡ None → thread.regs ≡ start) → IsStart decided machine number flight.phase binding.key start
   start_by None start is_it same = kept_by start (same refl) is_it
   start_by (Some decided) start is_it same = own.origin ∙ ap (origin_by thread) is_it
-
-  -- ---- the registers of the call in one step
-
-  shown_by : (decided : Option Decision) → flight.decided ≡ decided → thread.regs ≡ plain_regs core (word_of 0x10)
-  shown_by None is_it =
-      let origin = own.origin ∙ ap (origin_by thread) is_it in
-      sym (ap (λ kept. plain_regs_by kept core.state.phase core.state.regs (word_of 0x10)) origin)
-  shown_by (Some decided) is_it =
-      let origin = own.origin ∙ ap (origin_by thread) is_it in
-      sym (ap (λ kept. plain_regs_by kept core.state.phase core.state.regs (word_of 0x10)) origin
-      ∙ (ap (λ phase. plain_regs_by None phase core.state.regs (word_of 0x10)) own.phase
-      ∙ decided_are state number flight decided (is.begun number).start (is.begun number).failed (regs_of machine number)
-      is_it held top_is))
 
   -- ---- all of it
 
@@ -183,18 +212,28 @@ module _ (machine : Machine) (state : State) (is : IsMachineOf machine state) (n
       ap phase_at (at_row state number flight (is.begun number).start (is.begun number).failed (regs_of machine number) held)
       ∙ phase_read thread flight flies
 
-  in_view : flight ≡ flight_in_view core flight.phase flight.mask flight.decided
+  in_view : flight ≡ flight_in (state_at machine number).view flight.phase flight.mask flight.decided
   in_view = ap (λ (index : ℕ). record flight { index = index }) (sym own.view)
+
+  at_by : (top handler : ℕ) (kept : Regs) (one : Flight) → word_of 8 ≡ top → word_of 0x10 ≡ handler → thread.regs ≡ kept
+      → flight ≡ one → AtPhaseBy top handler kept one (is.begun number).start (is.begun number).failed (regs_of machine number)
+  at_by top handler kept one first second third fourth =
+      let start : Regs = (is.begun number).start in
+      let failed : Bool = (is.begun number).failed in
+      let real : Regs = regs_of machine number in
+      subst (λ (n : ℕ). AtPhaseBy n handler kept one start failed real) first
+      (subst (λ (n : ℕ). AtPhaseBy (word_of 8) n kept one start failed real) second
+      (subst (λ (regs : Regs). AtPhaseBy (word_of 8) (word_of 0x10) regs one start failed real) third
+      (subst (λ (one : Flight). AtPhaseBy (word_of 8) (word_of 0x10) thread.regs one start failed real) fourth held)))
 
   has_registers : HasLandingRegisters machine number flight.phase
   has_registers = record {
     stands = stands_by;
-    key = word_of 0;
-    loads_key = loads_key;
-    top = word_of 8;
-    loads_top = loads_top;
-    handler = word_of 0x10;
-    loads_handler = loads_handler;
+    binding = binding;
+    bound = bound_is;
+    loads_key = loads_binding;
+    loads_top = subst (LoadsWord machine number (RECORD_ADDRESS + 8)) top_is loads_top;
+    loads_handler = subst (LoadsWord machine number (RECORD_ADDRESS + 0x10)) handler_is loads_handler;
     decided = flight.decided;
     start = (is.begun number).start;
     is_start = start_by flight.decided (is.begun number).start refl (λ none.
@@ -203,10 +242,9 @@ module _ (machine : Machine) (state : State) (is : IsMachineOf machine state) (n
     word = flies.word;
     chosen = flies.mask;
     failed = (is.begun number).failed;
-    at = subst (λ (one : Flight). AtPhaseBy (word_of 8) (word_of 0x10) (plain_regs core (word_of 0x10)) one
-        (is.begun number).start (is.begun number).failed (regs_of machine number)) in_view
-        (subst (λ (kept : Regs). AtPhaseBy (word_of 8) (word_of 0x10) kept flight (is.begun number).start
-        (is.begun number).failed (regs_of machine number)) (shown_by flight.decided refl) held);
+    at = at_by FIRST_STACK_TOP (handler_now machine number) (plain_regs (core_at machine number) (handler_now machine number))
+        (flight_in (state_at machine number).view flight.phase flight.mask flight.decided) top_is handler_is
+        (sym (regs_same machine state is number there)) in_view;
   }
 
 registers_by : (machine : Machine) (state : State) (is : IsMachineOf machine state) (number phase : ℕ) (found : Option Flight)
