@@ -233,7 +233,7 @@ module _ (machine : Machine) (state : State) (is : IsMachineOf machine state) (n
       (outcome machine state is number there flight flying law).0 core
       (begun_behind (flight_at end number) (is.begun number)) is there steps
       (stands_moved machine.kernel machine.root machine.book machine.memory state end moved is.stands)
-      (record { lists = λ n. refl; entries = λ n view set. refl })
+      (record { lists = λ n. refl; views = λ n view set. refl })
       (record {
         cr3 = refl;
         list = refl;
