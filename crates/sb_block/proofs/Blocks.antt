@@ -1,8 +1,7 @@
 -- So many steps over copies are a block, and a block is a run of each memory that holds what it read.
-use Rattle.std.proofs.Common.{◌≡◌, ap, sym, subst, ◌∙◌, ℕ, ◌/◌, ◌*◌, ◌==◌, Bool, true, false, List, [], ◌∷◌, length, map, refl, arith}
+use Rattle.std.proofs.Common.{◌≡◌, ap, sym, subst, ◌∙◌, ℕ, ◌*◌, ◌==◌, List, [], ◌∷◌, length, refl, arith}
 use Rattle.std.proofs.lemmas.Bool.Decides.{nat_tests}
 use Rattle.sb_memory.specs.Physical.{Physical, IsPhysical, HasAllFrames, frame_count}
-use Rattle.sb_memory.specs.Words.{word_at}
 use Rattle.sb_memory.specs.declared.page.TheConstants.{PAGE_SIZE}
 use Rattle.sb_trace.specs.declared.event.Event.{Event}
 use Rattle.sb_machine.specs.declared.processor.CoreState.{CoreState}
@@ -12,10 +11,11 @@ use Rattle.sb_machine.specs.Machine.{no_account}
 use Rattle.sb_machine.specs.Seens.{Holds, HoldsWords as HoldsSeens, ChangesWords, has_word_of, seen_core, seen_word, seen_words}
 use Rattle.sb_agree.specs.Noted.{Noted, nothing, noted_rule, has_word, word_of}
 use Rattle.sb_agree.specs.Held.{Agrees, HoldsWords}
-use Rattle.sb_agree.proofs.Held.{starts, writes_held, with_all_frames, count_of_all, physical_with_all, has_all_frames, holds_with_all}
+use Rattle.sb_agree.proofs.Held.{starts, writes_held, with_all_frames, count_of_all, physical_with_all, has_all_frames}
 use Rattle.sb_block.specs.Run.{at, CoreRuns}
 use Rattle.sb_block.specs.Block.{IsBlock, IsWhole}
-use Rattle.sb_block.proofs.Steps.{alone, RunAlike, runs_alike, runs_unnoted}
+use Rattle.sb_block.proofs.Steps.{RunAlike, runs_alike}
+use Rattle.sb_block.proofs.Unnoted.{alone, runs_unnoted}
 
 -- ---- words that are seen
 
@@ -117,10 +117,10 @@ pub block_runs : (frames number : ℕ) (before : CoreState) (events : List Event
     → Holds number before other reads → RunsOver before events after writes other
 block_runs frames number before events after reads writes block other whole held =
     let noted = block.noted in
-    let held' = (subst (λ (seens : List Seen). Holds number before other seens) block.saw held).1 in
+    let standing = (subst (λ (seens : List Seen). Holds number before other seens) block.saw held).1 in
     let run =
     runs_over number before events after block.memory block.ended noted other (whole.count ∙ sym block.whole.count)
-    block.whole.sound whole.sound whole.all held' block.runs in
+    block.whole.sound whole.sound whole.all standing block.runs in
     record {
       last = run.ended;
       runs = runs_unnoted events (at before other nothing) (at after run.ended noted) run.runs;

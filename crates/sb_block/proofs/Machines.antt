@@ -1,47 +1,41 @@
 -- Steps of a core over the memory of a machine are steps of the machine that the core makes by itself.
-use Rattle.std.proofs.Common.{◌≡◌, ap, sym, subst, ◌∙◌, ℕ, zero, suc, ◌<◌, ◌==◌, ◌&&◌, not, Bool, true, false, List, [], ◌∷◌, length, inl, inr, refl, arith, slice_set}
-use Rattle.std.specs.Prelude.{Option, Some, None, Result, Ok, Err, IsTrue, if◌then◌else◌, slice_get, slice_index, unwrap_or}
-use Rattle.std.proofs.lemmas.List.{set-set, length-set}
+use Rattle.std.proofs.Common.{◌≡◌, ap, sym, subst, ◌∙◌, ℕ, ◌<◌, ◌==◌, ◌&&◌, not, Bool, true, false, List, [], ◌∷◌, inl, inr, refl}
+use Rattle.std.specs.Prelude.{Option, Some, None, Result, Ok, Err, IsTrue, if◌then◌else◌, slice_index}
+use Rattle.std.proofs.lemmas.List.{length-set}
 use Rattle.sb_abi.specs.declared.trampoline.TheConstants.{COMPARE_KEY, LOAD_POOL, EXCHANGE_POOL}
 use Rattle.sb_memory.specs.Physical.{Physical}
-use Rattle.sb_memory.specs.declared.address.Missing.{Missing}
 use Rattle.sb_insn.specs.declared.insn.Insn.{Insn}
 use Rattle.sb_insn.specs.declared.registers.Regs.{Regs}
 use Rattle.sb_bus.specs.declared.stop.BusStop.{BusStop}
 use Rattle.sb_exec.specs.declared.action.Effect.{Effect}
-use Rattle.sb_exec.specs.declared.action.Effect.TheVariants as effect
 use Rattle.sb_exec.specs.Execution.{Execution}
-use Rattle.sb_exec.specs.Fetching.{FetchesOn}
 use Rattle.sb_nested.specs.View.{View}
-use Rattle.sb_nested.specs.Store.{view_interface}
-use Rattle.sb_root.specs.declared.switch_answer.Switch.{Switch}
-use Rattle.sb_root.specs.declared.switch_answer.Switch.TheVariants as switch
 use Rattle.sb_state.specs.Registers.{ecx}
 use Rattle.sb_state.specs.declared.end_kind.EndKind.{EndKind}
-use Rattle.sb_state.specs.declared.end_kind.EndKind.TheVariants.{Running}
 use Rattle.sb_state.proofs.Cases.{claim_if}
 use Rattle.sb_trace.specs.declared.event.Event.{Event}
-use Rattle.sb_trace.specs.declared.event.Event.TheVariants as event
 use Rattle.sb_machine.specs.declared.processor.Core.{Core}
 use Rattle.sb_machine.specs.declared.processor.CoreState.{CoreState}
 use Rattle.sb_machine.specs.declared.processor.Origin.{Origin}
-use Rattle.sb_machine.specs.Machine.{Machine, no_core, core_at, state_at, with_core, view_at, no_account}
-use Rattle.sb_machine.specs.Outcomes.{Outcome, line_by, core_behind, next_outcome, home_line, home_state, regs_behind, core_in_flight, homecoming, departure, switch_outcome_by, count_made, with_line}
+use Rattle.sb_machine.specs.Machine.{Machine, core_at, state_at, no_account}
+use Rattle.sb_machine.specs.Outcomes.{Outcome, line_by, core_behind, home_line, home_state, regs_behind, core_in_flight, switch_outcome_by, count_made}
 use Rattle.sb_machine.specs.OwnSteps.{is_own, OwnSteps, HasRunningCore}
-use Rattle.sb_machine.specs.Written.{PerformsBy, RunsOn, StepsBy, Steps}
-use Rattle.sb_machine.proofs.Cores.{own_core}
+use Rattle.sb_machine.specs.Written.{FetchesNext, PerformsBy, RunsOn, StepsBy, Steps}
 use Rattle.sb_block.specs.Step.{At, CoreOutcome, Made, CoreSteps, core_execution, fetch_outcome}
-use Rattle.sb_block.specs.Run.{at, CoreRuns}
+use Rattle.sb_block.specs.Run.{CoreRuns}
 use Rattle.sb_block.specs.Block.{BlocksHold}
-use Rattle.sb_block.proofs.Made.{view_line, view_core, GoesOn, Switches, IsMade, made_by, not_stopped}
-use Rattle.sb_block.proofs.Steps.{alone}
+use Rattle.sb_block.proofs.Made.{view_line, GoesOn, Switches, IsMade, made_by, not_stopped}
+use Rattle.sb_block.proofs.Puts.{machine_with, core_with, put_back, core_put, put_over, line_counted}
+use Rattle.sb_block.proofs.Unnoted.{alone}
 use Rattle.sb_block.proofs.Blocks.{block_runs}
 
--- ---- lines of steps that a core makes by itself
+-- ---- the lines of such steps
 
+-- one of a step that a core makes by itself
 abbrev IsOwn : Event → Type 0
 IsOwn line = IsTrue (is_own line)
 
+-- the line of an instruction that goes on
 own_line : (phase : Option ℕ) (view rip : ℕ) (regs : Regs) → IsOwn (line_by phase view rip regs)
 own_line None view rip regs = refl
 own_line (Some phase) view rip regs =
@@ -49,54 +43,14 @@ own_line (Some phase) view rip regs =
     (λ _. claim_if IsOwn ((phase == LOAD_POOL) && (slice_index regs.general 0 == 0)) _ _ (λ _. refl)
     (λ _. claim_if IsOwn ((phase == EXCHANGE_POOL) && regs.flags.zf) _ _ (λ _. refl) (λ _. refl)))
 
+-- the line of a way into the home view
 own_home : (phase : Option ℕ) (view : ℕ) → IsOwn (home_line phase view)
 own_home None view = claim_if IsOwn (view == 0) _ _ (λ _. refl) (λ _. refl)
 own_home (Some phase) view = refl
 
+-- the line of a VMFUNC into a view
 own_view : (core : CoreState) (index : ℕ) → IsOwn (view_line core index)
 own_view core index = claim_if IsOwn (index == 0) _ _ (λ _. own_home core.phase core.view) (λ _. refl)
-
--- ---- a core and a memory that are put
-
--- a machine with this core and this memory
-abbrev pub machine_with : Machine → ℕ → Core → Physical → Machine
-machine_with machine number core memory = record (with_core machine number core) { memory = memory }
-
--- a core with this state, and this place at the VMFUNC of its call
-abbrev pub core_with : Core → CoreState → Option Origin → Core
-core_with core state origin = record core { state = state; origin = origin }
-
--- an element that is put where it stands changes nothing
-set_back : {A : Type 0} (list : List A) (index : ℕ) (default : A) → index < length list
-    → slice_set list index (unwrap_or (slice_get list index) default) ≡ list
-set_back [] index default within = absurd (omega (arith, within))
-set_back (first ∷ list) zero default within = refl
-set_back {A} (first ∷ list) (suc index) default within =
-    ap (λ (others : List A). first ∷ others) (set_back list index default (omega arith))
-
-module _ (machine : Machine) (number : ℕ) (there : number < length machine.cores) where
-  -- the core and the memory of the machine itself
-  put_back : machine_with machine number (core_at machine number) machine.memory ≡ machine
-  unfolding core_at
-  put_back =
-      ap (λ (cores : List Core). record machine { cores = cores }) (set_back machine.cores number no_core there)
-
-  -- the core that was put
-  pub core_put : (core : Core) (memory : Physical) → core_at (machine_with machine number core memory) number ≡ core
-  core_put core memory = own_core machine (machine_with machine number core memory) number core there refl
-
-  -- a core that is put over another
-  put_over : (core other : Core) (memory later : Physical)
-      → machine_with (machine_with machine number core memory) number other later ≡ machine_with machine number other later
-  put_over core other memory later =
-      ap (λ (cores : List Core). record machine { cores = cores; memory = later }) (set-set machine.cores number core other)
-
-  -- the line is counted
-  line_counted : (core : Core) (memory : Physical)
-      → with_line (machine_with machine number core memory) number ≡ machine_with machine number (count_made core) memory
-  line_counted core memory =
-      ap (λ (one : Core). with_core (machine_with machine number core memory) number (count_made one)) (core_put core memory)
-      ∙ put_over core (count_made core) memory memory
 
 -- ---- one step
 
@@ -109,22 +63,21 @@ pub record Lifts (machine : Machine) (number : ℕ) (line : Event) (next : At (U
       (machine_with machine number (core_with (core_at machine number) next.core origin) next.memory)
 
 module _ (machine : Machine) (number : ℕ) (running : HasRunningCore machine number) (line : Event) (next : At (Unit {0})) where
-  -- the line and the machine before the line is counted
+  -- a line, and the machine with this core and this memory
   abbrev told : Event → Core → Physical → Outcome
   told one core memory = (one, machine_with machine number core memory)
 
-  module _ (insn : Insn)
-      (fetches : FetchesOn (view_interface no_account) (view_at machine number) (state_at machine number).regs.rip tt tt (Ok insn))
-      where
+  module _ (insn : Insn) (fetches : FetchesNext machine number (Ok insn)) where
+    -- what the instruction leaves
     abbrev execution : Execution View (Unit {0})
     execution = core_execution no_account (state_at machine number) insn machine.memory tt
 
-    -- an outcome of the instruction, by its answer
+    -- that the instruction comes to an outcome, by its answer
     abbrev Performed : Result Effect BusStop → Outcome → Type 0
     Performed answer outcome =
         PerformsBy machine number insn answer execution.registers execution.meaning.physical outcome
 
-    -- a core that is put, and its line counted
+    -- an outcome that puts a core and a memory, after which the line is counted
     lifts_by : (core : Core) (origin : Option Origin) (memory : Physical) → Performed execution.answer (told line core memory)
         → IsOwn line → count_made core ≡ core_with (core_at machine number) next.core origin → memory ≡ next.memory
         → Lifts machine number line next
@@ -138,8 +91,8 @@ module _ (machine : Machine) (number : ℕ) (running : HasRunningCore machine nu
             subst (λ (end : EndKind). StepsBy machine number end (told line core memory)) (sym running.running) runs,
             ap (λ (memory : Physical). machine_with machine number (core_with (core_at machine number) next.core origin) memory)
                 (sym same)
-            ∙ (ap (λ (one : Core). machine_with machine number one memory) (sym counted)
-            ∙ sym (line_counted machine number running.there core memory)),
+                ∙ (ap (λ (one : Core). machine_with machine number one memory) (sym counted)
+                ∙ sym (line_counted machine number running.there core memory)),
           );
         }
 
@@ -157,44 +110,47 @@ module _ (machine : Machine) (number : ℕ) (running : HasRunningCore machine nu
         (ap (λ (one : At (Unit {0})). core_with (core_at machine number) one.core core.origin) (sym goes.next_is))
         (ap (λ (one : At (Unit {0})). one.memory) (sym goes.next_is))
 
-    -- the core that is put by a VMFUNC into the view of this index
-    abbrev switched_core : ℕ → ℕ → Core
-    switched_core index eptp =
-        if index == 0 then
-          record (core_at machine number) {
-            state = home_state eptp (state_at machine number) (regs_behind insn (state_at machine number).regs);
-          }
-        else core_in_flight (core_at machine number) insn index eptp
+    -- the core that a VMFUNC puts, in the home view
+    abbrev core_at_home : ℕ → Core
+    core_at_home eptp =
+        record (core_at machine number) {
+          state = home_state eptp (state_at machine number) (regs_behind insn (state_at machine number).regs);
+        }
 
-    -- by whether the view is the home view: the outcome
-    switched_by : (test : Bool) (one other : Event) (home server : Core)
+    -- the core that it puts in the view of this index
+    abbrev core_in_view : ℕ → ℕ → Core
+    core_in_view index eptp =
+        if index == 0 then core_at_home eptp else core_in_flight (core_at machine number) insn index eptp
+
+    -- a line and a core by a test are told where each is told by it
+    told_if : (test : Bool) (one other : Event) (home server : Core)
         → told (if test then one else other) (if test then home else server) machine.memory
         ≡ (if test then told one home machine.memory else told other server machine.memory)
-    switched_by true one other home server = refl
-    switched_by false one other home server = refl
+    told_if true one other home server = refl
+    told_if false one other home server = refl
 
-    -- and the core
-    counted_by : (test : Bool) (home server : Core) (one other : CoreState)
+    -- so is a line that is counted
+    counted_if : (test : Bool) (home server : Core) (one other : CoreState)
         → count_made home ≡ core_with (core_at machine number) one home.origin
         → count_made server ≡ core_with (core_at machine number) other server.origin
         → count_made (if test then home else server)
         ≡ core_with (core_at machine number) (if test then one else other) (if test then home else server).origin
-    counted_by true home server one other first second = first
-    counted_by false home server one other first second = second
+    counted_if true home server one other first second = first
+    counted_if false home server one other first second = second
 
-    -- a VMFUNC
+    -- a VMFUNC into a view
     switches_lift : Switches no_account (state_at machine number) insn machine.memory execution line next
         → Lifts machine number line next
     switches_lift switches =
         let index = ecx (state_at machine number).regs in
-        let core = switched_core index switches.eptp in
+        let core = core_in_view index switches.eptp in
         lifts_by core core.origin machine.memory
         (subst (λ (answer : Result Effect BusStop). Performed answer (told line core machine.memory)) (sym switches.answer)
         (ap (λ (one : Event). told one core machine.memory) switches.line
-        ∙ (switched_by (index == 0) _ _ _ _
+        ∙ (told_if (index == 0) _ _ _ _
         ∙ ap (switch_outcome_by machine number insn index) (sym switches.list))))
         (subst IsOwn (sym switches.line) (own_view (state_at machine number) index))
-        (counted_by (index == 0) _ _ _ _ refl refl
+        (counted_if (index == 0) _ _ _ _ refl refl
         ∙ ap (λ (one : At (Unit {0})). core_with (core_at machine number) one.core core.origin) (sym switches.next_is))
         (ap (λ (one : At (Unit {0})). one.memory) (sym switches.next_is))
 
@@ -203,16 +159,16 @@ module _ (machine : Machine) (number : ℕ) (running : HasRunningCore machine nu
     made_lifts (inl goes) = goes_lifts goes
     made_lifts (inr switches) = switches_lift switches
 
-  fetch_lifts : (got : Result Insn BusStop)
-      → FetchesOn (view_interface no_account) (view_at machine number) (state_at machine number).regs.rip tt tt got
+  -- by what was fetched
+  fetch_lifts : (fetched : Result Insn BusStop) → FetchesNext machine number fetched
       → Path (CoreOutcome (Unit {0})) (Made line next)
-      (fetch_outcome no_account (state_at machine number) machine.memory tt got)
+      (fetch_outcome no_account (state_at machine number) machine.memory tt fetched)
       → Lifts machine number line next
   fetch_lifts (Ok insn) fetches made =
+      let ended = execution insn fetches in
       made_lifts insn fetches
-      (made_by line next no_account (state_at machine number) insn machine.memory (execution insn fetches)
-      (execution insn fetches).answer refl made)
-  fetch_lifts (Err one) fetches made = absurd (not_stopped line next one made)
+      (made_by line next no_account (state_at machine number) insn machine.memory ended ended.answer refl made)
+  fetch_lifts (Err why) fetches made = absurd (not_stopped line next why made)
 
   -- a step of the core is one of the machine
   pub step_lifts : CoreSteps no_account (alone (state_at machine number) machine.memory) (Made line next)
@@ -237,7 +193,7 @@ runs_lift number [] machine after running runs =
       origin = origin;
       steps = ap (λ (one : At (Unit {0})). machine_with machine number (core_with (core_at machine number) one.core origin)
           one.memory) runs
-      ∙ put_back machine number running.there;
+          ∙ put_back machine number running.there;
     }
 runs_lift number (line ∷ events) machine after running runs =
     let next = runs.0 in
@@ -245,15 +201,15 @@ runs_lift number (line ∷ events) machine after running runs =
     let core = core_with (core_at machine number) next.core step.origin in
     let mid : Machine = machine_with machine number core next.memory in
     let is : core_at mid number ≡ core = core_put machine number running.there core next.memory in
-    let running' : HasRunningCore mid number =
+    let still : HasRunningCore mid number =
     record {
       there = subst (λ (count : ℕ). number < count) (sym (length-set machine.cores number core)) running.there;
       running = ap (λ (one : Core). one.end) is ∙ running.running;
     } in
-    let runs' =
+    let onward =
     subst (λ (state : CoreState). CoreRuns no_account (alone state next.memory) events after)
     (sym (ap (λ (one : Core). one.state) is)) runs.2 in
-    let rest = runs_lift number events mid after running' runs' in
+    let rest = runs_lift number events mid after still onward in
     let same : machine_with mid number (core_with (core_at mid number) after.core rest.origin) after.memory
     ≡ machine_with machine number (core_with (core_at machine number) after.core rest.origin) after.memory =
     ap (λ (one : Core). machine_with mid number (core_with one after.core rest.origin) after.memory) is

@@ -1,12 +1,11 @@
 -- A step comes to one thing, and so many steps over the same words are one block.
-use Rattle.std.proofs.Common.{◌≡◌, ap, sym, subst, ◌∙◌, ℕ, List, [], ◌∷◌, length, refl, arith}
+use Rattle.std.proofs.Common.{◌≡◌, ap, sym, subst, ◌∙◌, List, [], ◌∷◌, length, refl, arith}
 use Rattle.std.specs.Prelude.{Result}
 use Rattle.sb_insn.specs.declared.insn.Insn.{Insn}
 use Rattle.sb_bus.specs.declared.stop.BusStop.{BusStop}
 use Rattle.sb_exec.proofs.OneFetch.{one_fetch_on}
 use Rattle.sb_nested.specs.Store.{view_interface}
 use Rattle.sb_trace.specs.declared.event.Event.{Event}
-use Rattle.sb_machine.specs.declared.processor.CoreState.{CoreState}
 use Rattle.sb_machine.specs.declared.place.Seen.{Seen}
 use Rattle.sb_machine.specs.Machine.{seen_by}
 use Rattle.sb_machine.specs.Seens.{Holds, seen_words}
@@ -55,10 +54,10 @@ one_block frames number before events others after last reads writes written one
     let held : Holds number before two.memory reads =
     subst (λ (seens : List Seen). Holds number before two.memory seens) (sym two.saw)
     ((refl, refl), holds_own number before two.memory two.noted.reads) in
-    let held' = (subst (λ (seens : List Seen). Holds number before two.memory seens) one.saw held).1 in
+    let standing = (subst (λ (seens : List Seen). Holds number before two.memory seens) one.saw held).1 in
     let run =
     runs_over number before events after one.memory one.ended one.noted two.memory (two.whole.count ∙ sym one.whole.count)
-    one.whole.sound two.whole.sound two.whole.all held' one.runs in
+    one.whole.sound two.whole.sound two.whole.all standing one.runs in
     let same =
     one_run noted_rule events others (at before two.memory nothing) (at after run.ended one.noted)
     (at last two.ended two.noted) count run.runs two.runs in

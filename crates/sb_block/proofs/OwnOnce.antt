@@ -1,5 +1,5 @@
 -- A step that a core makes by itself is one.
-use Rattle.std.proofs.Common.{◌≡◌, ap, sym, subst, ◌∙◌, ℕ, List, [], ◌∷◌, length, refl, arith}
+use Rattle.std.proofs.Common.{◌≡◌, ap, sym, subst, ◌∙◌, ℕ, [], ◌∷◌, refl, arith}
 use Rattle.std.specs.Prelude.{IsTrue, Result, Ok, Err}
 use Rattle.sb_memory.specs.Physical.{Physical}
 use Rattle.sb_insn.specs.declared.insn.Insn.{Insn}

@@ -1,5 +1,5 @@
 -- Steps of one core over physical memory, one after another.
-use Rattle.std.specs.Prelude.{ℕ, ◌≡◌, List, [], ◌∷◌}
+use Rattle.std.specs.Prelude.{◌≡◌, List, [], ◌∷◌}
 use Rattle.sb_memory.specs.Physical.{Physical}
 use Rattle.sb_trace.specs.declared.event.Event.{Event}
 use Rattle.sb_machine.specs.declared.processor.CoreState.{CoreState}
