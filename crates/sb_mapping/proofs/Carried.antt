@@ -95,7 +95,8 @@ module _ (placement : Placement) (root : RootKernel) (book : Book) (memory : Phy
     booked =
         (can_new (placement.sets process) root book memory takes.filled frame can_take takes.free takes.same takes.mapped
         (4096 * page_number name) _ takes.set_page.written
-        new book' (rights_for (mode_of name false)) (page_kind (mode_of name false), owner) takes.set_page.tables takes.exposed.written takes.exposed.stands takes.taken).booked
+        new book' (rights_for (mode_of name false)) (page_kind (mode_of name false), owner) takes.set_page.tables
+        takes.exposed.written takes.exposed.stands takes.taken).booked
 
     unused_now : (other : ℕ) → IsFree book' other → (if other == frame then Holds name else placement.purpose other) ≡ Unused
     unused_now other free =

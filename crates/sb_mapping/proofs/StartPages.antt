@@ -105,8 +105,8 @@ both_by : (first second : List Page) (placement : Placement) (processes : List �
     → BothAdded placement processes (first ++ second)
     (placed_all (placed_all placement processes first old mid adds) processes second mid new next) old new
 both_by [] second placement processes old mid new adds next =
-    subst (λ (start : Physical). BothAdded placement processes second (placed_all placement processes second mid new next) start new)
-    adds (record { adds = next; same = refl })
+    subst (λ (start : Physical). BothAdded placement processes second (placed_all placement processes second mid new next)
+    start new) adds (record { adds = next; same = refl })
 both_by (page ∷ first) second placement processes old mid new adds next =
     let rest = both_by first second (placed_with placement page.name adds.1.frame) processes adds.0 mid new adds.2 next in
     record { adds = (adds.0, adds.1, rest.adds); same = rest.same }
@@ -170,7 +170,8 @@ page_more set root process page count book between book' old mid new before one 
     let last : page count ∷ [] ≡ page (0 + count) ∷ [] = ap (λ (n : ℕ). page n ∷ []) (omega arith) in
     let next : suc count ≡ count + 1 = omega arith in
     subst (λ (pages : List Page). AddsAll set root process pages book book' old new)
-    (ap (λ (pages : List Page). pages_from page 0 count ++ pages) last ∙ (sym (pages_snoc page 0 count) ∙ ap (pages_from page 0) next))
+    (ap (λ (pages : List Page). pages_from page 0 count ++ pages) last
+    ∙ (sym (pages_snoc page 0 count) ∙ ap (pages_from page 0) next))
     (both_added set root process (pages_from page 0 count) (page count ∷ []) book between book' old mid new before one)
 
 pub heap_number : (process page : ℕ) → heap_at page ≡ 4096 * page_number (name.Heap process page)

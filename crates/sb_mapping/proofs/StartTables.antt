@@ -93,7 +93,8 @@ module _ (old between new : Book) (frames : List Frame) (count : ℕ) (frame : F
   different_by false true index other is same below low differ = λ equal.
       let apart = eqb-false index count is in
       apart_from index (omega (arith, below, apart))
-      (sym here ∙ (ap (frame_at (slice_set frames count frame)) (sym (eqb-true other count same)) ∙ (sym equal ∙ there index apart)))
+      (sym here
+      ∙ (ap (frame_at (slice_set frames count frame)) (sym (eqb-true other count same)) ∙ (sym equal ∙ there index apart)))
   different_by false false index other is same below low differ = λ equal.
       let first = eqb-false index count is in
       let second = eqb-false other count same in
@@ -348,8 +349,8 @@ set_booked old book frames root memory built new set taken stands booked first s
 
 pub set_added : (old book : Book) (frames : List Frame) (process : ℕ) (root : RootKernel) (memory built mapped new : Physical)
     (set : TableSet) → set ≡ record { root = record { 0 = 16 + process }; tables = frames } → TakesFrames old book frames 11
-    → length frames ≡ 11 → process < 16 → HasTables set built → Maps built set no_pages → SameOutside (set_frames set) memory built
-    → MapsOwnPages set built mapped → ExposesTables root set 1 11 mapped new
+    → length frames ≡ 11 → process < 16 → HasTables set built → Maps built set no_pages
+    → SameOutside (set_frames set) memory built → MapsOwnPages set built mapped → ExposesTables root set 1 11 mapped new
     → (placement : Placement) → IsOver placement root old → HasFreeRoots placement process
     → AddedTables placement process root book memory new set
 set_added old book frames process root memory built mapped new set is taken eleven few =

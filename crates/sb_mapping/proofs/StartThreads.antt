@@ -218,7 +218,8 @@ module _ (placement : Placement) (root second : RootKernel) (book between : Book
       keeps = (thread_kept (placed_list placement added.first (length state.threads) added.list.frame.0) state added.listed viewed
           second (start_thread (length state.threads) (record { home = home; address = address }))
           (home_words (length state.threads) home)
-          (list_kept placement state memory added.listed added.first (length state.threads) carries.keeps added.list).in_place.keeps
+          (list_kept placement state memory added.listed added.first (length state.threads) carries.keeps
+          added.list).in_place.keeps
           refl there served none added.view).in_place.keeps;
       rooted = added.over.rooted;
       booked = booked;

@@ -209,7 +209,8 @@ fn add_pool(
     requires some { 0 < free_count book.old }
     requires can { CanTake set.now root.old book.old memory.old }
     ensures root { root.new ≡ root.old }
-    ensures added { AddsAll set.now root.old process (page_with (Pool process) zeros ∷ []) book.old book.new memory.old memory.new }
+    ensures added { AddsAll set.now root.old process (page_with (Pool process) zeros ∷ []) book.old book.new memory.old
+        memory.new }
     ensures fewer { free_count book.new + 1 ≡ free_count book.old }
     ensures can { CanTake set.now root.new book.new memory.new }
 {

@@ -205,7 +205,8 @@ module _ (kernel : Kernel) (root : RootKernel) (book : Book) (memory : Physical)
     server_flag = ap not (sym (ne_eqb index 0 away))
 
     -- it is a view that was added to the placement
-    unfoldable pub adds_view : AddsRootView stands.placement root' number index (thread_at state number).home server words memory mid
+    unfoldable pub adds_view : AddsRootView stands.placement root' number index (thread_at state number).home server words
+        memory mid
     adds_view = record {
       before = book;
       after = between;

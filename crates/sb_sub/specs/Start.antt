@@ -56,7 +56,8 @@ HasSets placement entries count = (process : ℕ) (entry : Entry) → process < 
     → placement.sets process ≡ entry.set
 
 -- The state with all processes is carried, by their tables.
-pub record HasAllProcesses (root : RootKernel) (book : Book) (memory : Physical) (load : Load) (entries : List Entry) : Type 0 where
+pub record HasAllProcesses (root : RootKernel) (book : Book) (memory : Physical) (load : Load)
+    (entries : List Entry) : Type 0 where
   pub placement : Placement
   pub carries : Carries placement root book memory (threadless_state load)
   pub sets : (process : ℕ) (entry : Entry) → slice_get entries process ≡ Some entry → placement.sets process ≡ entry.set
