@@ -51,7 +51,7 @@ use Rattle.sb_machine.specs.StandsFor.{IsCoreOf, IsMachineOf, origin_by}
 use Rattle.sb_machine.proofs.Ending.{regs_same, seat_same, server_from, shows, told}
 use Rattle.sb_machine.proofs.Phases.{phase_read}
 use Rattle.sb_machine.proofs.Present.{own_shown, thread_is, thread_sound}
-use Rattle.sb_machine.proofs.Seen.{sees, small}
+use Rattle.sb_machine.proofs.Seeing.{sees, small}
 use Rattle.sb_machine.proofs.Shown.{machines_show}
 
 module _ (machine : Machine) (state : State) (is : IsMachineOf machine state) (number : ℕ)

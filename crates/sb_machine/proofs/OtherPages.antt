@@ -31,7 +31,7 @@ use Rattle.sb_machine.specs.StandsFor.{IsMachineOf}
 use Rattle.sb_machine.specs.Translations.{list_word}
 use Rattle.sb_machine.proofs.NamedPages.{IsInBoth, Names, byte_stays, in_both, page_named, page_stays, record_named, trampoline_name, trampoline_named}
 use Rattle.sb_machine.proofs.OtherCores.{KeepsOthers}
-use Rattle.sb_machine.proofs.Seen.{list_is, root_stands, set_view, small}
+use Rattle.sb_machine.proofs.Seeing.{list_is, root_stands, set_view, small}
 use Rattle.sb_machine.proofs.Shown.{machines_show}
 
 module _ (old new : Machine) (state next : State) (is : IsMachineOf old state) (is_next : IsMachineOf new next) (core : ℕ)

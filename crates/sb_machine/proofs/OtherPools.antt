@@ -51,7 +51,7 @@ use Rattle.sb_machine.proofs.NamedPages.{IsInBoth, Names, byte_stays, in_both, p
 use Rattle.sb_machine.proofs.OtherCores.{KeepsOthers}
 use Rattle.sb_machine.proofs.OtherPages.{bytes_stay, view_next}
 use Rattle.sb_machine.proofs.Present.{thread_is, thread_sound}
-use Rattle.sb_machine.proofs.Seen.{sees, small}
+use Rattle.sb_machine.proofs.Seeing.{sees, small}
 use Rattle.sb_machine.proofs.Shown.{machines_show}
 use Rattle.sb_machine.proofs.StepLines.{IsNoStep, flying_line}
 
