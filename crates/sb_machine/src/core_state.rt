@@ -2,7 +2,7 @@
 
 ghost use Rattle.std.specs.Prelude.{◌≡◌, ◌<◌, List, length};
 ghost use Rattle.sb_memory.specs.Frames.{frame_bytes};
-ghost use Rattle.sb_memory.specs.Physical.{IsWordPlace, frame_count};
+ghost use Rattle.sb_memory.specs.Physical.{HasAllFrames, IsPhysical, IsWordPlace, frame_count};
 ghost use Rattle.sb_memory.specs.Words.{word_at};
 ghost use Rattle.sb_memory.specs.declared.page.TheConstants.{PAGE_SIZE};
 ghost use Rattle.sb_trace.specs.State.{State};
@@ -19,7 +19,7 @@ use crate::laws::own_steps_are_plain;
 use crate::machine::Machine;
 use crate::place::Seens;
 use crate::processor::CoreState;
-use sb_memory::{Frame, PhysAddr};
+use sb_memory::{Frame, Phys, PhysAddr};
 
 impl Machine {
     /// The state of a core, with how many lines it has made.
@@ -29,6 +29,15 @@ impl Machine {
         ensures walks { HasWalks (frame_count self.now.memory) result }
     {
         self.parts.core(core).state
+    }
+
+    /// The number of frames, of which none is missing.
+    pub fn frames(&self) -> u32
+        ensures count { result ≡ frame_count self.now.memory }
+        ensures sound { IsPhysical self.now.memory }
+        ensures all { HasAllFrames self.now.memory }
+    {
+        self.parts.memory.frames()
     }
 
     /// The 4,096 bytes of a frame.
