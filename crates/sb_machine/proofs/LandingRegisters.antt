@@ -29,7 +29,7 @@ use Rattle.sb_trace.specs.State.{State, find_page, thread_at, flight_at, registr
 use Rattle.sb_trace.specs.SyscallBind.{server_words}
 use Rattle.sb_trace.specs.Windows.{page_for}
 use Rattle.sb_trace.proofs.Threads.{bound_there}
-use Rattle.sb_landing.specs.AtPhase.{AtPhase, AtPhaseBy, kept_regs, landing_of, record_word}
+use Rattle.sb_landing.specs.AtPhase.{AtPhase, AtPhaseBy, kept_regs, landing_in, record_word}
 use Rattle.sb_landing.specs.Related.{IsBeside}
 use Rattle.sb_landing.proofs.Bound.{HasPages, binding_pages, flight_sound}
 use Rattle.sb_landing.proofs.Exchange.{not_zero}
@@ -215,16 +215,19 @@ module _ (machine : Machine) (state : State) (is : IsMachineOf machine state) (n
   in_view : flight ≡ flight_in (state_at machine number).view flight.phase flight.mask flight.decided
   in_view = ap (λ (index : ℕ). record flight { index = index }) (sym own.view)
 
-  at_by : (top handler : ℕ) (kept : Regs) (one : Flight) → word_of 8 ≡ top → word_of 0x10 ≡ handler → thread.regs ≡ kept
-      → flight ≡ one → AtPhaseBy top handler kept one (is.begun number).start (is.begun number).failed (regs_of machine number)
-  at_by top handler kept one first second third fourth =
+  at_by : (key top handler : ℕ) (kept : Regs) (one : Flight) → word_of 0 ≡ key → word_of 8 ≡ top → word_of 0x10 ≡ handler
+      → thread.regs ≡ kept → flight ≡ one
+      → AtPhaseBy key top handler kept one (is.begun number).start (is.begun number).failed (regs_of machine number)
+  at_by key top handler kept one first second third fourth fifth =
       let start : Regs = (is.begun number).start in
       let failed : Bool = (is.begun number).failed in
       let real : Regs = regs_of machine number in
-      subst (λ (n : ℕ). AtPhaseBy n handler kept one start failed real) first
-      (subst (λ (n : ℕ). AtPhaseBy (word_of 8) n kept one start failed real) second
-      (subst (λ (regs : Regs). AtPhaseBy (word_of 8) (word_of 0x10) regs one start failed real) third
-      (subst (λ (one : Flight). AtPhaseBy (word_of 8) (word_of 0x10) thread.regs one start failed real) fourth held)))
+      subst (λ (n : ℕ). AtPhaseBy n top handler kept one start failed real) first
+      (subst (λ (n : ℕ). AtPhaseBy (word_of 0) n handler kept one start failed real) second
+      (subst (λ (n : ℕ). AtPhaseBy (word_of 0) (word_of 8) n kept one start failed real) third
+      (subst (λ (regs : Regs). AtPhaseBy (word_of 0) (word_of 8) (word_of 0x10) regs one start failed real) fourth
+      (subst (λ (one : Flight). AtPhaseBy (word_of 0) (word_of 8) (word_of 0x10) thread.regs one start failed real) fifth
+      held))))
 
   has_registers : HasLandingRegisters machine number flight.phase
   has_registers = record {
@@ -237,13 +240,15 @@ module _ (machine : Machine) (state : State) (is : IsMachineOf machine state) (n
     decided = flight.decided;
     start = (is.begun number).start;
     is_start = start_by flight.decided (is.begun number).start refl (λ none.
-        held.plain ∙ ap (kept_regs (landing_of (word_of 8) (word_of 0x10) flight.mask (is.begun number).start held.left)) none);
+        held.plain
+        ∙ ap (kept_regs (landing_in state number flight.index flight.mask (is.begun number).start held.left)) none);
     mask = flight.mask;
     word = flies.word;
     chosen = flies.mask;
     failed = (is.begun number).failed;
-    at = at_by FIRST_STACK_TOP (handler_now machine number) (plain_regs (core_at machine number) (handler_now machine number))
-        (flight_in (state_at machine number).view flight.phase flight.mask flight.decided) top_is handler_is
+    at = at_by binding.key FIRST_STACK_TOP (handler_now machine number)
+        (plain_regs (core_at machine number) (handler_now machine number))
+        (flight_in (state_at machine number).view flight.phase flight.mask flight.decided) key_is top_is handler_is
         (sym (regs_same machine state is number there)) in_view;
   }
 

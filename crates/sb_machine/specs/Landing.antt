@@ -83,7 +83,7 @@ pub record HasLandingRegisters (machine : Machine) (number phase : ℕ) : Type 0
   -- whether an exchange of the pool word has failed
   pub failed : Bool
   -- the registers are those of a stage of the phase, and the report has those of the call in one step
-  pub at : AtPhaseBy FIRST_STACK_TOP (handler_now machine number)
+  pub at : AtPhaseBy binding.key FIRST_STACK_TOP (handler_now machine number)
       (plain_regs (core_at machine number) (handler_now machine number))
       (flight_in (state_at machine number).view phase mask decided) start failed (regs_of machine number)
 
