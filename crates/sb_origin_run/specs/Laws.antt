@@ -1,5 +1,6 @@
 -- The laws, as statements.
 use Rattle.std.specs.Prelude.{◌≡◌, ℕ, List, length}
+use Rattle.std.specs.List.{AllByRecursion}
 use Rattle.sb_insn.specs.declared.registers.Regs.{Regs}
 use Rattle.sb_bus.specs.declared.stop.BusStop.{BusStop}
 use Rattle.sb_exec.specs.Interface.{Interface}
@@ -67,18 +68,20 @@ WordsRunStraight {M} {A} bus Holds IsOutside HasBytes target source place =
 
 -- ---- several threads
 
--- a run of several threads, each with its own words
-abbrev pub ThreadsRunAlike : {M A N B : Type 0} → (ℕ → Interface M A) → (ℕ → Interface N B) → ((ℕ → Words) → M → N → Type 0)
+-- a run of several threads of these numbers, each with its own words
+abbrev pub ThreadsRunAlike : {M A N B : Type 0} → (ℕ → Type 0) → (ℕ → Interface M A) → (ℕ → Interface N B) →
+    ((ℕ → Words) → M → N → Type 0)
     → (ℕ → ℕ → ℕ → Type 0) → (BusStop → BusStop) → (ℕ → Code) → (ℕ → Code) → (ℕ → ℕ → Position) → Type 0
-ThreadsRunAlike {M} {A} {N} {B} buses originals HoldsAll IsOutside naming targets sources places =
-    ((number : ℕ)
+ThreadsRunAlike {M} {A} {N} {B} IsThread buses originals HoldsAll IsOutside naming targets sources places =
+    ((number : ℕ) → IsThread number
     → AreBeside (buses number) (beside_words (originals number)) (HoldsOf HoldsAll number) (IsOutside number) naming)
-    → ((number address : ℕ)
+    → ((number : ℕ) → IsThread number → (address : ℕ)
     → Stands (buses number) (HoldsOf HoldsAll number) (targets number) (sources number) (places number) address
     (places number address))
-    → (schedule : List ℕ) (left : Threads M A) (right : Threads N B) → ThreadsRelated buses HoldsAll places left right
+    → (schedule : List ℕ) (left : Threads M A) (right : Threads N B) → AllByRecursion IsThread schedule
+    → ThreadsRelated IsThread buses HoldsAll places left right
     → ThreadsStraight buses HoldsAll IsOutside targets sources places schedule left
-    → ThreadsAlike buses HoldsAll naming places (threads_run buses targets schedule left)
+    → ThreadsAlike IsThread buses HoldsAll naming places (threads_run buses targets schedule left)
     (threads_run originals sources (entries (threads_lines places naming (threads_run buses targets schedule left).lines))
     right)
 
@@ -100,31 +103,34 @@ RewrittenRuns {M} {A} {N} {B} bus original Holds IsOutside naming target source 
     (run original source (length (original_lines place naming (run bus target count left).lines)) right)
 
 -- the same of several threads
-abbrev pub RewrittenThreadsRun : {M A N B : Type 0} → (ℕ → Interface M A) → (ℕ → Interface N B)
+abbrev pub RewrittenThreadsRun : {M A N B : Type 0} → (ℕ → Type 0) → (ℕ → Interface M A) → (ℕ → Interface N B)
     → ((ℕ → Words) → M → N → Type 0) → (ℕ → ℕ → ℕ → Type 0) → (BusStop → BusStop) → (ℕ → Code) → (ℕ → Code)
     → (ℕ → ℕ → Position) → Type 0
-RewrittenThreadsRun {M} {A} {N} {B} buses originals HoldsAll IsOutside naming targets sources places =
-    ((number : ℕ) → HasWords (buses number) (HoldsOf HoldsAll number))
-    → ((number : ℕ)
+RewrittenThreadsRun {M} {A} {N} {B} IsThread buses originals HoldsAll IsOutside naming targets sources places =
+    ((number : ℕ) → IsThread number → HasWords (buses number) (HoldsOf HoldsAll number))
+    → ((number : ℕ) → IsThread number
     → AreBeside (buses number) (beside_words (originals number)) (HoldsOf HoldsAll number) (IsOutside number) naming)
-    → ((number : ℕ) → IsMadeOf (targets number) (sources number) (places number))
-    → (schedule : List ℕ) (left : Threads M A) (right : Threads N B) → ThreadsRelated buses HoldsAll places left right
+    → ((number : ℕ) → IsThread number → IsMadeOf (targets number) (sources number) (places number))
+    → (schedule : List ℕ) (left : Threads M A) (right : Threads N B) → AllByRecursion IsThread schedule
+    → ThreadsRelated IsThread buses HoldsAll places left right
     → ThreadsStraight buses HoldsAll IsOutside targets sources places schedule left
-    → ThreadsAlike buses HoldsAll naming places (threads_run buses targets schedule left)
+    → ThreadsAlike IsThread buses HoldsAll naming places (threads_run buses targets schedule left)
     (threads_run originals sources (entries (threads_lines places naming (threads_run buses targets schedule left).lines))
     right)
 
 -- the same with a kernel that serves alike, in each mode of which the table has made the code
-abbrev pub RewrittenSystemRuns : {V M A N B : Type 0} → System V M A → System V N B → ((ℕ → Words) → M → N → Type 0)
-    → (ℕ → ℕ → ℕ → Type 0) → (BusStop → BusStop) → (V → ℕ → ℕ → Position) → Type 0
-RewrittenSystemRuns {V} {M} {A} {N} {B} system original HoldsAll IsOutside naming places =
-    ((mode : V) (number : ℕ) → HasWords (system.buses mode number) (HoldsOf HoldsAll number))
-    → ((mode : V) (number : ℕ)
-    → AreBeside (system.buses mode number) (beside_words (original.buses mode number)) (HoldsOf HoldsAll number)
+abbrev pub RewrittenSystemRuns : {V M A N B : Type 0} → (ℕ → Type 0) → System V M A → System V N B
+    → (V → (ℕ → Words) → M → N → Type 0) → (ℕ → ℕ → ℕ → Type 0) → (BusStop → BusStop) → (V → ℕ → ℕ → Position) → Type 0
+RewrittenSystemRuns {V} {M} {A} {N} {B} IsThread system original HoldsAll IsOutside naming places =
+    ((mode : V) (number : ℕ) → IsThread number → HasWords (system.buses mode number) (HoldsOf (HoldsAll mode) number))
+    → ((mode : V) (number : ℕ) → IsThread number
+    → AreBeside (system.buses mode number) (beside_words (original.buses mode number)) (HoldsOf (HoldsAll mode) number)
     (IsOutside number) naming)
-    → ((mode : V) (number : ℕ) → IsMadeOf (system.codes mode number) (original.codes mode number) (places mode number))
-    → ServesAlike system original HoldsAll naming places
-    → (schedule : List ℕ) (left : State V M A) (right : State V N B) → StatesRelated system.buses HoldsAll places left right
+    → ((mode : V) (number : ℕ) → IsThread number
+    → IsMadeOf (system.codes mode number) (original.codes mode number) (places mode number))
+    → ServesAlike IsThread system original HoldsAll naming places
+    → (schedule : List ℕ) (left : State V M A) (right : State V N B) → AllByRecursion IsThread schedule
+    → StatesRelated IsThread system.buses HoldsAll places left right
     → ServedStraight system original HoldsAll IsOutside places schedule left
-    → ServedAlike system original HoldsAll naming places schedule left
+    → ServedAlike IsThread system original HoldsAll naming places schedule left
     (served_entries (original_served places naming (served_lines system schedule left))) right

@@ -90,16 +90,18 @@ beside_words bus = record {
   rule = λ call other account. bus.rule call other.0 account;
 }
 
--- ---- related threads
+-- ---- related threads: of these numbers, since each has a scratch page
 
-pub record ThreadsRelated {M A N B : Type 0} (buses : ℕ → Interface M A) (HoldsAll : (ℕ → Words) → M → N → Type 0) (places : ℕ → ℕ
-    → Position) (left : Threads M A) (right : Threads N B) : Type 0 where
+pub record ThreadsRelated {M A N B : Type 0} (IsThread : ℕ → Type 0) (buses : ℕ → Interface M A)
+    (HoldsAll : (ℕ → Words) → M → N → Type 0) (places : ℕ → ℕ → Position) (left : Threads M A) (right : Threads N B)
+    : Type 0 where
   pub words : ℕ → Words
   pub holds : HoldsAll words left.meaning right.meaning
-  pub at : (number : ℕ)
+  pub at : (number : ℕ) → IsThread number
       → IsAt (buses number) (HoldsOf HoldsAll number) (places number (left.regs number).rip)
       (record { regs = left.regs number; words = words number }) (right.regs number)
 
+-- no step of a run is stray
 abbrev pub ThreadsStraight : {M A N : Type 0} → (ℕ → Interface M A) → ((ℕ → Words) → M → N → Type 0) → (ℕ → ℕ → ℕ → Type 0)
     → (ℕ → Code) → (ℕ → Code) → (ℕ → ℕ → Position) → List ℕ → Threads M A → Type 0
 ThreadsStraight buses HoldsAll IsOutside targets sources places [] left = Unit {0}
@@ -110,7 +112,8 @@ ThreadsStraight buses HoldsAll IsOutside targets sources places (number ∷ sche
     (ThreadsStraight buses HoldsAll IsOutside targets sources places schedule
     (with_thread number (threads_step buses targets number left).thread left))
 
-pub record ThreadsAlike {M A N B : Type 0} (buses : ℕ → Interface M A) (HoldsAll : (ℕ → Words) → M → N → Type 0) (naming : BusStop
-    → BusStop) (places : ℕ → ℕ → Position) (rewritten : ThreadsRun M A) (original : ThreadsRun N B) : Type 0 where
+pub record ThreadsAlike {M A N B : Type 0} (IsThread : ℕ → Type 0) (buses : ℕ → Interface M A)
+    (HoldsAll : (ℕ → Words) → M → N → Type 0) (naming : BusStop → BusStop) (places : ℕ → ℕ → Position)
+    (rewritten : ThreadsRun M A) (original : ThreadsRun N B) : Type 0 where
   pub lines : original.lines ≡ threads_lines places naming rewritten.lines
-  pub end : ThreadsRelated buses HoldsAll places rewritten.end original.end
+  pub end : ThreadsRelated IsThread buses HoldsAll places rewritten.end original.end

@@ -73,7 +73,7 @@ pub fn registers_stay<R: Codes>()
 
 /// The same of several threads, for each of which the codes and the memory are so.
 pub fn threads_run_alike<R: ThreadCodes>()
-    ensures { ThreadsRunAlike R.buses R.originals R.holds R.outside R.naming R.targets R.sources R.places }
+    ensures { ThreadsRunAlike R.is_thread R.buses R.originals R.holds R.outside R.naming R.targets R.sources R.places }
 {}
 
 /// What the table of forms has made of a code stands for it.
@@ -88,7 +88,7 @@ pub fn rewritten_runs<R: Codes>()
 
 /// The same of several threads.
 pub fn rewritten_threads_run<R: ThreadCodes>()
-    ensures { RewrittenThreadsRun R.buses R.originals R.holds R.outside R.naming R.targets R.sources R.places }
+    ensures { RewrittenThreadsRun R.is_thread R.buses R.originals R.holds R.outside R.naming R.targets R.sources R.places }
 {}
 
 /// Rewritten code of several threads on one memory, and the original code on another.
@@ -107,6 +107,9 @@ pub trait ThreadCodes {
     ghost Other: { Type 0 };
 
     ghost OtherAccount: { Type 0 };
+
+    /// The numbers of the threads.
+    ghost is_thread: { ℕ → Type 0 };
 
     /// The memory as each thread sees it.
     ghost buses: { ℕ → Interface Meaning Account };
@@ -146,11 +149,15 @@ pub trait Systems {
 
     ghost OtherAccount: { Type 0 };
 
+    /// The numbers of the threads.
+    ghost is_thread: { ℕ → Type 0 };
+
     ghost system: { System Mode Meaning Account };
 
     ghost original: { System Mode Other OtherAccount };
 
-    ghost holds: { (ℕ → Words) → Meaning → Other → Type 0 };
+    /// In each mode the rewritten memory holds these words of each thread, and is the other one beside all scratch pages.
+    ghost holds: { Mode → (ℕ → Words) → Meaning → Other → Type 0 };
 
     ghost outside: { ℕ → ℕ → ℕ → Type 0 };
 
@@ -161,5 +168,5 @@ pub trait Systems {
 
 /// A run of several threads with a kernel that serves both codes alike.
 pub fn rewritten_system_runs<R: Systems>()
-    ensures { RewrittenSystemRuns R.system R.original R.holds R.outside R.naming R.places }
+    ensures { RewrittenSystemRuns R.is_thread R.system R.original R.holds R.outside R.naming R.places }
 {}
