@@ -10,6 +10,9 @@
 //! ```
 #![tactic(auto)]
 
+mod frame;
+mod frames;
+mod held;
 mod note;
 mod partial;
 
