@@ -7,4 +7,5 @@ pub mod Steps
 pub mod Blocks
 pub mod Once
 pub mod Machines
+pub mod Lawful
 pub mod OwnOnce
