@@ -10,4 +10,5 @@ pub mod Blocks
 pub mod Once
 pub mod Puts
 pub mod Machines
+pub mod Lawful
 pub mod OwnOnce

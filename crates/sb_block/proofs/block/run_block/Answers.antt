@@ -1,6 +1,7 @@
 use Rattle.std.proofs.Common.{ap, ◌∙◌, rules}
 use Rattle.sb_partial.specs.Copies.{untouched}
 use Rattle.sb_block.proofs.Ended.{refused_by, run_by, reads_by, writes_by}
+use Rattle.sb_block.proofs.Lawful.{given_sound, block_by, holds_by}
 use Rattle.sb_block.proofs.block.run_block.Goals as goal
 
 pub returns-then-is_empty-clause-refused : goal.returns-then-is_empty-clause-refused
@@ -12,9 +13,12 @@ pub returns-in-Ok-block : goal.returns-in-Ok-block
 returns-in-Ok-block c =
     let given = c.steps-made.ensures.given in
     let got = c.in-Ok-block.ensures in
+    let sound = given_sound c.args.part.now c.requires.untouched c.frames.ensures.sound in
     let made = run_by c.steps-made.result c.steps-made.ensures.runs c.steps-made.ensures.ends (search rules) got given in
     record {
       made = made;
+      block = block_by sound made;
+      holds = holds_by sound made;
       reads = reads_by got given;
       writes = writes_by got given;
       refused = tt;
