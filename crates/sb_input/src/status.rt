@@ -1,7 +1,7 @@
 //! How a command ends.
 
 ghost use Rattle.std.specs.Prelude.{◌≡◌};
-ghost use Rattle.skybridge.specs.Status.{exit_status};
+ghost use Rattle.sb_input.specs.Status.{exit_status};
 
 /// How a command ended. The number is the program's exit status.
 #[derive(Clone, Copy, Debug, PartialEq, Eq)]

@@ -1,7 +1,7 @@
 -- Statuses.
 use Rattle.std.specs.Prelude.{ℕ, ⊤}
-use Rattle.skybridge.specs.declared.status.Status.{Status}
-use Rattle.skybridge.specs.declared.status.Status.TheVariants.{Done, BadWords, ReadFault, WriteFault, BundleRefused, LoadRefused, NoMemory, TooLong}
+use Rattle.sb_input.specs.declared.status.Status.{Status}
+use Rattle.sb_input.specs.declared.status.Status.TheVariants.{Done, BadWords, ReadFault, WriteFault, BundleRefused, LoadRefused, NoMemory, TooLong}
 
 -- a status that says nothing of an input
 abbrev pub IsOwn : Status → Type 0
