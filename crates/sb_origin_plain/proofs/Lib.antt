@@ -5,3 +5,4 @@ pub mod Scratch
 pub mod Plain
 pub mod Bytes
 pub mod Runs
+pub mod Threads

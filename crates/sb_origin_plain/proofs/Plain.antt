@@ -13,7 +13,7 @@ use Rattle.sb_state.specs.Windows.{process_shown}
 use Rattle.sb_state.specs.PlainMemory.{plain_byte, plain_stored, plain}
 use Rattle.sb_trace.specs.Table.{is_there, is_in_table}
 use Rattle.sb_trace.specs.Sound.{IsSound, is_code_name}
-use Rattle.sb_original.specs.Words.{ScratchWord, FirstSaved, SecondSaved, Third, Words, HasWords, place_of, word_of, with_word, with_lower, with_upper}
+use Rattle.sb_original.specs.Words.{ScratchWord, FirstSaved, SecondSaved, Third, Words, HasWords, place_of, word_of, upper_place, with_word, with_lower, with_upper}
 use Rattle.sb_original.specs.Beside.{AreBeside}
 use Rattle.sb_origin_plain.specs.Memory.{words_in, scratch_words, HasScratch, is_shared, AreBesideScratch, HoldsBeside, IsOutside, same_stop}
 use Rattle.sb_origin_plain.specs.Laws.{SameButScratch}
@@ -28,60 +28,65 @@ offset_fits FirstSaved = omega arith
 offset_fits SecondSaved = omega arith
 offset_fits Third = omega arith
 
+pub loaded_word : (thread view : ℕ) (which : ScratchWord) (words : Words) (state : State) → HasScratch thread view words state
+    → loaded_from (byte_for (plain_byte thread view state) Read) (place_of which) 8 ≡ Ok (word_of which words)
+loaded_word thread view which words state has =
+    let fits = offset_fits which in
+    ap (λ (n : ℕ). loaded_from (byte_for (plain_byte thread view state) Read) n 8) (place_is which)
+    ∙ (loaded_at thread view words state (offset_of which) 8 has (omega arith) fits
+    ∙ (ap (λ (n : ℕ). Ok n) (word_loaded which has.page.bytes) ∙ ap (λ (w : Words). Ok (word_of which w)) has.held))
+
+pub permitted_word : (thread view : ℕ) (which : ScratchWord) (words : Words) (state : State)
+    → HasScratch thread view words state
+    → store_answer (byte_for (plain_byte thread view state) Write) (place_of which) 8 ≡ Ok tt
+permitted_word thread view which words state has =
+    let fits = offset_fits which in
+    ap (λ (n : ℕ). store_answer (byte_for (plain_byte thread view state) Write) n 8) (place_is which)
+    ∙ permitted_at thread view words state (offset_of which) 8 has (omega arith) fits
+
+-- what a store of a word leaves
+pub word_leaves : (thread view : ℕ) (which : ScratchWord) (words : Words) (state : State) (value : ℕ)
+    → HasScratch thread view words state
+    → LeavesWords thread view (with_word which (value % 2 ^ 64) words) state
+    (plain_stored thread view state (place_of which) 8 value)
+word_leaves thread view which words state value has =
+    let fits = offset_fits which in
+    let new = with_word which (value % 2 ^ 64) words in
+    subst (λ (n : ℕ). LeavesWords thread view new state (plain_stored thread view state n 8 value)) (sym (place_is which))
+    (leaves_words thread view words new state (offset_of which) 8 value has (omega arith) fits
+    (word_put which has.page.bytes value has.size ∙ ap (λ (w : Words). with_word which (value % 2 ^ 64) w) has.held))
+
+pub lower_leaves : (thread view : ℕ) (words : Words) (state : State) (value : ℕ) → HasScratch thread view words state
+    → LeavesWords thread view (with_lower value words) state (plain_stored thread view state (place_of Third) 4 value)
+lower_leaves thread view words state value has =
+    leaves_words thread view words (with_lower value words) state 16 4 value has (omega arith) (omega arith)
+    (lower_put has.page.bytes value has.size has.bytes ∙ ap (λ (w : Words). with_lower value w) has.held)
+
+pub upper_leaves : (thread view : ℕ) (words : Words) (state : State) (value : ℕ) → HasScratch thread view words state
+    → LeavesWords thread view (with_upper value words) state (plain_stored thread view state upper_place 4 value)
+upper_leaves thread view words state value has =
+    leaves_words thread view words (with_upper value words) state 20 4 value has (omega arith) (omega arith)
+    (upper_put has.page.bytes value has.size has.bytes ∙ ap (λ (w : Words). with_upper value w) has.held)
+
 held_after : (thread view : ℕ) (words : Words) (state other after : State) → LeavesWords thread view words state after
     → AreBesideScratch state other → HoldsBeside thread view words after other
 held_after thread view words state other after leaves beside =
     subst (λ (s : State). HoldsBeside thread view words s other) (sym leaves.is)
     (leaves.has, given_beside thread view state other leaves.bytes beside)
 
-loaded_word : (thread view : ℕ) (which : ScratchWord) (words : Words) (state other : State)
-    → HoldsBeside thread view words state other
-    → loaded_from (byte_for (plain_byte thread view state) Read) (place_of which) 8 ≡ Ok (word_of which words)
-loaded_word thread view which words state other (has, beside) =
-    let fits = offset_fits which in
-    ap (λ (n : ℕ). loaded_from (byte_for (plain_byte thread view state) Read) n 8) (place_is which)
-    ∙ (loaded_at thread view words state (offset_of which) 8 has (omega arith) fits
-    ∙ (ap (λ (n : ℕ). Ok n) (word_loaded which has.page.bytes) ∙ ap (λ (w : Words). Ok (word_of which w)) has.held))
-
-permitted_word : (thread view : ℕ) (which : ScratchWord) (words : Words) (state other : State)
-    → HoldsBeside thread view words state other
-    → store_answer (byte_for (plain_byte thread view state) Write) (place_of which) 8 ≡ Ok tt
-permitted_word thread view which words state other (has, beside) =
-    let fits = offset_fits which in
-    ap (λ (n : ℕ). store_answer (byte_for (plain_byte thread view state) Write) n 8) (place_is which)
-    ∙ permitted_at thread view words state (offset_of which) 8 has (omega arith) fits
-
-stored_word : (thread view : ℕ) (which : ScratchWord) (words : Words) (state other : State) (value : ℕ)
-    → HoldsBeside thread view words state other
-    → HoldsBeside thread view (with_word which (value % 2 ^ 64) words)
-    (plain_stored thread view state (place_of which) 8 value) other
-stored_word thread view which words state other value (has, beside) =
-    let fits = offset_fits which in
-    subst (λ (n : ℕ). HoldsBeside thread view (with_word which (value % 2 ^ 64) words) (plain_stored thread view state n 8
-    value) other)
-    (sym (place_is which))
-    (held_after thread view (with_word which (value % 2 ^ 64) words) state other _
-    (leaves_words thread view words (with_word which (value % 2 ^ 64) words) state (offset_of which) 8 value has (omega arith)
-    fits
-    (word_put which has.page.bytes value has.size ∙ ap (λ (w : Words). with_word which (value % 2 ^ 64) w) has.held)) beside)
-
 pub has_words : (thread view : ℕ) → HasWords (plain thread view) (HoldsBeside thread view)
 has_words thread view = record {
-  loaded = loaded_word thread view;
-  permitted = permitted_word thread view;
-  stored = λ which words state other value holds. stored_word thread view which words state other value holds;
+  loaded = λ which words state other holds. loaded_word thread view which words state holds.0;
+  permitted = λ which words state other holds. permitted_word thread view which words state holds.0;
+  stored = λ which words state other value holds.
+      held_after thread view (with_word which (value % 2 ^ 64) words) state other _
+      (word_leaves thread view which words state value holds.0) holds.1;
   lower_permitted = λ words state other holds. permitted_at thread view words state 16 4 holds.0 (omega arith) (omega arith);
   lower_stored = λ words state other value holds.
-      held_after thread view (with_lower value words) state other _
-      (leaves_words thread view words (with_lower value words) state 16 4 value holds.0 (omega arith) (omega arith)
-      (lower_put holds.0.page.bytes value holds.0.size holds.0.bytes
-      ∙ ap (λ (w : Words). with_lower value w) holds.0.held)) holds.1;
+      held_after thread view (with_lower value words) state other _ (lower_leaves thread view words state value holds.0) holds.1;
   upper_permitted = λ words state other holds. permitted_at thread view words state 20 4 holds.0 (omega arith) (omega arith);
   upper_stored = λ words state other value holds.
-      held_after thread view (with_upper value words) state other _
-      (leaves_words thread view words (with_upper value words) state 20 4 value holds.0 (omega arith) (omega arith)
-      (upper_put holds.0.page.bytes value holds.0.size holds.0.bytes
-      ∙ ap (λ (w : Words). with_upper value w) holds.0.held)) holds.1;
+      held_after thread view (with_upper value words) state other _ (upper_leaves thread view words state value holds.0) holds.1;
 }
 
 -- ---- beside the original memory
@@ -122,7 +127,8 @@ scratch_there state thread view process sound shows =
     some_there (find_page state.pages (Scratch thread view))
     (sound.table.exactly (Scratch thread view) ∙ ap (λ found. is_some found) shows)
 
-sound_scratch : (state : State) (thread view process : ℕ) → IsSound state → process_shown state.threads thread view ≡ Some process
+pub sound_scratch : (state : State) (thread view process : ℕ) → IsSound state → process_shown state.threads thread view
+    ≡ Some process
     → HasScratch thread view (scratch_words state thread view) state
 unfolding contents is_code_name
 sound_scratch state thread view process sound shows =

@@ -63,6 +63,13 @@ pub record AreBesideScratch (state other : State) : Type 0 where
 abbrev pub HoldsBeside : ℕ → ℕ → Words → State → State → Type 0
 HoldsBeside thread view words state other = HasScratch thread view words state × AreBesideScratch state other
 
+-- ---- several threads
+
+-- each of so many threads, in its view, holds these words in its scratch page
+abbrev pub HoldAllBeside : ℕ → (ℕ → ℕ) → (ℕ → Words) → State → State → Type 0
+HoldAllBeside count views words state other =
+    ((number : ℕ) → number < count → HasScratch number (views number) (words number) state) × AreBesideScratch state other
+
 -- ---- bytes
 
 -- what stands in each page that can be loaded is a byte

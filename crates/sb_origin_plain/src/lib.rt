@@ -4,5 +4,6 @@
 mod laws;
 
 pub use laws::{
-    plain_beside, plain_bytes, plain_runs, plain_words, scratch_differs, sound_holds, sound_related,
+    plain_beside, plain_bytes, plain_runs, plain_threads, plain_threads_run, plain_words,
+    scratch_differs, sound_holds, sound_related, sound_threads_related,
 };

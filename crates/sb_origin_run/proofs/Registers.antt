@@ -1,5 +1,9 @@
 -- Registers of 64 bits over a run.
-use Rattle.std.proofs.Common.{◌≡◌, sym, subst, ℕ, zero, suc, Option, Some, None, refl}
+use Rattle.std.proofs.Common.{◌≡◌, ◌⊎◌, inl, inr, sym, subst, ℕ, zero, suc, List, [], ◌∷◌, Option, Some, None, refl}
+use Rattle.std.specs.List.{AllByRecursion}
+use Rattle.std.proofs.lemmas.Bool.{cases_eq}
+use Rattle.sb_origin_run.specs.Many.{with_at, Threads, thread_of, with_thread, threads_step, AreOfWords, ThreadsStraight, ThreadsNotStray}
+use Rattle.sb_origin_run.proofs.Many.{at_same, at_other}
 use Rattle.sb_insn.specs.declared.insn.Insn.{Insn}
 use Rattle.sb_insn.specs.declared.registers.Regs.{Regs}
 use Rattle.sb_exec.specs.Interface.{Interface}
@@ -56,3 +60,49 @@ words_straight bus Holds IsOutside HasBytes target source place keeps are (suc c
       (words_straight bus Holds IsOutside HasBytes target source place keeps are count (step bus target left).thread
       (step_keeps bus HasBytes target keeps are left of)) later,
 )
+
+-- ---- several threads
+
+threads_keep : {M A : Type 0} (IsThread : ℕ → Type 0) (bus : Interface M A) (HasBytes : M
+    → Type 0) (target : Code) (number : ℕ) (left : Threads M A) → KeepsBytes bus HasBytes → AreInstructions target
+    → IsThread number → AreOfWords IsThread HasBytes left
+    → AreOfWords IsThread HasBytes (with_thread number (step bus target (thread_of number left)).thread left)
+threads_keep {M} {A} IsThread bus HasBytes target number left keeps are is_thread of = record {
+  regs = λ other other_is. by_number other other_is (cases_eq other number);
+  bytes = now.bytes;
+}
+  where
+    now : IsOfWords HasBytes (step bus target (thread_of number left)).thread
+    now =
+        step_keeps bus HasBytes target keeps are (thread_of number left)
+        (record { regs = of.regs number is_thread; bytes = of.bytes })
+
+    by_number : (other : ℕ) → IsThread other → (other ≡ number) ⊎ (other ≡ number → ⊥)
+        → AreWords (with_at number (step bus target (thread_of number left)).thread.regs left.regs other)
+    by_number other other_is (inl same) =
+        subst (λ (n : ℕ). AreWords (with_at number (step bus target (thread_of number left)).thread.regs left.regs n)) (sym same)
+        (subst AreWords (sym (at_same number (step bus target (thread_of number left)).thread.regs left.regs)) now.regs)
+    by_number other other_is (inr apart) =
+        subst AreWords (sym (at_other number (step bus target (thread_of number left)).thread.regs left.regs other apart))
+        (of.regs other other_is)
+
+pub threads_straight : {M A N : Type 0} (IsThread : ℕ → Type 0) (buses : ℕ → Interface M A) (HoldsAll : (ℕ → Words) → M → N
+    → Type 0) (IsOutside : ℕ → ℕ → ℕ → Type 0) (HasBytes : M → Type 0) (targets sources : ℕ → Code) (places : ℕ → ℕ → Position)
+    → ((number : ℕ) → IsThread number → KeepsBytes (buses number) HasBytes)
+    → ((number : ℕ) → IsThread number → AreInstructions (targets number))
+    → (schedule : List ℕ) (left : Threads M A) → AllByRecursion IsThread schedule → AreOfWords IsThread HasBytes left
+    → ThreadsNotStray buses HoldsAll IsOutside targets sources places schedule left
+    → ThreadsStraight buses HoldsAll IsOutside targets sources places schedule left
+threads_straight IsThread buses HoldsAll IsOutside HasBytes targets sources places keeps are [] left all of stays = tt
+threads_straight IsThread buses HoldsAll IsOutside HasBytes targets sources places keeps are (number ∷ schedule) left all of
+    (now, later) =
+    let made = threads_step buses targets number left in
+    let next = with_thread number made.thread left in (
+      record { regs = words_are_regs (left.regs number) (of.regs number all.0); stays = now },
+      where_map made.event (ThreadsNotStray buses HoldsAll IsOutside targets sources places schedule next)
+          (ThreadsStraight buses HoldsAll IsOutside targets sources places schedule next)
+          (threads_straight IsThread buses HoldsAll IsOutside HasBytes targets sources places keeps are schedule next all.1
+          (threads_keep IsThread (buses number) HasBytes (targets number) number left (keeps number all.0) (are number all.0)
+          all.0
+          of)) later,
+    )

@@ -13,7 +13,7 @@ use Rattle.sb_origin_run.specs.Machine.{Code, Thread, step, run}
 use Rattle.sb_origin_run.specs.Position.{Position, is_extra, original_at, original_lines, Stands}
 use Rattle.sb_origin_run.specs.Text.{IsMadeOf}
 use Rattle.sb_origin_run.specs.Served.{State, System, served_lines, original_served, served_entries, StatesRelated, ServesAlike, ServedStraight, ServedAlike}
-use Rattle.sb_origin_run.specs.Many.{Threads, threads_run, threads_lines, entries, HoldsOf, beside_words, ThreadsRelated, ThreadsStraight, ThreadsAlike}
+use Rattle.sb_origin_run.specs.Many.{Threads, threads_run, threads_lines, entries, HoldsOf, beside_words, AreOfWords, ThreadsRelated, ThreadsStraight, ThreadsNotStray, ThreadsAlike}
 use Rattle.sb_origin_run.specs.Related.{IsAt, AccessesAt, Related, IsStraight, AreStraight, AreNotStray, StepAlike, RunAlike}
 use Rattle.sb_origin_run.specs.Registers.{AreInstructions, KeepsBytes, IsOfWords}
 
@@ -84,6 +84,16 @@ ThreadsRunAlike {M} {A} {N} {B} IsThread buses originals HoldsAll IsOutside nami
     → ThreadsAlike IsThread buses HoldsAll naming places (threads_run buses targets schedule left)
     (threads_run originals sources (entries (threads_lines places naming (threads_run buses targets schedule left).lines))
     right)
+
+-- where they begin with words, no more is needed than that no step is stray
+abbrev pub WordsThreadsStraight : {M A N : Type 0} → (ℕ → Type 0) → (ℕ → Interface M A) → ((ℕ → Words) → M → N → Type 0)
+    → (ℕ → ℕ → ℕ → Type 0) → (M → Type 0) → (ℕ → Code) → (ℕ → Code) → (ℕ → ℕ → Position) → Type 0
+WordsThreadsStraight {M} {A} IsThread buses HoldsAll IsOutside HasBytes targets sources places =
+    ((number : ℕ) → IsThread number → KeepsBytes (buses number) HasBytes)
+    → ((number : ℕ) → IsThread number → AreInstructions (targets number))
+    → (schedule : List ℕ) (left : Threads M A) → AllByRecursion IsThread schedule → AreOfWords IsThread HasBytes left
+    → ThreadsNotStray buses HoldsAll IsOutside targets sources places schedule left
+    → ThreadsStraight buses HoldsAll IsOutside targets sources places schedule left
 
 -- ---- what the table of forms has made
 

@@ -1,6 +1,6 @@
 //! Laws of steps and runs, as functions with nothing to run.
 
-ghost use Rattle.sb_origin_run.specs.Laws.{OriginalState, SlotAccesses, StepsAlike, RunsAlike, WordsAreRegs, StepsKeepWords, WordsRunStraight, ThreadsRunAlike, TextStands, RewrittenRuns, RewrittenThreadsRun, RewrittenSystemRuns};
+ghost use Rattle.sb_origin_run.specs.Laws.{OriginalState, SlotAccesses, StepsAlike, RunsAlike, WordsAreRegs, StepsKeepWords, WordsRunStraight, WordsThreadsStraight, ThreadsRunAlike, TextStands, RewrittenRuns, RewrittenThreadsRun, RewrittenSystemRuns};
 
 /// Rewritten code on one memory, and the original code on another. It has no values: a type stands for them.
 pub trait Codes {
@@ -76,6 +76,11 @@ pub fn threads_run_alike<R: ThreadCodes>()
     ensures { ThreadsRunAlike R.is_thread R.buses R.originals R.holds R.outside R.naming R.targets R.sources R.places }
 {}
 
+/// A run of several threads that begin with registers of 64 bits needs no more than that no step is stray.
+pub fn registers_of_threads_stay<R: ThreadCodes>()
+    ensures { WordsThreadsStraight R.is_thread R.buses R.holds R.outside R.has_bytes R.targets R.sources R.places }
+{}
+
 /// What the table of forms has made of a code stands for it.
 pub fn text_stands<R: Codes>()
     ensures { TextStands R.bus R.holds R.target R.source R.place }
@@ -128,6 +133,9 @@ pub trait ThreadCodes {
     ghost sources: { ℕ → Code };
 
     ghost places: { ℕ → ℕ → Position };
+
+    /// Loads from the memory give bytes.
+    ghost has_bytes: { Meaning → Type 0 };
 }
 
 /// A kernel beside rewritten code of several threads, and one beside the original code.
