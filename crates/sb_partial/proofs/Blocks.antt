@@ -90,7 +90,8 @@ pub true_in_blocks : {X : Type 0} (block : X → List Bool) (size : ℕ) (test :
 true_in_blocks block size test [] few = omega arith
 true_in_blocks block size test (x ∷ xs) few =
     let first = All-head (λ one. true_count (block one) ≤ size * cond (test one) 1 0) x xs few in
-    let rest = true_in_blocks block size test xs (All-tail (λ one. true_count (block one) ≤ size * cond (test one) 1 0) x xs few) in
+    let few_rest = All-tail (λ one. true_count (block one) ≤ size * cond (test one) 1 0) x xs few in
+    let rest = true_in_blocks block size test xs few_rest in
     let flags = sum_by-append (λ flag. cond flag 1 0) (block x) (flat_map block xs) in
     let tests = sum_by-cons (λ flag. cond flag 1 0) (test x) (map test xs) in
     rw (flags, tests) (omega (arith, first, rest))

@@ -11,8 +11,8 @@ use Rattle.std.proofs.lemmas.List.Sums.{sum_by-set}
 use Rattle.sb_agree.specs.Noted.{has_word, with_word, word_of}
 use Rattle.sb_memory.specs.Words.{put_bytes, put_word}
 use Rattle.sb_memory.proofs.Words.{byte_beside_word, get_or-sets_other, get_or-sets_same}
-use Rattle.sb_partial.specs.CopiedFrame.{no_flags}
-use Rattle.sb_partial.specs.CopiedFrames.{CopiedFrames, IsSound, true_count}
+use Rattle.sb_partial.specs.CopiedFrame.{bytes_restored, no_flags}
+use Rattle.sb_partial.specs.CopiedFrames.{CopiedFrames, IsSound, true_count, with_frame}
 use Rattle.sb_partial.specs.Noting.{AllThere, AreNoted, AreFlags, AreGivenBeside, IsNoting}
 use Rattle.sb_partial.proofs.OneFrame.{count_no_flags, flag_in_no_flags, length_no_flags, within_true}
 
@@ -45,7 +45,8 @@ other_pushed word other words apart =
     ∙ or_nothing (has_word word words) (other == word) (other_number word other apart)
 
 -- a word that is not among the later ones is the first or not among all
-word_beside : (word other : ℕ) (words : List ℕ) → word ≢ other → has_word word words ≡ false → has_word word (other ∷ words) ≡ false
+word_beside : (word other : ℕ) (words : List ℕ) → word ≢ other → has_word word words ≡ false
+    → has_word word (other ∷ words) ≡ false
 word_beside word other words apart none = let not_first = other_number word other apart in rw (not_first, none) refl
 
 -- ---- one more word
@@ -105,25 +106,36 @@ place_beside place word apart = elim (cases_lt place (8 * word)) [
   | inr above ↦ inr (omega arith)
 ]
 
--- the bytes of one word are put back
-pub bytes_restored : (given bytes words : List ℕ) (index : ℕ) → AreGivenBeside (drop index words) given bytes → index < length words
-    → length bytes ≡ length given → 8 * get_or words index 0 + 8 ≤ length given
-    → AreGivenBeside (drop (index + 1) words) given
-    (put_bytes bytes (8 * get_or words index 0) (slice_range given (8 * get_or words index 0) (8 * get_or words index 0 + 8)))
+-- a byte of the word whose bytes are put back
+restored_within : (given bytes : List ℕ) (word place : ℕ) → length bytes ≡ length given → 8 * word + 8 ≤ length given
+    → word_of place ≡ word → get_or (bytes_restored given bytes (8 * word)) place 0 ≡ get_or given place 0
 unfolding put_bytes
-bytes_restored given bytes words index before within sizes inside place none =
-    let size = length-between given (8 * get_or words index 0) (8 * get_or words index 0 + 8) inside in
+restored_within given bytes word place sizes inside same =
+    let size = length-between given (8 * word) (8 * word + 8) inside in
+    let there : place ≡ 8 * word + place % 8 = omega arith in
+    rw there (get_or-sets_same (slice_range given (8 * word) (8 * word + 8)) bytes (8 * word) (place % 8) (omega arith)
+    (omega arith) ∙ get_or-between given (8 * word) (8 * word + 8) (place % 8) 0 (omega arith))
+
+-- a byte of another word
+restored_beside : (given bytes : List ℕ) (word place : ℕ) → 8 * word + 8 ≤ length given → word_of place ≢ word
+    → get_or (bytes_restored given bytes (8 * word)) place 0 ≡ get_or bytes place 0
+unfolding put_bytes
+restored_beside given bytes word place inside apart =
+    let size = length-between given (8 * word) (8 * word + 8) inside in
+    let eight : 8 * word + 8 - 8 * word ≡ 8 = omega arith in
+    get_or-sets_other (slice_range given (8 * word) (8 * word + 8)) bytes (8 * word) place
+    (rw (size, eight) (place_beside place word apart))
+
+-- the bytes of one word are put back
+pub given_beside_rest : (given bytes words : List ℕ) (index : ℕ) → AreGivenBeside (drop index words) given bytes
+    → index < length words → length bytes ≡ length given → 8 * get_or words index 0 + 8 ≤ length given
+    → AreGivenBeside (drop (index + 1) words) given (bytes_restored given bytes (8 * get_or words index 0))
+given_beside_rest given bytes words index before within sizes inside place none =
     elim (cases_eq (word_of place) (get_or words index 0)) [
-      | inl same ↦
-          let there : place ≡ 8 * get_or words index 0 + place % 8 = omega arith in
-          rw there (get_or-sets_same (slice_range given (8 * get_or words index 0) (8 * get_or words index 0 + 8)) bytes
-          (8 * get_or words index 0) (place % 8) (omega arith) (omega arith)
-          ∙ get_or-between given (8 * get_or words index 0) (8 * get_or words index 0 + 8) (place % 8) 0 (omega arith))
+      | inl same ↦ restored_within given bytes (get_or words index 0) place sizes inside same
       | inr apart ↦
           let rest = drop_more words index 0 within in
-          get_or-sets_other (slice_range given (8 * get_or words index 0) (8 * get_or words index 0 + 8)) bytes
-          (8 * get_or words index 0) place (rw size (let eight : 8 * get_or words index 0 + 8 - 8 * get_or words index 0 ≡ 8 = omega arith in
-          rw eight (place_beside place (get_or words index 0) apart)))
+          restored_beside given bytes (get_or words index 0) place inside apart
           ∙ before place (rw rest (word_beside (word_of place) (get_or words index 0) (drop (index + 1) words) apart none))
     ]
 
@@ -224,7 +236,8 @@ word_put_beside writes given bytes word value beside other none =
 pub noted_put : (noted after : CopiedFrames) (reads writes bytes : List ℕ) {read_mark write_mark read_room write_room : ℕ}
     → IsNoting noted.present noted.read reads read_room → IsNoting noted.present noted.written writes write_room
     → read_mark ≤ length reads → write_mark ≤ length writes → AreGivenBeside writes noted.given bytes
-    → after ≡ record noted { bytes = bytes } → IsSound after → AreNoted after reads writes read_mark write_mark read_room write_room
+    → after ≡ record noted { bytes = bytes } → IsSound after
+    → AreNoted after reads writes read_mark write_mark read_room write_room
 noted_put noted after reads writes bytes read written read_before written_before beside is sound = record {
   sound = sound;
   read = rw is read;
@@ -258,16 +271,13 @@ noting_given {present} {flags} frame room noting within fits =
 
 -- a copy is given where no word is noted
 pub noted_given : (copies given : CopiedFrames) (reads writes page : List ℕ)
-    {read_mark write_mark read_capacity write_capacity read_room write_room : ℕ} (place frame : ℕ)
+    {read_mark write_mark read_capacity write_capacity read_room write_room : ℕ} (frame : ℕ)
     → AreNoted copies reads writes read_mark write_mark read_capacity write_capacity → reads ≡ [] → writes ≡ []
     → copies.bytes ≡ copies.given → frame < length copies.present → 512 * (true_count copies.present + 1) ≤ read_room
-    → 512 * (true_count copies.present + 1) ≤ write_room → given ≡ record copies {
-      given = put_bytes copies.given place page;
-      bytes = put_bytes copies.bytes place page;
-      present = set copies.present frame true;
-    } → IsSound given → AreNoted given reads writes read_mark write_mark read_room write_room
-noted_given copies given reads writes page {read_room = read_room} {write_room = write_room} place frame noted none_read none_written
-    same within read_fits write_fits is sound =
+    → 512 * (true_count copies.present + 1) ≤ write_room → given ≡ with_frame copies frame page
+    → IsSound given → AreNoted given reads writes read_mark write_mark read_room write_room
+noted_given copies given reads writes page {read_room = read_room} {write_room = write_room} frame noted none_read
+    none_written same within read_fits write_fits is sound =
     let read = noted.read in
     let written = noted.written in
     record {
@@ -276,5 +286,5 @@ noted_given copies given reads writes page {read_room = read_room} {write_room =
       written = rw (is, none_written) (noting_given frame write_room (rw none_written at written) within write_fits);
       read_before = noted.read_before;
       written_before = noted.written_before;
-      beside = rw is (λ other none. ap (λ list. get_or (put_bytes list place page) other 0) same);
+      beside = rw is (λ other none. ap (λ list. get_or (put_bytes list (4096 * frame) page) other 0) same);
     }

@@ -1,5 +1,6 @@
 -- The copy of one frame.
-use Rattle.std.specs.Prelude.{ℕ, ◌≡◌, ◌<◌, Bool, false, List, length, get_or, replicate}
+use Rattle.std.specs.Prelude.{ℕ, ◌≡◌, ◌+◌, ◌<◌, Bool, false, List, length, get_or, replicate, slice_range}
+use Rattle.sb_memory.specs.Words.{put_bytes}
 use Rattle.sb_memory.specs.declared.page.TheConstants.{PAGE_SIZE}
 use Rattle.sb_partial.specs.declared.frame.TheConstants.{FRAME_WORDS}
 
@@ -18,6 +19,10 @@ pub record IsWhole (copy : CopiedFrame) : Type 0 where
   pub written_size : length copy.written ≡ FRAME_WORDS
   pub given_small : (place : ℕ) → get_or copy.given place 0 < 256
   pub bytes_small : (place : ℕ) → get_or copy.bytes place 0 < 256
+
+-- the bytes with the 8 that were given at a place
+abbrev pub bytes_restored : List ℕ → List ℕ → ℕ → List ℕ
+bytes_restored given bytes place = put_bytes bytes place (slice_range given place (place + 8))
 
 -- so many words, none of which is noted
 unfoldable pub no_flags : ℕ → List Bool

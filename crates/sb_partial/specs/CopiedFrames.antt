@@ -1,12 +1,12 @@
 -- The copies of all frames.
-use Rattle.std.specs.Prelude.{ℕ, ◌≡◌, ◌*◌, ◌<◌, ◌≤◌, All, Bool, false, List, Option, Some, None, is_some, length, get_or, map, flat_map, replicate, count_by}
+use Rattle.std.specs.Prelude.{ℕ, ◌≡◌, ◌*◌, ◌<◌, ◌≤◌, All, Bool, true, false, List, Option, Some, None, is_some, length, get_or, map, flat_map, replicate, set, count_by}
 use Rattle.sb_memory.specs.declared.page.TheConstants.{PAGE_SIZE}
-use Rattle.sb_memory.specs.Words.{zeros}
+use Rattle.sb_memory.specs.Words.{put_bytes, zeros}
 use Rattle.sb_partial.specs.declared.frame.TheConstants.{FRAME_WORDS}
 use Rattle.sb_partial.specs.CopiedFrame.{CopiedFrame, IsWhole, no_flags}
 
--- the bytes of all frames as they were given, those with what was written since, which frames are there, and which words are noted
--- as read and as written
+-- the bytes of all frames as they were given, those with what was written since, which frames are there, and which words are
+-- noted as read and as written
 pub record CopiedFrames : Type 0 where
   pub given : List ℕ
   pub bytes : List ℕ
@@ -29,6 +29,14 @@ pub record IsSound (copies : CopiedFrames) : Type 0 where
   pub bytes_small : (place : ℕ) → get_or copies.bytes place 0 < 256
   pub read_few : true_count copies.read ≤ FRAME_WORDS * true_count copies.present
   pub written_few : true_count copies.written ≤ FRAME_WORDS * true_count copies.present
+
+-- the copies with one more frame that is there, whose bytes are these
+abbrev pub with_frame : CopiedFrames → ℕ → List ℕ → CopiedFrames
+with_frame copies frame page = record copies {
+  given = put_bytes copies.given (PAGE_SIZE * frame) page;
+  bytes = put_bytes copies.bytes (PAGE_SIZE * frame) page;
+  present = set copies.present frame true;
+}
 
 -- ---- one frame, of which there may be a copy
 
@@ -76,7 +84,7 @@ IsWholeWhereThere None = Unit {0}
 IsWholeWhereThere (Some copy) = IsWhole copy
 
 -- the copies of frames, and how many there are
-pub record AreFrames (frames : List (Option CopiedFrame)) (there : ℕ) : Type 0 where
+pub record AreFrames (frames : List (Option CopiedFrame)) (count : ℕ) : Type 0 where
   pub few : length frames ≤ 8192
   pub whole : All IsWholeWhereThere frames
-  pub counted : there ≡ true_count (map is_some frames)
+  pub counted : count ≡ true_count (map is_some frames)

@@ -1,6 +1,6 @@
 -- What is kept of the words that are noted.
-use Rattle.std.specs.Prelude.{ℕ, ◌≡◌, ◌*◌, ◌/◌, ◌≤◌, All, Bool, true, false, List, length, get_or}
-use Rattle.sb_agree.specs.Noted.{has_word, word_of}
+use Rattle.std.specs.Prelude.{ℕ, ◌≡◌, ◌*◌, ◌/◌, ◌≤◌, All, Bool, true, false, List, length, get_or, if◌then◌else◌}
+use Rattle.sb_agree.specs.Noted.{has_word, with_word, word_of}
 use Rattle.sb_partial.specs.CopiedFrames.{CopiedFrames, IsSound, true_count}
 use Rattle.sb_partial.specs.declared.frame.TheConstants.{FRAME_WORDS}
 
@@ -18,6 +18,10 @@ pub record IsNoting (present flags : List Bool) (words : List ℕ) (capacity : �
   pub tied : AreFlags flags words
   pub counted : true_count flags ≡ length words
   pub room : FRAME_WORDS * true_count present ≤ capacity
+
+-- the words that are noted as read after one was read, which is noted where it was not written before
+abbrev pub reads_after : Bool → ℕ → List ℕ → List ℕ
+reads_after written word reads = if written then reads else with_word word reads
 
 -- bytes of words that are not among these are as they were given
 abbrev pub AreGivenBeside : List ℕ → List ℕ → List ℕ → Type 0

@@ -3,7 +3,7 @@
 ghost use Rattle.std.specs.Prelude.{◌≡◌, ℕ, ◌+◌, ◌<◌, ◌≤◌, length, slice_index, slice_set, slice_range, get_or, set, false, IfOk};
 ghost use Rattle.sb_memory.specs.Words.{word_at, put_word, put_bytes};
 ghost use Rattle.sb_memory.specs.declared.page.TheConstants.{PAGE_SIZE};
-ghost use Rattle.sb_partial.specs.CopiedFrame.{IsWhole, new_copy, no_flags};
+ghost use Rattle.sb_partial.specs.CopiedFrame.{IsWhole, bytes_restored, new_copy, no_flags};
 
 use sb_memory::{PAGE_SIZE, put_bytes, put_word, word};
 use std::alloc::{AllocError, Global};
@@ -12,8 +12,8 @@ use std::marker::Model;
 /// How many words of 8 bytes a frame has.
 pub const FRAME_WORDS: u64 = PAGE_SIZE / 8;
 
-/// The bytes of a frame, as they were given and with what was written since, and for each of its words whether it is noted as read
-/// and as written.
+/// The bytes of a frame, as they were given and with what was written since, and for each of its words whether it is noted as
+/// read and as written.
 #[derive(Drop)]
 pub struct FrameCopy {
     given: Vec<u8>,
@@ -127,7 +127,7 @@ impl FrameCopy {
     /// Puts the 8 bytes that were given at a place of the frame back there.
     pub fn restore_word(&mut self, place: usize)
         requires { place + 8 ≤ PAGE_SIZE }
-        ensures copy { self.new ≡ record self.old { bytes = put_bytes self.old.bytes place (slice_range self.old.given place (place + 8)) } }
+        ensures copy { self.new ≡ record self.old { bytes = bytes_restored self.old.given self.old.bytes place } }
         ensures whole { IsWhole self.new }
     {
         put_bytes(&mut self.bytes, place, &self.given[place..place + 8]);

@@ -4,7 +4,8 @@ ghost use Rattle.std.specs.Prelude.{◌≡◌, ◌+◌, ◌*◌, ◌/◌, ◌<�
 ghost use Rattle.sb_memory.specs.Words.{word_at, put_word, put_bytes};
 ghost use Rattle.sb_memory.specs.declared.page.TheConstants.{PAGE_SIZE};
 ghost use Rattle.sb_partial.specs.declared.frame.TheConstants.{FRAME_WORDS};
-ghost use Rattle.sb_partial.specs.CopiedFrames.{IsSound, no_frames, true_count};
+ghost use Rattle.sb_partial.specs.CopiedFrame.{bytes_restored};
+ghost use Rattle.sb_partial.specs.CopiedFrames.{IsSound, no_frames, true_count, with_frame};
 
 use crate::frame::{FRAME_WORDS, FrameCopy};
 use sb_memory::PAGE_SIZE;
@@ -15,7 +16,7 @@ use std::marker::Model;
 #[derive(Drop)]
 pub struct FrameCopies {
     frames: Vec<Option<FrameCopy>>,
-    there: usize,
+    count: usize,
 }
 
 impl Model for FrameCopies {
@@ -25,7 +26,7 @@ impl Model for FrameCopies {
 
     ghost view = { λ copies. frames_in copies.frames.items };
 
-    ghost invariant = { λ copies. AreFrames copies.frames.items copies.there };
+    ghost invariant = { λ copies. AreFrames copies.frames.items copies.count };
 }
 
 impl FrameCopies {
@@ -41,11 +42,11 @@ impl FrameCopies {
         }
         Ok(FrameCopies {
             frames: all,
-            there: 0,
+            count: 0,
         })
     }
 
-    /// How many frames there are, with those that are not there.
+    /// The number of frames, with those of which there is no copy.
     pub fn frame_count(&self) -> usize
         ensures count { result ≡ length self.now.present }
         ensures sound { IsSound self.now }
@@ -53,12 +54,12 @@ impl FrameCopies {
         self.frames.len()
     }
 
-    /// How many frames are there.
-    pub fn count(&self) -> usize
+    /// The number of copies.
+    pub fn copy_count(&self) -> usize
         ensures count { result ≡ true_count self.now.present }
         ensures sound { IsSound self.now }
     {
-        self.there
+        self.count
     }
 
     /// Whether a frame is there.
@@ -73,7 +74,7 @@ impl FrameCopies {
     pub fn give(&mut self, alloc: Global, frame: usize, bytes: &[u8]) -> Result<(), AllocError>
         requires frame { frame < length self.old.present }
         requires size { length bytes.now ≡ PAGE_SIZE }
-        ensures given { IfOk result (λ _. self.new ≡ record self.old { given = put_bytes self.old.given (PAGE_SIZE * frame) bytes.now; bytes = put_bytes self.old.bytes (PAGE_SIZE * frame) bytes.now; present = set self.old.present frame true }) }
+        ensures given { IfOk result (λ _. self.new ≡ with_frame self.old frame bytes.now) }
         ensures refused { IfErr result (λ _. self.new ≡ self.old) }
         ensures sound { IsSound self.new }
     {
@@ -91,13 +92,13 @@ impl FrameCopies {
         requires frame { frame < length self.old.present }
         requires missing { get_or self.old.present frame false ≡ false }
         requires size { length bytes.now ≡ PAGE_SIZE }
-        ensures given { IfOk result (λ _. self.new ≡ record self.old { given = put_bytes self.old.given (PAGE_SIZE * frame) bytes.now; bytes = put_bytes self.old.bytes (PAGE_SIZE * frame) bytes.now; present = set self.old.present frame true }) }
+        ensures given { IfOk result (λ _. self.new ≡ with_frame self.old frame bytes.now) }
         ensures refused { IfErr result (λ _. self.new ≡ self.old) }
         ensures sound { IsSound self.new }
     {
         let slot = &mut self.frames[frame];
         *slot = Some(FrameCopy::new(alloc, bytes)?);
-        self.there += 1;
+        self.count += 1;
         Ok(())
     }
 
@@ -109,7 +110,7 @@ impl FrameCopies {
         for frame in self.frames.iter_mut() {
             *frame = None;
         }
-        self.there = 0;
+        self.count = 0;
     }
 
     /// The byte at a place of a frame that is there.
@@ -172,7 +173,7 @@ impl FrameCopies {
     /// Puts back the 8 bytes that were given for the word with a number, in a frame that is there.
     pub fn restore_word(&mut self, word: usize)
         requires { get_or self.old.present (word / FRAME_WORDS) false ≡ true }
-        ensures copies { self.new ≡ record self.old { bytes = put_bytes self.old.bytes (8 * word) (slice_range self.old.given (8 * word) (8 * word + 8)) } }
+        ensures copies { self.new ≡ record self.old { bytes = bytes_restored self.old.given self.old.bytes (8 * word) } }
         ensures sound { IsSound self.new }
     {
         let Some(copy) = &mut self.frames[word / FRAME_WORDS as usize] else {

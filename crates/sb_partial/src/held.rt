@@ -14,8 +14,8 @@ use sb_memory::{Frame, Missing, PAGE_SIZE, Phys, PhysAddr};
 use std::alloc::{AllocError, Global};
 use std::marker::Model;
 
-/// The copies of all frames, and the lists of the words that were read and written. Each list has room for all words of the frames
-/// that are there. The marks are the lengths of the lists when the present step began.
+/// The copies of all frames, and the lists of the words that were read and written. Each list has room for all words of the
+/// frames that are there. The marks are the lengths of the lists when the present step began.
 #[derive(Drop)]
 pub struct Held {
     copies: FrameCopies,
@@ -66,7 +66,7 @@ impl Held {
         ensures given { IfOk result (λ _. self.new ≡ untouched (with_copy self.old.given frame bytes.now)) }
         ensures refused { IfErr result (λ _. self.new ≡ self.old) }
     {
-        let words = FRAME_WORDS as usize * (self.copies.count() + 1);
+        let words = FRAME_WORDS as usize * (self.copies.copy_count() + 1);
         self.reads.reserve(words)?;
         self.writes.reserve(words)?;
         self.copies.give(alloc, frame, bytes)?;
@@ -169,7 +169,8 @@ impl Phys for Held {
         if !self.copies.has_frame((at.0 / PAGE_SIZE) as usize) {
             return Err(missing(at));
         }
-        note_read(&mut self.copies, &mut self.reads, at.0 / 8);
+        let touched = at.0 / 8;
+        note_read(&mut self.copies, &mut self.reads, touched);
         Ok(self.copies.byte(at.0 as usize))
     }
 
@@ -178,17 +179,19 @@ impl Phys for Held {
         if !self.copies.has_frame((at.0 / PAGE_SIZE) as usize) {
             return Err(missing(at));
         }
-        note_read(&mut self.copies, &mut self.reads, at.0 / 8);
-        Ok(self.copies.word((at.0 / 8) as usize))
+        let whole = at.0 / 8;
+        note_read(&mut self.copies, &mut self.reads, whole);
+        Ok(self.copies.word(whole as usize))
     }
 
-    #[tactic(auto, unfolding(sb_agree::specs::Noted::noted_rule, sb_agree::specs::Noted::read_noted, sb_agree::specs::Noted::write_noted))]
+    #[tactic(auto, unfolding(sb_agree::specs::Noted::noted_rule))]
     fn write_byte(&mut self, at: PhysAddr, value: u8) -> Result<(), Missing> {
         if !self.copies.has_frame((at.0 / PAGE_SIZE) as usize) {
             return Err(missing(at));
         }
-        note_read(&mut self.copies, &mut self.reads, at.0 / 8);
-        note_written(&mut self.copies, &mut self.writes, at.0 / 8);
+        let partly = at.0 / 8;
+        note_read(&mut self.copies, &mut self.reads, partly);
+        note_written(&mut self.copies, &mut self.writes, partly);
         self.copies.set_byte(at.0 as usize, value);
         Ok(())
     }
@@ -198,8 +201,9 @@ impl Phys for Held {
         if !self.copies.has_frame((at.0 / PAGE_SIZE) as usize) {
             return Err(missing(at));
         }
-        note_written(&mut self.copies, &mut self.writes, at.0 / 8);
-        self.copies.set_word((at.0 / 8) as usize, value);
+        let word = at.0 / 8;
+        note_written(&mut self.copies, &mut self.writes, word);
+        self.copies.set_word(word as usize, value);
         Ok(())
     }
 }

@@ -3,7 +3,7 @@
 ghost use Rattle.std.specs.Prelude.{ℕ, ◌≡◌, ◌/◌, ◌≤◌, true, false, if◌then◌else◌, get_or, length, take, vec_capacity};
 ghost use Rattle.sb_agree.specs.Noted.{with_word};
 ghost use Rattle.sb_partial.specs.CopiedFrames.{IsSound};
-ghost use Rattle.sb_partial.specs.Noting.{AllThere, AreFlags, AreGivenBeside, IsNoting};
+ghost use Rattle.sb_partial.specs.Noting.{AllThere, AreFlags, AreGivenBeside, IsNoting, reads_after};
 ghost use Rattle.sb_partial.specs.CopiedFrame.{no_flags};
 ghost use Rattle.sb_partial.specs.declared.frame.TheConstants.{FRAME_WORDS};
 
@@ -14,7 +14,7 @@ pub fn note_read(copies: &mut FrameCopies, reads: &mut Vec<u64>, word: u64)
     requires there { get_or copies.old.present (word / FRAME_WORDS) false ≡ true }
     requires sound { IsSound copies.old }
     requires noting { IsNoting copies.old.present copies.old.read reads.old.items (vec_capacity reads.old) }
-    ensures words { reads.new.items ≡ (if get_or copies.old.written word false then reads.old.items else with_word word reads.old.items) }
+    ensures words { reads.new.items ≡ reads_after (get_or copies.old.written word false) word reads.old.items }
     ensures copies { copies.new ≡ record copies.old { read = copies.new.read } }
     ensures sound { IsSound copies.new }
     ensures noting { IsNoting copies.new.present copies.new.read reads.new.items (vec_capacity reads.new) }

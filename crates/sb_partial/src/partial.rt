@@ -14,8 +14,8 @@ use std::marker::Model;
 /// Physical memory of which some frames are there, as copies. It notes which words are read and which are written, each once, and
 /// holds back what is written. A call at a frame of which there is no copy answers `Missing`.
 ///
-/// To contracts it is a `Copied`. As a `Phys` its account is `Noted` with `noted_rule`, and what no call changes is what was given
-/// and what was noted when the present step began.
+/// To contracts it is a `Copied`. As a `Phys` its account is `Noted` with `noted_rule`, and what no call changes is what was
+/// given and what was noted when the present step began.
 #[derive(Drop)]
 pub struct Partial {
     frames: u32,

@@ -1,10 +1,9 @@
-use Rattle.std.proofs.Common.{◌*◌, ◌+◌, ap, get_or, false, set, arith}
-use Rattle.std.specs.Prelude.{slice_range}
+use Rattle.std.proofs.Common.{◌*◌, ap, get_or, false, set, arith}
 use Rattle.sb_agree.specs.Noted.{word_of}
-use Rattle.sb_memory.specs.Words.{put_bytes}
+use Rattle.sb_partial.specs.CopiedFrame.{bytes_restored}
 use Rattle.sb_partial.specs.CopiedFrames.{CopiedFrames}
 use Rattle.sb_partial.specs.Noting.{AllThere}
-use Rattle.sb_partial.proofs.Noting.{bytes_restored, flag_cleared, none_left, stays_beside, word_inside, writes_taken_back}
+use Rattle.sb_partial.proofs.Noting.{flag_cleared, given_beside_rest, none_left, stays_beside, word_inside, writes_taken_back}
 use Rattle.sb_partial.proofs.note.take_back.Goals as goal
 
 pub loop-word-preserved : goal.loop-word-preserved
@@ -20,12 +19,12 @@ loop-word-preserved c =
     let bytes_size = before.sound.bytes_size in
     record {
       same = stays_beside c.args.copies.now old c.restore_word.new.self c.set_written.new.self
-          (put_bytes old.bytes (8 * get_or words index 0) (slice_range old.given (8 * get_or words index 0) (8 * get_or words index 0 + 8)))
+          (bytes_restored old.given old.bytes (8 * get_or words index 0))
           (set c.restore_word.new.self.written (get_or words index 0) false)
           before.same c.restore_word.ensures.copies c.set_written.ensures.copies;
       sound = c.set_written.ensures.sound;
       beside = rw (c.set_written.ensures.copies, c.restore_word.ensures.copies)
-          (bytes_restored old.given old.bytes words index before.beside c.loop-word-test.true (omega arith) inside.0);
+          (given_beside_rest old.given old.bytes words index before.beside c.loop-word-test.true (omega arith) inside.0);
       flags = rw (c.set_written.ensures.copies, c.restore_word.ensures.copies)
           (flag_cleared old.written words index before.flags c.loop-word-test.true inside.1);
     }

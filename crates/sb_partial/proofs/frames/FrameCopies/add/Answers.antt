@@ -1,5 +1,4 @@
-use Rattle.std.proofs.Common.{ap, arith}
-use Rattle.sb_partial.specs.CopiedFrame.{CopiedFrame}
+use Rattle.std.proofs.Common.{arith}
 use Rattle.sb_partial.proofs.Changed.{frames_added, frames_back, page_put}
 use Rattle.sb_partial.proofs.OneFrame.{at_missing, sound_frames, within_present}
 use Rattle.sb_partial.proofs.frames.FrameCopies.add.Goals as goal
@@ -23,9 +22,7 @@ pub returns-clause-given : goal.returns-clause-given
 returns-clause-given c =
     let inside = within_present c.self.inside.frames.items c.args.self.now c.args.frame c.self.view_is c.requires.frame in
     let at = at_missing c.args.frame c.self.invariant c.self.view_is inside c.requires.missing in
-    let is = c.in_ok-new.ensures.copy in
-    page_put c.in_ok-new.field-0 c.args.frame c.args.bytes.now at c.requires.size (ap (λ (one : CopiedFrame). one.given) is)
-    (ap (λ (one : CopiedFrame). one.bytes) is) (ap (λ (one : CopiedFrame). one.read) is) (ap (λ (one : CopiedFrame). one.written) is)
+    page_put c.in_ok-new.field-0 c.args.bytes.now at c.requires.size c.in_ok-new.ensures.copy
 
 pub returns-clause-sound : goal.returns-clause-sound
 returns-clause-sound c = sound_frames (invariant_of-self-2 c)

@@ -1,5 +1,4 @@
-use Rattle.std.proofs.Common.{ap, arith}
-use Rattle.sb_partial.specs.CopiedFrame.{CopiedFrame}
+use Rattle.std.proofs.Common.{arith}
 use Rattle.sb_partial.proofs.Changed.{frames_changed, missing_in, page_put}
 use Rattle.sb_partial.proofs.OneFrame.{at_copy, sound_frames, within_present}
 use Rattle.sb_partial.proofs.frames.FrameCopies.give.Goals as goal
@@ -19,9 +18,7 @@ pub returns-in-Some-clause-given : goal.returns-in-Some-clause-given
 returns-in-Some-clause-given c =
     let inside = within_present c.self.inside.frames.items c.args.self.now c.args.frame c.self.view_is c.requires.frame in
     let at = at_copy c.args.frame c.self.invariant c.self.view_is inside c.index_mut.ensures.value c.in-Some.is in
-    let is = c.replace.ensures.copy in
-    page_put c.replace.new.self c.args.frame c.args.bytes.now at c.requires.size (ap (λ (one : CopiedFrame). one.given) is)
-    (ap (λ (one : CopiedFrame). one.bytes) is) (ap (λ (one : CopiedFrame). one.read) is) (ap (λ (one : CopiedFrame). one.written) is)
+    page_put c.replace.new.self c.args.bytes.now at c.requires.size c.replace.ensures.copy
 
 pub returns-in-Some-clause-sound : goal.returns-in-Some-clause-sound
 returns-in-Some-clause-sound c = sound_frames (invariant_of-self c)

@@ -1,5 +1,5 @@
 use Rattle.std.proofs.Common.{◌/◌, ◌∙◌, sym, arith}
-use Rattle.sb_partial.proofs.OneFrame.{at_there, read_at, not_missing, within_there}
+use Rattle.sb_partial.proofs.OneFrame.{at_there, flag_at, is_read, not_missing, within_there}
 use Rattle.sb_partial.proofs.frames.FrameCopies.is_read.Goals as goal
 
 pub index-requires : goal.index-requires
@@ -9,9 +9,10 @@ index-requires c =
 
 pub unreachable-requires : goal.unreachable-requires
 unreachable-requires c =
-    not_missing (at_there (c.args.word / 512) c.self.invariant c.self.view_is c.requires c.index.ensures c.in_default.is) c.requires
+    let at = at_there (c.args.word / 512) c.self.invariant c.self.view_is c.requires c.index.ensures c.in_default.is in
+    not_missing at c.requires
 
 pub returns : goal.returns
 returns c =
     let at = at_there (c.args.word / 512) c.self.invariant c.self.view_is c.requires c.index.ensures c.in-Some.is in
-    c.is_read.ensures ∙ sym (read_at c.args.word at)
+    c.is_read.ensures ∙ sym (flag_at c.args.word is_read at)

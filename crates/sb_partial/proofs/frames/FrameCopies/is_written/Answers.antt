@@ -1,5 +1,5 @@
 use Rattle.std.proofs.Common.{◌/◌, ◌∙◌, sym, arith}
-use Rattle.sb_partial.proofs.OneFrame.{at_there, written_at, not_missing, within_there}
+use Rattle.sb_partial.proofs.OneFrame.{at_there, flag_at, is_written, not_missing, within_there}
 use Rattle.sb_partial.proofs.frames.FrameCopies.is_written.Goals as goal
 
 pub index-requires : goal.index-requires
@@ -9,9 +9,10 @@ index-requires c =
 
 pub unreachable-requires : goal.unreachable-requires
 unreachable-requires c =
-    not_missing (at_there (c.args.word / 512) c.self.invariant c.self.view_is c.requires c.index.ensures c.in_default.is) c.requires
+    let at = at_there (c.args.word / 512) c.self.invariant c.self.view_is c.requires c.index.ensures c.in_default.is in
+    not_missing at c.requires
 
 pub returns : goal.returns
 returns c =
     let at = at_there (c.args.word / 512) c.self.invariant c.self.view_is c.requires c.index.ensures c.in-Some.is in
-    c.is_written.ensures ∙ sym (written_at c.args.word at)
+    c.is_written.ensures ∙ sym (flag_at c.args.word is_written at)

@@ -10,7 +10,9 @@ index_mut-requires c =
 
 pub unreachable-requires : goal.unreachable-requires
 unreachable-requires c =
-    not_missing (at_there (c.args.place / 4096) c.self.invariant c.self.view_is c.requires c.index_mut.ensures.value c.in_default.is) c.requires
+    let at = at_there (c.args.place / 4096) c.self.invariant c.self.view_is c.requires c.index_mut.ensures.value
+    c.in_default.is in
+    not_missing at c.requires
 
 pub invariant_of-self : goal.invariant_of-self
 invariant_of-self c =

@@ -1,4 +1,4 @@
-use Rattle.std.proofs.Common.{◌≡◌, ◌∙◌, ◌*◌, ap, sym, [], length, arith}
+use Rattle.std.proofs.Common.{◌≡◌, ◌∙◌, ap, sym, [], length, arith}
 use Rattle.sb_partial.specs.Copies.{Copied}
 use Rattle.sb_partial.proofs.Noting.{noted_given}
 use Rattle.sb_partial.proofs.held.Held.give.Goals as goal
@@ -12,11 +12,11 @@ invariant_of-self-2 c =
     ap (λ (held : Copied). held.memory.bytes) as_given ∙ sym (ap (λ (held : Copied). held.given.bytes) c.self.view_is) in
     let present = ap (λ (held : Copied). length held.given.present) c.self.view_is in
     let frame = c.requires.frame in
-    let count = c.count.ensures.count in
+    let count = c.copy_count.ensures.count in
     let read_room = c.in_ok-reserve.ensures.ok in
     let write_room = c.in_ok-reserve-2.ensures.ok in
     rw (c.reserve.ensures.items, c.reserve-2.ensures.items)
     (noted_given c.self.inside.copies c.give.new.self c.self.inside.reads.items c.self.inside.writes.items c.args.bytes.now
-    (4096 * c.args.frame) c.args.frame c.self.invariant none_read none_written same (omega arith)
+    c.args.frame c.self.invariant none_read none_written same (omega arith)
     (omega (arith, read_room)) (omega (arith, write_room))
     c.in_ok-give.ensures.given c.give.ensures.sound)

@@ -1,5 +1,5 @@
 use Rattle.sb_partial.proofs.OneFrame.{counted_frames, sound_view}
-use Rattle.sb_partial.proofs.frames.FrameCopies.count.Goals as goal
+use Rattle.sb_partial.proofs.frames.FrameCopies.copy_count.Goals as goal
 
 pub returns-clause-count : goal.returns-clause-count
 returns-clause-count c = counted_frames c.self.invariant c.self.view_is
