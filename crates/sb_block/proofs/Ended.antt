@@ -31,11 +31,13 @@ unfolding CoreRuns
 events_none rule before after [] none runs = runs
 events_none rule before after (event ∷ events) none runs = absurd (omega arith)
 
+-- there are as many lines as steps
 length-lines : (number : ℕ) (events : List Event) (lines : List Line) → lines ≡ lines_of_core number events
     → length events ≡ length lines
 length-lines number events lines same =
     sym (ap length same ∙ length-map events (λ (event : Event). record { core = number; event = event }))
 
+-- why the first step is not made, as an answer
 refuses_by : (start : CoreState) (copies : Physical) (stopped : StepStop)
     → CoreSteps noted_rule (at start copies nothing) (outcome_of stopped) → Refuses start copies (told stopped)
 refuses_by start copies (why.NeedFrame frame) step = step
@@ -55,6 +57,7 @@ refused_by {number} {start} {copies} {lines} {last} (Err stopped) answer run end
 
 -- ---- steps are made
 
+-- why no further step is made
 ends_by : (limit count : ℕ) (last : At Noted) (made : Result (Unit {0}) StepStop) → EndsRun limit count last made
     → EndsAt limit count last
 ends_by limit count last (Ok done) ends = inl ends
@@ -85,19 +88,23 @@ run_by {number} {limit} {after} {lines} {part} made run ends some got given =
 
 -- ---- where its places lie
 
+-- a word that lies inside, by its number
 word_in : (frames word : ℕ) → 8 * word + 8 ≤ PAGE_SIZE * frames → IsWordIn frames (Word (8 * word))
 word_in frames word inside = (omega arith, inside)
 
+-- words that lie inside, with the values that a memory has there
 words_in : (copies memory : Physical) (words : List ℕ) → AllInside copies words
     → AreWritesIn (frame_count copies) (seen_words memory words)
 words_in copies memory words inside =
     All-map (λ (seen : Seen). IsWordIn (frame_count copies) seen.place) (seen_word memory) words
     (λ index other below. word_in (frame_count copies) _ (inside index other below))
 
+-- a word is a place
 place_in : (frames number : ℕ) (place : Place) → IsWordIn frames place → IsPlaceIn frames number place
 place_in frames number (Word place) inside = inside
 place_in frames number (Core other) inside = absurd inside
 
+-- and so are all of them
 places_in : (frames number : ℕ) (seens : List Seen) → AreWritesIn frames seens → AreReadsIn frames number seens
 places_in frames number seens inside = λ index other below. place_in frames number _ (inside index other below)
 
