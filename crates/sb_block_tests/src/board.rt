@@ -141,8 +141,8 @@ impl Board {
     }
 }
 
-/// Gives each frame that is asked for, until there is a block, or the step is the kernels'. Afterwards `asked` has these frames, in
-/// the order in which they were asked for.
+/// Gives each frame that is asked for, until there is a block, or the step is the kernels'. Afterwards `asked` has these
+/// frames, in the order in which they were asked for.
 pub fn ask(
     alloc: Global,
     board: &mut Board,
