@@ -4,6 +4,7 @@ import os
 import pathlib
 import subprocess
 import sys
+import tempfile
 from typing import List, NamedTuple, Sequence, Tuple
 
 ROOT = pathlib.Path(__file__).resolve().parent.parent
@@ -55,6 +56,16 @@ def replay(bundle_bytes: bytes, word: str = "replay") -> Tuple[int, List[str]]:
     """The status of `replay`, or of another command, on the bundle, and the lines that it writes."""
     done = subprocess.run([PROGRAM, word], input=bundle_bytes, stdout=subprocess.PIPE)
     return done.returncode, done.stdout.decode().splitlines()
+
+
+def with_journal(image: bytes, output: bytes) -> Tuple[bytes, bytes]:
+    """The bundle with the journal of an output of `skycores` as its schedule, and what stands in that output behind it."""
+    with tempfile.TemporaryDirectory() as folder:
+        given, written = pathlib.Path(folder) / "bundle", pathlib.Path(folder) / "output"
+        given.write_bytes(image)
+        written.write_bytes(output)
+        subprocess.run([ROOT / "tools/bundle", "--journal", written, given, "-o", given], check=True)
+        return given.read_bytes(), output[output.index(b"skybridge report") :]
 
 
 def threads(report: List[str]) -> List[Thread]:

@@ -29,6 +29,7 @@ FAULTING = bytes.fromhex("8b042500000090")  # mov eax, [FFFFFFFF90000000]
 COUNTING = bytes.fromhex("ba01000000 f0480fc1142500008000")  # mov edx, 1; lock xadd [800000], rdx
 WAITING = bytes.fromhex("b905000000 ffc9 75fc")  # mov ecx, 5; dec ecx; jne to it
 GO_ON = bytes.fromhex("4c89e6 4489e9 31c0")  # the way to VMFUNC with the key in R12 and the index in R13
+AGAIN = bytes.fromhex("85c0 75eb")  # test eax, eax; jne to the system call before it, which is made until it answers 0
 
 
 def call(number: int, first: int = 0, second: int = 0) -> bytes:
@@ -102,14 +103,14 @@ def calls(draw: random.Random) -> bytes:
     return bundle(processes, [(core, TEXT) for core in range(cores)], schedule, draw.choice((1024, 1024, 700)), keys)
 
 
-def contention(draw: random.Random) -> bytes:
+def contention(draw: random.Random, behind_bind: bytes = b"") -> bytes:
     """One server with few stacks, and clients that call it at one time."""
     clients = draw.randrange(2, CORES)
     body = COUNTING + WAITING * draw.randrange(3) + RET
     texts = [call(REGISTER, TEXT + 34, draw.randrange(1, 4)) + call(EXIT) + body]
     calling = bytes.fromhex("89df 4889ee")
     for _ in range(clients):
-        text = call(BIND) + bytes.fromhex("89d3 4c89c5")
+        text = call(BIND) + behind_bind + bytes.fromhex("89d3 4c89c5")
         for _ in range(4):
             text += calling + jump(CALL, TEXT + len(text) + len(calling), TRAMPOLINE) + bytes.fromhex("89c7 b801000000 0f05")
         texts.append(text + call(EXIT))
@@ -229,6 +230,11 @@ def with_heap(image: bytes, pages: int) -> bytes:
     return machine._replace(processes=[process._replace(heap_pages=pages) for process in machine.processes]).bundle()
 
 
+def cores(draw: random.Random) -> bytes:
+    """A machine whose cores run in any order: clients that ask until there is a server, or a machine of another kind."""
+    return contention(draw, AGAIN) if draw.random() < 0.5 else draw.choice((calls, hostile, heap))(draw)
+
+
 def broken(draw: random.Random) -> bytes:
     """A bundle with bytes changed, mostly of its header, cut off or added."""
     image = bytearray(draw.choice((calls, hostile, heap))(draw))
@@ -246,7 +252,7 @@ def broken(draw: random.Random) -> bytes:
 
 
 KINDS: Dict[str, Callable[[random.Random], bytes]] = {
-    "calls": calls, "contention": contention, "hostile": hostile, "patterns": patterns, "heap": heap, "broken": broken,
+    "calls": calls, "contention": contention, "hostile": hostile, "patterns": patterns, "heap": heap, "broken": broken, "cores": cores,
 }
 # What the reports, or the refusals, of some bundles of a kind hold, so that the kind is what it is named for.
 SEEN: Dict[str, Tuple[str, ...]] = {
@@ -256,6 +262,7 @@ SEEN: Dict[str, Tuple[str, ...]] = {
     "patterns": ("step 10", "exit"),
     "heap": ("sys 4 0", "sys 4 20", "step c0"),
     "broken": ("bundle Count", "bundle Range", "bundle Short", "bundle Trailing"),
+    "cores": ("budget", "ended", "entered", "return", "dump"),
 }
 
 

@@ -31,44 +31,46 @@ unfolding CoreRuns
 events_none rule before after [] none runs = runs
 events_none rule before after (event ∷ events) none runs = absurd (omega arith)
 
+-- there are as many lines as steps
 length-lines : (number : ℕ) (events : List Event) (lines : List Line) → lines ≡ lines_of_core number events
     → length events ≡ length lines
 length-lines number events lines same =
     sym (ap length same ∙ length-map events (λ (event : Event). record { core = number; event = event }))
 
+-- why the first step is not made, as an answer
 refuses_by : (start : CoreState) (copies : Physical) (stopped : StepStop)
     → CoreSteps noted_rule (at start copies nothing) (outcome_of stopped) → Refuses start copies (told stopped)
 refuses_by start copies (why.NeedFrame frame) step = step
 refuses_by start copies why.Kernel step = step
 
 -- no line: it is the first step that is not made
-pub refused_by : (number : ℕ) (start : CoreState) (copies memory : Physical) (lines : List Line) (last : At Noted) (limit : ℕ)
-    (made : Result (Unit {0}) StepStop) (answer : Stop) → IsToldRun noted_rule number (at start memory nothing) lines last
-    → EndsRun limit (length lines) last made → IfErr made (λ stopped. answer ≡ told stopped) → memory ≡ copies → 1 ≤ limit
+pub refused_by : {number limit : ℕ} {start : CoreState} {copies : Physical} {lines : List Line} {last : At Noted}
+    (made : Result (Unit {0}) StepStop) (answer : Stop) → IsToldRun noted_rule number (at start copies nothing) lines last
+    → EndsRun limit (length lines) last made → IfErr made (λ stopped. answer ≡ told stopped) → 1 ≤ limit
     → length lines ≡ 0 → Refuses start copies answer
-refused_by number start copies memory lines last limit (Ok done) answer run ends told_by same some none =
-    absurd (omega (arith, ends, none, some))
-refused_by number start copies memory lines last limit (Err stopped) answer run ends told_by same some none =
-    let first = events_none noted_rule (at start memory nothing) last run.events
+refused_by (Ok done) answer run ends told_by some none = absurd (omega (arith, ends, none, some))
+refused_by {number} {start} {copies} {lines} {last} (Err stopped) answer run ends told_by some none =
+    let first = events_none noted_rule (at start copies nothing) last run.events
     (length-lines number run.events lines run.told ∙ none) run.runs in
-    rw (told_by, ← same) (refuses_by start memory stopped
+    rw told_by (refuses_by start copies stopped
     (subst (λ (one : At Noted). CoreSteps noted_rule one (outcome_of stopped)) first ends.1))
 
 -- ---- steps are made
 
+-- why no further step is made
 ends_by : (limit count : ℕ) (last : At Noted) (made : Result (Unit {0}) StepStop) → EndsRun limit count last made
     → EndsAt limit count last
 ends_by limit count last (Ok done) ends = inl ends
 ends_by limit count last (Err stopped) ends = inr (ends.0, (stopped, ends.1))
 
 -- what was gathered after the steps
-pub run_by : (number : ℕ) (start after : CoreState) (copies : Physical) (limit : ℕ) (made : Result (Unit {0}) StepStop)
-    (lines : List Line) (part : Copied) (core : ℕ) (before last : CoreState) (all : List Line) (reads writes : List Seen)
+pub run_by : {number limit core : ℕ} {start after before last : CoreState} {copies : Physical} {lines all : List Line}
+    {part : Copied} {reads writes : List Seen} (made : Result (Unit {0}) StepStop)
     → IsToldRun noted_rule number (at start copies nothing) lines (at after part.memory part.began)
-    → EndsRun limit (length lines) (at after part.memory part.began) made → 0 < length lines → part.given ≡ copies
-    → IsGathered number start after lines part core before last all reads writes
+    → EndsRun limit (length lines) (at after part.memory part.began) made → 0 < length lines
+    → IsGathered number start after lines part core before last all reads writes → part.given ≡ copies
     → IsRunOf number start limit copies core before last all reads writes
-run_by number start after copies limit made lines part core before last all reads writes run ends some given got =
+run_by {number} {limit} {after} {lines} {part} made run ends some got given =
     let count = length-lines number run.events lines run.told in
     rw (got.all, got.to, ← given) (record {
       events = run.events;
@@ -86,25 +88,29 @@ run_by number start after copies limit made lines part core before last all read
 
 -- ---- where its places lie
 
+-- a word that lies inside, by its number
 word_in : (frames word : ℕ) → 8 * word + 8 ≤ PAGE_SIZE * frames → IsWordIn frames (Word (8 * word))
 word_in frames word inside = (omega arith, inside)
 
+-- words that lie inside, with the values that a memory has there
 words_in : (copies memory : Physical) (words : List ℕ) → AllInside copies words
     → AreWritesIn (frame_count copies) (seen_words memory words)
 words_in copies memory words inside =
     All-map (λ (seen : Seen). IsWordIn (frame_count copies) seen.place) (seen_word memory) words
     (λ index other below. word_in (frame_count copies) _ (inside index other below))
 
+-- a word is a place
 place_in : (frames number : ℕ) (place : Place) → IsWordIn frames place → IsPlaceIn frames number place
 place_in frames number (Word place) inside = inside
 place_in frames number (Core other) inside = absurd inside
 
+-- and so are all of them
 places_in : (frames number : ℕ) (seens : List Seen) → AreWritesIn frames seens → AreReadsIn frames number seens
 places_in frames number seens inside = λ index other below. place_in frames number _ (inside index other below)
 
 -- what was read of the copies, behind how many lines the core had made
-pub reads_by : {number core : ℕ} {start after before last : CoreState} {copies : Physical} {lines all : List Line} {part : Copied}
-    {reads writes : List Seen} → IsGathered number start after lines part core before last all reads writes
+pub reads_by : {number core : ℕ} {start after before last : CoreState} {copies : Physical} {lines all : List Line}
+    {part : Copied} {reads writes : List Seen} → IsGathered number start after lines part core before last all reads writes
     → part.given ≡ copies → AreReadsIn (frame_count copies) number reads
 reads_by {number} {start} {part} got given =
     rw (got.saw, ← given)
@@ -114,8 +120,8 @@ reads_by {number} {start} {part} got given =
     (words_in part.given part.given part.began.reads got.reads_inside)))
 
 -- what was written
-pub writes_by : {number core : ℕ} {start after before last : CoreState} {copies : Physical} {lines all : List Line} {part : Copied}
-    {reads writes : List Seen} → IsGathered number start after lines part core before last all reads writes
+pub writes_by : {number core : ℕ} {start after before last : CoreState} {copies : Physical} {lines all : List Line}
+    {part : Copied} {reads writes : List Seen} → IsGathered number start after lines part core before last all reads writes
     → part.given ≡ copies → AreWritesIn (frame_count copies) writes
 writes_by {part} got given =
     rw (got.wrote, ← given) (words_in part.given part.memory part.began.writes got.writes_inside)

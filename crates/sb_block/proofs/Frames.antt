@@ -18,27 +18,32 @@ use Rattle.sb_machine.specs.Machine.{seen_by}
 use Rattle.sb_machine.specs.declared.processor.CoreState.{CoreState}
 use Rattle.sb_block.specs.Step.{Rule, core_execution}
 
+-- bytes that are put at places
 value_frames : (memory : Physical) (places : List PhysAddr) (value : ℕ)
     → frame_count (put_value memory places value) ≡ frame_count memory
 value_frames memory [] value = refl
 value_frames memory (place ∷ places) value =
     value_frames (byte_written memory place.0 (value % 256)) places (value / 256) ∙ frames_after memory place.0 (value % 256)
 
+-- where the places are known
 answer_frames : (memory : Physical) (answer : Result (List PhysAddr) BusStop) (value : ℕ)
     → frame_count (put_answer memory answer value) ≡ frame_count memory
 answer_frames memory (Ok places) value = value_frames memory places value
 answer_frames memory (Err stop) value = refl
 
+-- a word that is put where an address leads
 word_frames : (memory : Physical) (place : Result PhysAddr NestedStop) (word : ℕ)
     → frame_count (put_word_at memory place word) ≡ frame_count memory
 word_frames memory (Ok place) word = frames_after_word memory place.0 word
 word_frames memory (Err stop) word = refl
 
+-- either of two memories
 by_test : (test : Bool) (first second : Physical) (count : ℕ) → frame_count first ≡ count → frame_count second ≡ count
     → frame_count (if test then first else second) ≡ count
 by_test true first second count one other = one
 by_test false first second count one other = other
 
+-- a store
 stored_frames : (core : View) (address size value : ℕ)
     → frame_count (memory_stored core address size value) ≡ frame_count core.physical
 unfolding memory_stored

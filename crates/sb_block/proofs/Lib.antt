@@ -2,3 +2,13 @@ pub mod Frames
 pub mod Stops
 pub mod Pushing
 pub mod Ended
+pub mod Made
+pub mod Lists
+pub mod Steps
+pub mod Unnoted
+pub mod Blocks
+pub mod Once
+pub mod Puts
+pub mod Machines
+pub mod Lawful
+pub mod OwnOnce

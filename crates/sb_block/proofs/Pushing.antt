@@ -21,6 +21,7 @@ run_on {Account} rule [] before mid after event runs step =
 run_on rule (one ∷ events) before mid after event runs step =
     (runs.0, runs.1, run_on rule events runs.0 mid after event runs.2 step)
 
+-- the lines of one step more
 lines_of_core-append : (number : ℕ) (events : List Event) (event : Event)
     → lines_of_core number (events ++ event ∷ []) ≡ lines_of_core number events ++ record { core = number; event = event } ∷ []
 lines_of_core-append number [] event = refl
@@ -38,6 +39,7 @@ run_pushed rule number before mid after lines more event run step same = record 
   runs = run_on rule run.events before mid after event run.runs step;
 }
 
+-- one line more
 pub pushed_length : (lines more : List Line) (line : Line) (count : ℕ) → more ≡ lines ++ line ∷ [] → length lines ≡ count
     → length more ≡ count + 1
 pushed_length lines more line count same e = ap length same ∙ length-append lines (line ∷ []) ∙ ap (λ n. n + 1) e

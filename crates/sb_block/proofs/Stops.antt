@@ -13,6 +13,7 @@ use Rattle.sb_block.specs.Run.{at}
 use Rattle.sb_block.specs.Step.{Rule, CoreOutcome, CoreSteps, stop_outcome}
 use Rattle.sb_block.specs.declared.one.StepStop.{StepStop}
 
+-- a stop tells what the step comes to
 outcome_of-stop_of : {Account : Type 0} (account : Account) (stop : BusStop)
     → Path (CoreOutcome Account) (outcome_of (stop_of stop)) (stop_outcome stop)
 outcome_of-stop_of account (bus.Missing frame) = refl

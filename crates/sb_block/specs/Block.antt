@@ -1,13 +1,14 @@
 -- Blocks: so many steps of one core, as a function of the words that they read.
-use Rattle.std.specs.Prelude.{ℕ, ◌≡◌, List, ◌∷◌, length}
+use Rattle.std.specs.Prelude.{ℕ, ◌≡◌, IsTrue, List, ◌∷◌, length}
 use Rattle.sb_memory.specs.Physical.{Physical, IsPhysical, HasAllFrames, frame_count}
 use Rattle.sb_agree.specs.Noted.{Noted, nothing, noted_rule}
 use Rattle.sb_trace.specs.declared.event.Event.{Event}
 use Rattle.sb_machine.specs.declared.processor.CoreState.{CoreState}
 use Rattle.sb_machine.specs.declared.place.Seen.{Seen}
 use Rattle.sb_machine.specs.Machine.{Machine, state_at}
-use Rattle.sb_machine.specs.OwnSteps.{HasRunningCore, Leaves, OwnSteps}
+use Rattle.sb_machine.specs.OwnSteps.{HasRunningCore, Leaves, OwnSteps, is_own}
 use Rattle.sb_machine.specs.Seens.{Holds, seen_core, seen_words}
+use Rattle.sb_machine.specs.Written.{Steps}
 use Rattle.sb_block.specs.Run.{at, CoreRuns}
 use Rattle.sb_block.specs.Step.{At, CoreOutcome, CoreSteps}
 
@@ -58,3 +59,17 @@ abbrev pub OneOutcome : Type 0
 OneOutcome =
     (before : At Noted) (one two : CoreOutcome Noted) → CoreSteps noted_rule before one → CoreSteps noted_rule before two
     → one ≡ two
+
+-- ---- steps that a core makes by itself
+
+-- a machine has one such step of a core: each other step of this core has the same line and leads to the same machine
+abbrev pub OneOwnStep : Type 0
+OneOwnStep =
+    (old : Machine) (number : ℕ) (event other : Event) (new last : Machine) → IsTrue (is_own event) → Steps old number event new
+    → Steps old number other last → (event ≡ other) × (new ≡ last)
+
+-- so many of them, one after another, have the same lines and lead to the same machine
+abbrev pub OwnStepsAreOne : Type 0
+OwnStepsAreOne =
+    (old : Machine) (number : ℕ) (events others : List Event) (new last : Machine) → OwnSteps old number events new
+    → OwnSteps old number others last → length events ≡ length others → (events ≡ others) × (new ≡ last)

@@ -1,9 +1,9 @@
 -- Steps of one core over physical memory, one after another.
-use Rattle.std.specs.Prelude.{ℕ, ◌≡◌, List, [], ◌∷◌, map}
+use Rattle.std.specs.Prelude.{◌≡◌, List, [], ◌∷◌}
 use Rattle.sb_memory.specs.Physical.{Physical}
 use Rattle.sb_trace.specs.declared.event.Event.{Event}
-use Rattle.sb_trace.specs.declared.event.Line.{Line}
 use Rattle.sb_machine.specs.declared.processor.CoreState.{CoreState}
+pub use Rattle.sb_machine.specs.OwnSteps.{lines_of_core}
 use Rattle.sb_block.specs.Step.{At, Rule, Made, CoreSteps}
 
 -- a core over a memory with an account
@@ -15,7 +15,3 @@ unfoldable pub CoreRuns : {Account : Type 0} → Rule Account → At Account →
 CoreRuns rule before [] after = after ≡ before
 CoreRuns {Account} rule before (event ∷ events) after =
     (next : At Account) × CoreSteps rule before (Made event next) × CoreRuns rule next events after
-
--- the lines of one core
-abbrev pub lines_of_core : ℕ → List Event → List Line
-lines_of_core number events = map (λ (event : Event). record { core = number; event = event }) events

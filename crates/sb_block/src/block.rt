@@ -1,10 +1,13 @@
 //! Blocks.
 
-ghost use Rattle.std.specs.Prelude.{◌≡◌, ◌<◌, ◌≤◌, ◌^◌, IfErr, IfOk};
+ghost use Rattle.std.specs.Prelude.{◌≡◌, ◌<◌, ◌≤◌, ◌^◌, IfErr, IfOk, List};
 ghost use Rattle.sb_memory.specs.Physical.{frame_count};
+ghost use Rattle.sb_trace.specs.declared.event.Event.{Event};
 ghost use Rattle.sb_machine.specs.OwnSteps.{HasWalks};
 ghost use Rattle.sb_block.specs.Answers.{IsGathered, IsRunOf, Refuses, told};
+ghost use Rattle.sb_block.specs.Block.{BlockHolds, IsBlock};
 ghost use Rattle.sb_block.specs.Places.{AreReadsIn, AreWritesIn};
+ghost use Rattle.sb_block.specs.Run.{lines_of_core};
 ghost use Rattle.sb_partial.specs.Copies.{untouched};
 
 use crate::collect::{reads_of, writes_of};
@@ -88,7 +91,6 @@ fn gather(
 /// # Errors
 ///
 /// Where not even one step is made: `NeedFrame` with the frame that it meets first, or else `Kernel`. `Memory` is want of memory.
-#[tactic(auto, using(crate::proofs::Ended::run_by))]
 pub fn run_block(
     alloc: Global,
     part: &mut Partial,
@@ -101,6 +103,10 @@ pub fn run_block(
     requires walks { HasWalks (frame_count part.old.given) start.now }
     ensures made { IfOk result (λ block. IsRunOf core start.now limit part.old.given
         block.core block.before block.after block.lines block.reads block.writes) }
+    ensures block { IfOk result (λ block. (events : List Event) × (block.lines ≡ lines_of_core core events)
+        × IsBlock (frame_count part.old.given) core start.now events block.after block.reads block.writes) }
+    ensures holds { IfOk result (λ block. (events : List Event) × (block.lines ≡ lines_of_core core events)
+        × BlockHolds (frame_count part.old.given) core start.now events block.after block.reads block.writes) }
     ensures reads { IfOk result (λ block. AreReadsIn (frame_count part.old.given) core block.reads) }
     ensures writes { IfOk result (λ block. AreWritesIn (frame_count part.old.given) block.writes) }
     ensures refused { IfErr result (λ stop. Refuses start.now part.old.given stop) }

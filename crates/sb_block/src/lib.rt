@@ -25,7 +25,7 @@ mod one;
 mod run;
 
 pub use block::{Block, Stop, run_block};
-pub use laws::{blocks_are_functions, blocks_hold};
+pub use laws::{blocks_are_functions, blocks_hold, own_steps_are_one};
 pub use one::{StepStop, step};
 pub use sb_machine::{CoreState, Place, Seen, Seens};
 pub use sb_partial::Partial;

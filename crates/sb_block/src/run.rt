@@ -4,6 +4,7 @@ ghost use Rattle.std.specs.Prelude.{◌≡◌, ◌≤◌, ◌<◌, ◌++◌, [],
 ghost use Rattle.std.specs.Vec.{vec_capacity};
 ghost use Rattle.sb_memory.specs.Physical.{frame_count};
 ghost use Rattle.sb_agree.specs.Noted.{nothing, noted_rule};
+ghost use Rattle.sb_partial.specs.Copies.{untouched};
 ghost use Rattle.sb_machine.specs.OwnSteps.{HasWalks};
 ghost use Rattle.sb_block.specs.Answers.{EndsRun, IsToldRun, Stepped};
 ghost use Rattle.sb_block.specs.Run.{at};
@@ -50,11 +51,11 @@ pub fn steps(
     limit: u32,
     lines: &mut Vec<Line>,
 ) -> Result<(), StepStop>
-    requires walks { HasWalks (frame_count part.old.memory) core.old }
+    requires untouched { part.old ≡ untouched part.old.given }
+    requires walks { HasWalks (frame_count part.old.given) core.old }
     requires empty { lines.old.items ≡ [] }
     requires room { limit ≤ vec_capacity lines.old }
-    requires fresh { part.old.noted ≡ nothing }
-    ensures runs { IsToldRun noted_rule number (at core.old part.old.memory nothing) lines.new.items
+    ensures runs { IsToldRun noted_rule number (at core.old part.old.given nothing) lines.new.items
         (at core.new part.new.memory part.new.began) }
     ensures ends { EndsRun limit (length lines.new.items) (at core.new part.new.memory part.new.began) result }
     ensures given { part.new.given ≡ part.old.given }

@@ -51,7 +51,8 @@ refusal_busy : (state : State) (core : ℕ) (thread : Thread) (line : Event) (st
     → IsBusy (refusal_or_fault state core thread line status)
 refusal_busy state core thread line status busy = either (thread.view == 0) _ _ busy (fault_busy state core _ _)
 
-return_busy : (state : State) (core : ℕ) (thread : Thread) (test : Bool) → (if test then event.Turn else event.Return) ≢ event.Idle
+return_busy : (state : State) (core : ℕ) (thread : Thread) (test : Bool)
+    → (if test then event.Turn else event.Return) ≢ event.Idle
 return_busy state core thread true = λ idle. cc
 return_busy state core thread false = λ idle. cc
 
@@ -65,7 +66,8 @@ call_busy state core thread index None = refusal_busy state core thread (event.U
 call_busy state core thread index (Some binding) =
     either (rsi thread.regs == binding.key) _ _ (entry_busy state core thread binding _) (λ idle. cc)
 
-index_busy : (state : State) (core : ℕ) (thread : Thread) (leaf index : ℕ) → IsBusy (outcome_by_index state core thread leaf index)
+index_busy : (state : State) (core : ℕ) (thread : Thread) (leaf index : ℕ)
+    → IsBusy (outcome_by_index state core thread leaf index)
 index_busy state core thread leaf index =
     either (leaf == 0) _ _
     (either (index == 0) (return_outcome state core thread) _ (return_busy state core thread (thread.view == 0))
@@ -128,7 +130,8 @@ number_busy state core thread next call =
     (either (call == call_number system_call.Register) _ _
     (register_busy state core next (process_now thread)
     (refusal_of_register state thread.view (process_now thread) (rdi next) (rsi next)))
-    (either (call == call_number system_call.Bind) _ _ (bind_busy state core thread next (refusal_of_bind state thread (rdi next)))
+    (either (call == call_number system_call.Bind) _ _
+    (bind_busy state core thread next (refusal_of_bind state thread (rdi next)))
     (either (call == call_number system_call.Protect) _ _
     (protect_busy state core next (process_now thread) (rdi next) (rsi next)
     (protect_refusal (heap_count (process_at state (process_now thread))) (rdi next) (rsi next)))

@@ -1,16 +1,11 @@
 -- Texts that were written, one behind another, and prefixes of them.
-use Rattle.std.proofs.Common.{◌≡◌, ℕ, ◌+◌, ◌≤◌, ◌++◌, List, [], Option, Some, None, Result, Ok, Err, length, take, ap, refl, sym, subst, append_assoc, ◌∙◌}
+use Rattle.std.proofs.Common.{ℕ, ◌+◌, ◌≤◌, ◌++◌, List, Option, Some, None, Result, Ok, Err, length, take, ap, refl, sym, subst, append_assoc, ◌∙◌}
 use Rattle.std.specs.Prelude.{OnOk, OnErr, IfErr}
 use Rattle.std.proofs.Math.Seq.{take-append-add, take-length}
-use Rattle.std.proofs.lemmas.List.{append-nil, take-append-le}
+use Rattle.std.proofs.lemmas.List.{take-append-le}
 use Rattle.sb_port.specs.Port.{Rose, Appended}
 use Rattle.sb_port.specs.declared.transfer.WriteFault.{WriteFault}
 use Rattle.sb_input.specs.Told.{PartlyAppended, WritesLine}
-
--- nothing
-pub none_appended : (held : Option (List ℕ)) → Appended held held []
-none_appended None = tt
-none_appended (Some held) = ap Some (sym (append-nil held))
 
 -- a prefix
 pub prefix_appended : (held held' : Option (List ℕ)) (text : List ℕ) (count : ℕ) → Appended held held' (take count text)

@@ -7,3 +7,4 @@ pub mod Told
 pub mod Input
 pub mod Lines
 pub mod Cause
+pub mod Status

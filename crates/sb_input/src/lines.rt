@@ -1,9 +1,10 @@
 //! The lines of the refusals of an input.
 
-ghost use Rattle.std.specs.Prelude.{◌≡◌, ◌≤◌, IfOk, string_bytes};
+ghost use Rattle.std.specs.Prelude.{◌≡◌, ◌≤◌, IfOk, MatchResult, string_bytes};
 ghost use Rattle.sb_input.specs.Told.{WritesLine};
 ghost use Rattle.sb_input.specs.Lines.{bundle_line, load_line};
 
+use crate::status::Status;
 use sb_bundle::BundleRefusal;
 use sb_load::LoadRefusal;
 use sb_port::{Sink, write_all};
@@ -43,4 +44,28 @@ pub fn write_line<K: Sink>(sink: &mut K, line: &str)
     ensures later { K.faults sink.old ≤ K.faults sink.new }
 {
     let _ = write_all(sink, line.as_bytes());
+}
+
+/// Writes the line of a refusal, as far as the sink takes it. The status is the refusal's.
+pub fn refuse<K: Sink>(sink: &mut K, line: &str, status: Status) -> Status
+    ensures same { result ≡ status }
+    ensures written { WritesLine (K.held sink.old) (K.held sink.new) (K.faults sink.old) (K.faults sink.new) line.now }
+    ensures later { K.faults sink.old ≤ K.faults sink.new }
+{
+    write_line(sink, line);
+    status
+}
+
+/// Writes the line of a refusal with this status, if there is memory for the line.
+pub fn refuse_by<K: Sink>(sink: &mut K, line: Result<String, AllocError>, status: Status) -> Status
+    ensures written { MatchResult line
+        (λ text. (result ≡ status)
+        × WritesLine (K.held sink.old) (K.held sink.new) (K.faults sink.old) (K.faults sink.new) (string_bytes text))
+        (λ _. (result ≡ Status.NoMemory) × (K.held sink.new ≡ K.held sink.old)) }
+    ensures later { K.faults sink.old ≤ K.faults sink.new }
+{
+    match line {
+        Ok(text) => refuse(sink, text.as_str(), status),
+        Err(AllocError) => Status::NoMemory,
+    }
 }

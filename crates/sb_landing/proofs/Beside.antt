@@ -53,6 +53,7 @@ phase_begins state number index words =
       words = words;
       left = first_left start;
       leaves = refl;
+      wrong = tt;
       early = λ is. absurd cc;
       still = refl;
       place = 0;

@@ -6,11 +6,11 @@ use Rattle.sb_abi.specs.declared.trampoline.TheConstants.{COMPARE_KEY, BRANCH_ON
 use Rattle.sb_insn.specs.declared.registers.Flags.{Flags}
 use Rattle.sb_insn.specs.declared.registers.Regs.{Regs}
 use Rattle.sb_alu.specs.declared.size.Size.TheVariants.{Quadword}
-use Rattle.sb_exec.specs.Arithmetic.{logic_outcome, sum_outcome}
+use Rattle.sb_exec.specs.Arithmetic.{difference_outcome, logic_outcome, sum_outcome}
 use Rattle.sb_exec.specs.Shift.{shl_outcome}
 use Rattle.sb_state.specs.declared.state.Decision.{Decision}
 use Rattle.sb_state.specs.declared.state.Decision.TheVariants as decision
-use Rattle.sb_trace.specs.Registers.{zero_flags}
+use Rattle.sb_trace.specs.Registers.{rsi, zero_flags}
 use Rattle.sb_trace.specs.KernelCall.{lowest_bit}
 use Rattle.sb_landing.specs.Moved.{Moved}
 use Rattle.sb_landing.specs.Rows.{address_of}
@@ -23,11 +23,12 @@ pub record Left : Type 0 where
   pub r10 : ℕ
   pub flags : Flags
 
--- a landing: the registers at the VMFUNC, what is left of earlier rounds, the mask, and two words of the record page
+-- a landing: the registers at the VMFUNC, what is left of earlier rounds, the mask, and three words of the record page
 pub record Landing : Type 0 where
   pub start : Regs
   pub left : Left
   pub mask : ℕ
+  pub key : ℕ
   pub base : ℕ
   pub handler : ℕ
 
@@ -51,6 +52,11 @@ begun landing = record {
   rip = 0;
   flags = landing.left.flags;
 }
+
+-- behind the comparison with another key: the flags are those of the difference
+abbrev pub compared : Landing → Moved
+compared landing =
+    record (begun landing) { flags = (difference_outcome Quadword (rsi landing.start) landing.key).flags }
 
 -- ---- a round: the mask is loaded and tested, and its lowest bit is found
 
@@ -125,10 +131,10 @@ refused_stages moved =
 
 abbrev pub wrong_key_stages : Landing → List Stage
 wrong_key_stages landing =
-    stage BRANCH_ON_KEY (begun landing)
-    ∷ stage STATUS_WRONG_KEY (begun landing)
-    ∷ stage SKIP (record (begun landing) { r9 = status_number status.WrongKey })
-    ∷ refused_stages (record (begun landing) { r9 = status_number status.WrongKey })
+    stage BRANCH_ON_KEY (compared landing)
+    ∷ stage STATUS_WRONG_KEY (compared landing)
+    ∷ stage SKIP (record (compared landing) { r9 = status_number status.WrongKey })
+    ∷ refused_stages (record (compared landing) { r9 = status_number status.WrongKey })
 
 abbrev pub pool_empty_stages : Landing → List Stage
 pool_empty_stages landing =

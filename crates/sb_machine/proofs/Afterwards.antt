@@ -7,7 +7,7 @@ use Rattle.std.proofs.lemmas.List.{length-set}
 use Rattle.sb_memory.specs.declared.address.Frame.{Frame}
 use Rattle.sb_insn.specs.declared.registers.Regs.{Regs}
 use Rattle.sb_root.specs.declared.root_kernel.RootKernel.{RootKernel}
-use Rattle.sb_root.specs.Root.{IsSet, is_listed, eptp_list_frame, list_entry}
+use Rattle.sb_root.specs.Root.{IsSet, is_listed, entry_of_index, eptp_list_frame, list_entry}
 use Rattle.sb_trace.specs.declared.event.Event.{Event}
 use Rattle.sb_trace.specs.State.{State, thread_at, flight_at}
 use Rattle.sb_trace.specs.Changes.{OnlyThread}
@@ -70,7 +70,8 @@ module _ (old new : Machine) (state next : State) (number : ℕ) (event : Event)
       → list_entry stands.placement.root n index ≡ list_entry is.stands.placement.root n index
   entry_stays n index shows =
       ap (λ root. list_entry root n index) stands.rooted
-      ∙ (lists.entries n index (set_is n index shows) ∙ sym (ap (λ root. list_entry root n index) is.stands.rooted))
+      ∙ (ap entry_of_index (lists.views n index (set_is n index shows))
+      ∙ sym (ap (λ root. list_entry root n index) is.stands.rooted))
 
   -- ---- the words
 

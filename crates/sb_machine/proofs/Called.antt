@@ -7,7 +7,7 @@ use Rattle.sb_insn.specs.declared.insn.Insn.{Insn}
 use Rattle.sb_insn.specs.declared.registers.Regs.{Regs}
 use Rattle.sb_exec.specs.Operand.{next_rip}
 use Rattle.sb_calls.specs.SyscallRegisters.{after_syscall, server_fault_regs}
-use Rattle.sb_root.specs.Root.{list_entry}
+use Rattle.sb_root.specs.Root.{entry_of_index, list_entry}
 use Rattle.sb_state.specs.declared.end_kind.EndKind.TheVariants.{Ended}
 use Rattle.sb_calls.specs.declared.refusals.TheConstants.{EXECUTE_MODE}
 use Rattle.sb_state.specs.declared.state.Binding.{Binding}
@@ -266,7 +266,8 @@ module _ (machine new : Machine) (state : State) (is : IsMachineOf machine state
         cr3 = own.cr3;
         list = own.list;
         eptp = own.eptp
-            ∙ (sym (calls.lists.entries number thread.view (set_view machine state is number there thread.view own.shows))
+            ∙ (sym (ap entry_of_index (calls.lists.views number thread.view
+            (set_view machine state is number there thread.view own.shows)))
             ∙ ap (list_entry new.root number) (sym index));
         beside = subst (λ found. IsBeside outcome.1 number found (is.begun number) core.state.regs) (sym grounded_next)
             (own.regs ∙ serves.registers);

@@ -20,7 +20,7 @@ use Rattle.sb_trace.proofs.InFlight.{at_phase_of}
 use Rattle.sb_trace.proofs.ProcessFacts.{all_at}
 use Rattle.sb_landing.specs.Moved.{Moved, landing_regs}
 use Rattle.sb_landing.specs.Stages.{Landing, Stage, stages, wrong_key_stages, pool_empty_stages, entered_stages}
-use Rattle.sb_landing.specs.AtPhase.{AtPhase, kept_regs, landing_of, record_word}
+use Rattle.sb_landing.specs.AtPhase.{AtPhase, kept_regs, landing_in, record_word}
 use Rattle.sb_landing.proofs.Ends.{refused_put, entered_put}
 use Rattle.sb_machine.specs.End.{is_entering, stack_number, refusal_status, decided_regs, decided_view}
 
@@ -196,7 +196,7 @@ pub decided_are : (state : State) (number : ℕ) (flight : Flight) (decided : De
     → decided_regs flight.phase real (record_word state number flight.index 0x10) ≡ (thread_at state number).regs
 decided_are state number flight decided start failed real is at base =
     let handler : ℕ = record_word state number flight.index 0x10 in
-    let landing : Landing = landing_of (record_word state number flight.index 8) handler flight.mask start at.left in
+    let landing : Landing = landing_in state number flight.index flight.mask start at.left in
     let among : slice_get (stages landing (Some decided)) at.place ≡ Some at.stage =
     subst (λ found. slice_get (stages landing found) at.place ≡ Some at.stage) is at.among in
     let kept = kept_at decided landing at.place at.stage at.words base among in

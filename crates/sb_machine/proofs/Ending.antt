@@ -84,7 +84,7 @@ same_end home view present end regs flight other one two three four five six = r
 seat_shows : (thread : Thread) → process_from thread.view (seat_of thread) ≡ process_now thread
 seat_shows thread = refl
 
-server_from : (thread : Thread) (index : ℕ) (binding : Binding) → (index == 0) ≡ false
+pub server_from : (thread : Thread) (index : ℕ) (binding : Binding) → (index == 0) ≡ false
     → binding_with thread.bindings index ≡ Some binding → process_from index (seat_of thread) ≡ binding.server
 server_from thread index binding away bound = rw (away, bound) refl
 
@@ -96,18 +96,18 @@ module _ (machine : Machine) (state : State) (is : IsMachineOf machine state) (n
     abbrev thread : Thread
     thread = thread_at state number
 
-    seated : number < length machine.kernel.seats
+    pub seated : number < length machine.kernel.seats
     seated = let seats = seats_there machine (state, is) in omega (arith, seats, there)
 
-    seat_same : seat_in machine.kernel number ≡ seat_of (thread_at state number)
+    pub seat_same : seat_in machine.kernel number ≡ seat_of (thread_at state number)
     seat_same = seat_is machine.kernel machine.root machine.book machine.memory state is.stands number seated
 
     -- the process that a view shows is that of the thread's
-    shows : (view : ℕ) → shown_in machine.kernel number view ≡ process_from view (seat_of thread)
+    pub shows : (view : ℕ) → shown_in machine.kernel number view ≡ process_from view (seat_of thread)
     shows view = ap (process_from view) seat_same
 
     -- what the kernel keeps of a server is what it told
-    told : (process : ℕ) → registration_of (process_in machine.kernel process) ≡ registration_at state process
+    pub told : (process : ℕ) → registration_of (process_in machine.kernel process) ≡ registration_at state process
     unfolding registration_at
     told process =
         ap registration_of (found_same machine.kernel machine.root machine.book machine.memory state is.stands process)
@@ -189,7 +189,7 @@ module _ (machine : Machine) (state : State) (is : IsMachineOf machine state) (n
     view_by None flying own = let view = own.view in rw (own.origin, own.phase) view
     view_by (Some flight) flying own = flying_view flight flight.decided refl flying own
 
-    regs_same : plain_regs core handler ≡ (thread_at state number).regs
+    pub regs_same : plain_regs core handler ≡ (thread_at state number).regs
     regs_same = regs_by (flight_at state number) refl (is.cores number) (is.beside number)
 
     view_same : plain_view core ≡ (thread_at state number).view

@@ -120,7 +120,7 @@ module _ (machine : Machine) (state : State) (is : IsMachineOf machine state) (n
       (follows_by new state number (StepLine rip) next is.sound steps
       (afterwards machine new state next number (StepLine rip) core (is.begun number) is there steps
       (instruction_stands machine state next number (StepLine rip) insn is there steps quiet refl)
-      (record { lists = λ n. refl; entries = λ n view set. refl })
+      (record { lists = λ n. refl; views = λ n view set. refl })
       (record {
         cr3 = refl;
         list = refl;

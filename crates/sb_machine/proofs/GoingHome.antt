@@ -31,7 +31,7 @@ use Rattle.sb_trace.specs.Changes.{LineChanges, OnlyThreads}
 use Rattle.sb_trace.specs.KernelCall.{refusal_regs}
 use Rattle.sb_trace.specs.Step.{Steps, execution_in_view}
 use Rattle.sb_trace.proofs.Steps.{steps_change}
-use Rattle.sb_landing.specs.AtPhase.{AtPhase, kept_regs, landing_of, record_word}
+use Rattle.sb_landing.specs.AtPhase.{AtPhase, kept_regs, landing_in}
 use Rattle.sb_landing.specs.Lands.{effect_at, behind, line_of}
 use Rattle.sb_landing.specs.Laws.{begun_behind, StepsStayBeside}
 use Rattle.sb_landing.specs.Related.{IsBeside}
@@ -182,9 +182,7 @@ module _ (machine : Machine) (state : State) (is : IsMachineOf machine state) (n
 
   -- the registers at home are those that the plain machine keeps of a refused call
   abbrev landing : Landing
-  landing =
-      landing_of (record_word state number flight.index 8) (record_word state number flight.index 0x10) flight.mask
-      (is.begun number).start held.left
+  landing = landing_in state number flight.index flight.mask (is.begun number).start held.left
 
   kept_is : regs_behind row regs ≡ kept_regs landing flight.decided
   kept_is = beside ∙ (ap (λ (one : Thread). one.regs) thread_is ∙ held.plain)
@@ -233,7 +231,7 @@ module _ (machine : Machine) (state : State) (is : IsMachineOf machine state) (n
       (outcome machine state is number there flight flying law).0 core
       (begun_behind (flight_at end number) (is.begun number)) is there steps
       (stands_moved machine.kernel machine.root machine.book machine.memory state end moved is.stands)
-      (record { lists = λ n. refl; entries = λ n view set. refl })
+      (record { lists = λ n. refl; views = λ n view set. refl })
       (record {
         cr3 = refl;
         list = refl;

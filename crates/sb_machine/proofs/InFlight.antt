@@ -235,7 +235,7 @@ module _ (machine : Machine) (state : State) (is : IsMachineOf machine state) (n
         (follows_by new state number outcome.0 next is.sound plain_step
         (afterwards machine new state next number outcome.0 core begun_next is there plain_step
         (instruction_stands machine state next number outcome.0 insn is there plain_step quiet pages)
-        (record { lists = λ n. refl; entries = λ n view set. refl })
+        (record { lists = λ n. refl; views = λ n view set. refl })
         (record {
           cr3 = refl;
           list = refl;

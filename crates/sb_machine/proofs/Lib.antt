@@ -39,3 +39,10 @@ pub mod OwnRuns
 pub mod WordsPut
 pub mod Undecided
 pub mod Applying
+pub mod LandingRegisters
+pub mod NamedPages
+pub mod OtherCores
+pub mod OtherPages
+pub mod StepLines
+pub mod OtherPools
+pub mod Apart

@@ -64,7 +64,7 @@ module _ (machine : Machine) (state : State) (is : IsMachineOf machine state) (n
       follows_by (with_core machine number core) state number event next is.sound steps
       (afterwards machine (with_core machine number core) state next number event core (is.begun number) is there steps
       (stands_moved machine.kernel machine.root machine.book machine.memory state next moved is.stands)
-      (record { lists = λ n. refl; entries = λ n index set. refl })
+      (record { lists = λ n. refl; views = λ n index set. refl })
       (record {
         cr3 = with_it.cr3;
         list = with_it.list;

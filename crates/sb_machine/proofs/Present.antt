@@ -27,7 +27,7 @@ pub thread_is : (state : State) (number : ℕ) → number < length state.threads
 unfolding thread_at
 thread_is state number small = there_is state.threads number small
 
-own_shown : (state : State) (number process : ℕ) → HasThread state number
+pub own_shown : (state : State) (number process : ℕ) → HasThread state number
     → process_of_view (thread_at state number).view (thread_at state number) ≡ Some process
     → process_shown state.threads number (thread_at state number).view ≡ Some process
 unfolding process_shown

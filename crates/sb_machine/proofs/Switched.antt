@@ -217,7 +217,7 @@ module _ (machine : Machine) (state : State) (is : IsMachineOf machine state) (n
         (afterwards machine (with_core machine number core) state next number (event.Landing VMFUNC_PHASE) core begun is
         there steps
         (stands_moved machine.kernel machine.root machine.book machine.memory state next moved is.stands)
-        (record { lists = λ n. refl; entries = λ n index set. refl })
+        (record { lists = λ n. refl; views = λ n index set. refl })
         (record {
           cr3 = refl;
           list = refl;

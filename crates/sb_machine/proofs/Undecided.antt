@@ -1,6 +1,6 @@
 -- Whether the call of a flight is decided is told by the phase and the real registers, and with it what a core keeps of where its
 -- thread stood at the VMFUNC.
-use Rattle.std.proofs.Common.{◌≡◌, ◌≢◌, ◌∙◌, sym, ap, subst, ℕ, ◌≤◌, ◌==◌, ◌&&◌, ◌||◌, ◌⊎◌, inl, inr, Bool, true, false, not, refl, arith, lit≤}
+use Rattle.std.proofs.Common.{◌≡◌, ◌≢◌, ◌∙◌, sym, ap, subst, ℕ, ◌<◌, ◌≤◌, ◌^◌, ◌==◌, ◌&&◌, ◌||◌, ◌⊎◌, inl, inr, Bool, true, false, not, refl, arith, lit≤}
 use Rattle.std.specs.Prelude.{Option, Some, None, slice_get, if◌then◌else◌}
 use Rattle.std.specs.List.{AllByRecursion}
 use Rattle.std.proofs.lemmas.Bool.{ne_eqb}
@@ -11,14 +11,25 @@ use Rattle.sb_state.specs.declared.state.Decision.{Decision}
 use Rattle.sb_state.specs.declared.state.Decision.TheVariants as decision
 use Rattle.sb_state.specs.declared.state.Flight.{Flight}
 use Rattle.sb_state.specs.declared.state.Thread.{Thread}
-use Rattle.sb_trace.specs.State.{State, thread_at, flight_at}
-use Rattle.sb_trace.specs.Sound.{IsInFlight, IsMask}
+use Rattle.sb_state.specs.declared.state.Binding.{Binding}
+use Rattle.sb_state.specs.declared.page.PageName.TheVariants.{Record}
+use Rattle.sb_tramp.specs.declared.record_words.RecordWords.{RecordWords}
+use Rattle.sb_trace.specs.KernelCall.{handler_in}
+use Rattle.sb_trace.specs.Registers.{rsi}
+use Rattle.sb_trace.specs.Start.{record_bytes}
+use Rattle.sb_trace.specs.State.{State, find_page, thread_at, flight_at, registration_at}
+use Rattle.sb_trace.specs.SyscallBind.{server_words}
+use Rattle.sb_trace.specs.Sound.{IsInFlight, IsMask, IsSound}
 use Rattle.sb_trace.proofs.ProcessFacts.{all_at}
-use Rattle.sb_landing.specs.AtPhase.{AtPhase, IsLeft, IsLeftByKey, failed_at, landing_of, record_word}
+use Rattle.sb_trace.proofs.Threads.{bound_there}
+use Rattle.sb_landing.specs.AtPhase.{AtPhase, HasOtherKey, IsLeft, IsLeftByKey, failed_at, landing_in, record_word}
 use Rattle.sb_landing.specs.Moved.{landing_regs}
 use Rattle.sb_landing.specs.Related.{IsBeside}
-use Rattle.sb_landing.specs.Stages.{Landing, Left, Stage, stages, undecided_stages, wrong_key_stages, pool_empty_stages, entered_stages}
-use Rattle.sb_landing.proofs.Bound.{flight_sound}
+use Rattle.sb_landing.specs.Stages.{Landing, Left, compared, Stage, stages, undecided_stages, wrong_key_stages, pool_empty_stages, entered_stages}
+use Rattle.sb_landing.proofs.Bound.{HasPages, binding_pages, flight_sound}
+use Rattle.sb_landing.proofs.Numbers.{other_compared}
+use Rattle.sb_landing.proofs.Steps.{record_has}
+use Rattle.sb_landing.proofs.Words as page_words
 use Rattle.sb_machine.specs.declared.processor.Core.{Core}
 use Rattle.sb_machine.specs.declared.processor.Origin.{Origin}
 use Rattle.sb_machine.specs.Applied.{is_decided, origin_kept}
@@ -69,7 +80,7 @@ undecided_open landing = (
 abbrev IsDecidedAt : Landing → Stage → Type 0
 IsDecidedAt landing stage = told_at landing stage ≡ true
 
-wrong_key_decided : (landing : Landing) → landing.left.flags.zf ≡ false
+wrong_key_decided : (landing : Landing) → (compared landing).flags.zf ≡ false
     → AllByRecursion (IsDecidedAt landing) (wrong_key_stages landing)
 wrong_key_decided landing clear = (ap not clear, (refl, (refl, (refl, (refl, (refl, (refl, (refl, tt))))))))
 
@@ -98,11 +109,26 @@ clear_by false start left phase is still here =
     absurd (let clash : true ≡ false = sym (ap (λ (one : Bool). (one && true) || false) test) ∙ still in cc)
 clear_by true start left phase is still here = is
 
-module _ (state : State) (number : ℕ) (flight : Flight) (start : Regs) (failed : Bool) (real : Regs)
+-- the key in the record page of a flight is a word
+key_small : (state : State) (number : ℕ) (flight : Flight) → IsSound state → IsInFlight (thread_at state number) flight
+    → record_word state number flight.index 0 < 2 ^ 64
+key_small state number flight sound flies =
+    let thread : Thread = thread_at state number in
+    let binding : Binding = flies.binding in
+    let pages : HasPages state number binding = binding_pages state number flight.index binding sound flies.bound in
+    let words : RecordWords = server_words number thread binding (handler_in (registration_at state binding.server)) in
+    let named : binding.index ≡ flight.index = (bound_there thread.bindings flight.index binding flies.bound).0 in
+    let there : find_page state.pages (Record number flight.index) ≡ Some pages.words.0 =
+    ap (λ n. find_page state.pages (Record number n)) (sym named) ∙ pages.words.1 in
+    let key : record_word state number flight.index 0 ≡ binding.key =
+    record_has state number flight.index 0 pages.words.0 (record_bytes words) there pages.words.2
+    ∙ page_words.key_in words pages.key in
+    subst (λ (n : ℕ). n < 2 ^ 64) (sym key) pages.key
+
+module _ (state : State) (number : ℕ) (flight : Flight) (start : Regs) (failed : Bool) (real : Regs) (sound : IsSound state)
     (flies : IsInFlight (thread_at state number) flight) (at : AtPhase state number flight start failed real) where
   abbrev landing : Landing
-  landing =
-      landing_of (record_word state number flight.index 8) (record_word state number flight.index 0x10) flight.mask start at.left
+  landing = landing_in state number flight.index flight.mask start at.left
 
   told_is : is_decided (Some flight.phase) real ≡ told_at landing at.stage
   told_is =
@@ -134,9 +160,13 @@ module _ (state : State) (number : ℕ) (flight : Flight) (start : Regs) (failed
   -- one that is
   decided_told : (decided : Decision) → flight.decided ≡ Some decided → is_decided (Some flight.phase) real ≡ true
   decided_told decision.WrongKey is =
+      let wrong : HasOtherKey (Some decision.WrongKey) landing.key start =
+      subst (λ found. HasOtherKey found landing.key start) is at.wrong in
+      let clear : (compared landing).flags.zf ≡ false =
+      other_compared (rsi start) landing.key (at.words.words 6) (key_small state number flight sound flies) wrong in
       told_is
-      ∙ all_at (IsDecidedAt landing) (wrong_key_stages landing) at.place at.stage
-      (wrong_key_decided landing (left_is (Some decision.WrongKey) is).1) (among (Some decision.WrongKey) is)
+      ∙ all_at (IsDecidedAt landing) (wrong_key_stages landing) at.place at.stage (wrong_key_decided landing clear)
+      (among (Some decision.WrongKey) is)
   decided_told decision.PoolEmpty is =
       told_is
       ∙ all_at (IsDecidedAt landing) (pool_empty_stages landing) at.place at.stage
@@ -176,8 +206,8 @@ module _ (machine : Machine) (state : State) (is : IsMachineOf machine state) (n
       subst (λ (phase : Option ℕ). IsKept (is_decided phase core.state.regs) core.origin) (sym own.phase)
       (flight_kept (thread_at state number) flight flight.decided core.origin
       (is_decided (Some flight.phase) core.state.regs) own.origin
-      (open_told state number flight begun.start begun.failed core.state.regs flies beside)
-      (decided_told state number flight begun.start begun.failed core.state.regs flies beside))
+      (open_told state number flight begun.start begun.failed core.state.regs is.sound flies beside)
+      (decided_told state number flight begun.start begun.failed core.state.regs is.sound flies beside))
 
   kept : IsKept (is_decided core.state.phase core.state.regs) core.origin
   kept = kept_by (flight_at state number) refl (is.cores number) (is.beside number)

@@ -14,3 +14,4 @@ pub mod Writing
 pub mod Seens
 pub mod OwnSteps
 pub mod Applied
+pub mod Landing

@@ -5,6 +5,7 @@ ghost use Rattle.sb_load.specs.FirstState.{first_state};
 ghost use Rattle.sb_memory.specs.Physical.{frame_count};
 ghost use Rattle.sb_trace.specs.State.{State, thread_at};
 ghost use Rattle.sb_machine.specs.Counts.{CountsLine};
+ghost use Rattle.sb_machine.specs.Landing.{HaveLandingRegisters, LeavesCores};
 ghost use Rattle.sb_machine.specs.Laws.{Follows};
 ghost use Rattle.sb_machine.specs.Machine.{core_at};
 ghost use Rattle.sb_machine.specs.Ran.{HasRun};
@@ -63,12 +64,18 @@ impl Machine {
     ///
     /// Each translation through each pointer of a list gives the address or the refusal that it gave, but where a call is served.
     /// That one, if it does not protect, leaves each translation that gave an address.
+    ///
+    /// Behind the step each thread in flight, of any core, has the registers that the landing gives at its phase. And the step
+    /// leaves each other core as it was, with all that the landing of its thread looks at: its list, and through the list the
+    /// trampoline and the record page, and the pool page but where an instruction writes it or an entry takes a stack.
     pub fn step(&mut self, core: u8) -> Line
         requires { core < length self.old.cores }
         ensures core { result.core ≡ core }
         ensures step { Steps self.old core result.event self.new }
         ensures plain { (state : State) → IsMachineOf self.old state → Follows self.new state core result.event }
         ensures translations { KeepsTranslations result.event self.old self.new }
+        ensures landing { HaveLandingRegisters self.new }
+        ensures apart { LeavesCores result.event core self.old self.new }
         ensures stands { (state : State) × IsMachineOf self.new state }
         ensures counts { CountsLine self.old core self.new }
         ensures cores { length self.new.cores ≡ length self.old.cores }

@@ -3,3 +3,4 @@ pub mod Runs
 pub mod Many
 pub mod Served
 pub mod Text
+pub mod Registers

@@ -1,5 +1,6 @@
 -- A run of several threads beside the original code.
 use Rattle.std.proofs.Common.{◌≡◌, ◌⊎◌, ℕ, Bool, true, false, List, [], ◌∷◌, Option, Some, None, refl, sym, ap, ◌∙◌, subst, inl, inr}
+use Rattle.std.specs.List.{AllByRecursion}
 use Rattle.std.proofs.Math.Path.{fun_ext}
 use Rattle.std.specs.Prelude.{◌==◌, Result, Ok, Err}
 use Rattle.std.proofs.lemmas.Bool.{cond-true, cond-false, cases_eq, eq-eqb, ne_eqb}
@@ -23,14 +24,14 @@ use Rattle.sb_origin_run.proofs.Runs.{where_map}
 
 -- ---- one of them changed
 
-at_same : {Value : Type 0} (number : ℕ) (value : Value) (all : ℕ → Value) → with_at number value all number ≡ value
+pub at_same : {Value : Type 0} (number : ℕ) (value : Value) (all : ℕ → Value) → with_at number value all number ≡ value
 at_same number value all = cond-true (number == number) value (all number) (eq-eqb number number refl)
 
-at_other : {Value : Type 0} (number : ℕ) (value : Value) (all : ℕ → Value) (other : ℕ) → (other ≡ number → ⊥)
+pub at_other : {Value : Type 0} (number : ℕ) (value : Value) (all : ℕ → Value) (other : ℕ) → (other ≡ number → ⊥)
     → with_at number value all other ≡ all other
 at_other number value all other differ = cond-false (other == number) value (all other) (ne_eqb other number differ)
 
-at_itself : {Value : Type 0} (number : ℕ) (all : ℕ → Value) → with_at number (all number) all ≡ all
+pub at_itself : {Value : Type 0} (number : ℕ) (all : ℕ → Value) → with_at number (all number) all ≡ all
 at_itself {Value} number all = fun_ext (λ other. one other (cases_eq other number))
   where
     one : (other : ℕ) → (other ≡ number) ⊎ (other ≡ number → ⊥) → with_at number (all number) all other ≡ all other
@@ -117,25 +118,26 @@ moved_at bus Holds place regs regs' words words' original original' r w o is =
     (subst (λ (x : Regs). IsAt bus Holds (place regs'.rip) (record { regs = regs'; words = words' }) x) (sym o) is))
 
 -- the others stay where they are
-renewed : {M A N B : Type 0} (buses : ℕ → Interface M A) (HoldsAll : (ℕ → Words) → M → N → Type 0) (places : ℕ → ℕ
+renewed : {M A N B : Type 0} (IsThread : ℕ → Type 0) (buses : ℕ → Interface M A) (HoldsAll : (ℕ → Words) → M → N → Type 0)
+    (places : ℕ → ℕ
     → Position) (number : ℕ) (left : Threads M A) (right new_right : Threads N B) (thread : Thread M A) (words : Words)
-    (old : ThreadsRelated buses HoldsAll places left right)
+    (old : ThreadsRelated IsThread buses HoldsAll places left right)
     → HoldsAll (with_at number words old.words) thread.meaning new_right.meaning
     → IsAt (buses number) (HoldsOf HoldsAll number) (places number thread.regs.rip)
     (record { regs = thread.regs; words = words }) (new_right.regs number)
     → ((other : ℕ) → (other ≡ number → ⊥) → new_right.regs other ≡ right.regs other)
-    → ThreadsRelated buses HoldsAll places (with_thread number thread left) new_right
-renewed {M} {A} {N} {B} buses HoldsAll places number left right new_right thread words old holds at others = record {
+    → ThreadsRelated IsThread buses HoldsAll places (with_thread number thread left) new_right
+renewed {M} {A} {N} {B} IsThread buses HoldsAll places number left right new_right thread words old holds at others = record {
   words = with_at number words old.words;
   holds = holds;
-  at = λ other. one other (cases_eq other number);
+  at = λ other is_thread. one other is_thread (cases_eq other number);
 }
   where
-    one : (other : ℕ) → (other ≡ number) ⊎ (other ≡ number → ⊥)
+    one : (other : ℕ) → IsThread other → (other ≡ number) ⊎ (other ≡ number → ⊥)
         → IsAt (buses other) (HoldsOf HoldsAll other) (places other (with_at number thread.regs left.regs other).rip)
         (record { regs = with_at number thread.regs left.regs other; words = with_at number words old.words other })
         (new_right.regs other)
-    one other (inl same) =
+    one other is_thread (inl same) =
         subst (λ (n : ℕ). IsAt (buses n) (HoldsOf HoldsAll n) (places n (with_at number thread.regs left.regs n).rip)
         (record { regs = with_at number thread.regs left.regs n; words = with_at number words old.words n })
         (new_right.regs n)) (sym same)
@@ -143,43 +145,47 @@ renewed {M} {A} {N} {B} buses HoldsAll places number left right new_right thread
         (with_at number thread.regs left.regs number) thread.regs (with_at number words old.words number) words
         (new_right.regs number) (new_right.regs number)
         (at_same number thread.regs left.regs) (at_same number words old.words) refl at)
-    one other (inr differ) =
+    one other is_thread (inr differ) =
         moved_at (buses other) (HoldsOf HoldsAll other) (places other) (with_at number thread.regs left.regs other)
         (left.regs other) (with_at number words old.words other) (old.words other) (new_right.regs other) (right.regs other)
         (at_other number thread.regs left.regs other differ) (at_other number words old.words other differ) (others other differ)
-        (old.at other)
+        (old.at other is_thread)
 
 -- what a step of one thread is to the others
-abbrev pub ThreadStep : {M A N B : Type 0} → (ℕ → Interface M A) → ((ℕ → Words) → M → N → Type 0) → (BusStop → BusStop)
+abbrev pub ThreadStep : {M A N B : Type 0} → (ℕ → Type 0) → (ℕ → Interface M A) → ((ℕ → Words) → M → N → Type 0) →
+    (BusStop → BusStop)
     → (ℕ → ℕ → Position) → ℕ → Threads M A → Threads N B → Made M A → Made N B → Bool → Type 0
-ThreadStep buses HoldsAll naming places number left right made original true =
-    (made.event ≡ Ran Next) × ThreadsRelated buses HoldsAll places (with_thread number made.thread left) right
-ThreadStep buses HoldsAll naming places number left right made original false =
+ThreadStep IsThread buses HoldsAll naming places number left right made original true =
+    (made.event ≡ Ran Next) × ThreadsRelated IsThread buses HoldsAll places (with_thread number made.thread left) right
+ThreadStep IsThread buses HoldsAll naming places number left right made original false =
     (original.event ≡ told_event naming made.event)
     × ((right.regs number).rip ≡ original_rip (places number (left.regs number).rip) (left.regs number).rip)
     × WhereNext made.event
-    (ThreadsRelated buses HoldsAll places (with_thread number made.thread left) (with_thread number original.thread right))
+    (ThreadsRelated IsThread buses HoldsAll places (with_thread number made.thread left) (with_thread number original.thread
+    right))
 
-from_one : {M A N B : Type 0} (buses : ℕ → Interface M A) (HoldsAll : (ℕ → Words) → M → N → Type 0) (naming : BusStop
+from_one : {M A N B : Type 0} (IsThread : ℕ → Type 0) (buses : ℕ → Interface M A) (HoldsAll : (ℕ → Words) → M → N → Type 0)
+    (naming : BusStop
     → BusStop) (places : ℕ → ℕ
     → Position) (number : ℕ) (left : Threads M A) (right : Threads N B) (made : Made M A) (original : Made N B) (extra : Bool)
-    (old : ThreadsRelated buses HoldsAll places left right)
+    (old : ThreadsRelated IsThread buses HoldsAll places left right)
     → StepAlike (buses number) (HoldsOf HoldsAll number) naming (places number) (places number (left.regs number).rip)
     (thread_of number left) (thread_beside old.words (thread_of number right)) made (made_beside old.words original) extra
-    → ThreadStep buses HoldsAll naming places number left right made original extra
-from_one buses HoldsAll naming places number left right made original true old (event, related) = (
+    → ThreadStep IsThread buses HoldsAll naming places number left right made original extra
+from_one IsThread buses HoldsAll naming places number left right made original true old (event, related) = (
   event,
-  renewed buses HoldsAll places number left right right made.thread related.words old related.holds related.at
+  renewed IsThread buses HoldsAll places number left right right made.thread related.words old related.holds related.at
       (λ other differ. refl),
 )
-from_one {M} {A} {N} {B} buses HoldsAll naming places number left right made original false old (event, rip, related) = (
+from_one {M} {A} {N} {B} IsThread buses HoldsAll naming places number left right made original false old (event, rip, related) = (
   event,
   rip,
   where_map made.event
       (Related (buses number) (HoldsOf HoldsAll number) (places number) made.thread (thread_beside old.words original.thread))
-      (ThreadsRelated buses HoldsAll places (with_thread number made.thread left) (with_thread number original.thread right))
+      (ThreadsRelated IsThread buses HoldsAll places (with_thread number made.thread left) (with_thread number original.thread
+      right))
       (λ now.
-      renewed buses HoldsAll places number left right
+      renewed IsThread buses HoldsAll places number left right
       (with_thread number original.thread right) made.thread now.words old now.holds
       (subst (λ (x : Regs). IsAt (buses number) (HoldsOf HoldsAll number) (places number made.thread.regs.rip)
       (record { regs = made.thread.regs; words = now.words }) x)
@@ -187,32 +193,35 @@ from_one {M} {A} {N} {B} buses HoldsAll naming places number left right made ori
       (λ other differ. at_other number original.thread.regs right.regs other differ)) related,
 )
 
-pub thread_alike : {M A N B : Type 0} (buses : ℕ → Interface M A) (originals : ℕ → Interface N B) (HoldsAll : (ℕ → Words) → M → N
+pub thread_alike : {M A N B : Type 0} (IsThread : ℕ → Type 0) (buses : ℕ → Interface M A) (originals : ℕ → Interface N B)
+    (HoldsAll : (ℕ → Words) → M → N
     → Type 0) (IsOutside : ℕ → ℕ → ℕ → Type 0) (naming : BusStop → BusStop) (targets sources : ℕ → Code) (places : ℕ → ℕ
     → Position)
-    → ((number : ℕ)
+    → ((number : ℕ) → IsThread number
     → AreBeside (buses number) (beside_words (originals number)) (HoldsOf HoldsAll number) (IsOutside number) naming)
-    → ((number address : ℕ)
+    → ((number : ℕ) → IsThread number → (address : ℕ)
     → Stands (buses number) (HoldsOf HoldsAll number) (targets number) (sources number) (places number) address
     (places number address))
-    → (number : ℕ) (left : Threads M A) (right : Threads N B) → ThreadsRelated buses HoldsAll places left right
+    → (number : ℕ) → IsThread number → (left : Threads M A) (right : Threads N B)
+    → ThreadsRelated IsThread buses HoldsAll places left right
     → IsStraight (buses number) (HoldsOf HoldsAll number) (IsOutside number) (targets number) (sources number) (places number)
     (thread_of number left)
-    → ThreadStep buses HoldsAll naming places number left right (threads_step buses targets number left)
+    → ThreadStep IsThread buses HoldsAll naming places number left right (threads_step buses targets number left)
     (threads_step originals sources number right) (is_extra (places number (left.regs number).rip))
-thread_alike {M} {A} {N} {B} buses originals HoldsAll IsOutside naming targets sources places beside stands number left right old
-    straight =
+thread_alike {M} {A} {N} {B} IsThread buses originals HoldsAll IsOutside naming targets sources places beside stands number
+    is_thread left right
+    old straight =
     let one : Thread (WithWords N) B = thread_beside old.words (thread_of number right) in
     let related : Related (buses number) (HoldsOf HoldsAll number) (places number) (thread_of number left) one = record {
       words = old.words number;
       holds = subst (λ (w : ℕ → Words). HoldsAll w left.meaning right.meaning) (sym (at_itself number old.words)) old.holds;
-      at = old.at number;
+      at = old.at number is_thread;
     } in
     let alike =
     step_alike (buses number) (beside_words (originals number)) (HoldsOf HoldsAll number) (IsOutside number) naming
-    (targets number) (sources number) (places number) (beside number) (stands number)
+    (targets number) (sources number) (places number) (beside number is_thread) (stands number is_thread)
     (thread_of number left) one related straight in
-    from_one buses HoldsAll naming places number left right (threads_step buses targets number left)
+    from_one IsThread buses HoldsAll naming places number left right (threads_step buses targets number left)
     (threads_step originals sources number right) (is_extra (places number (left.regs number).rip)) old
     (subst (λ (m : Made (WithWords N) B). StepAlike (buses number) (HoldsOf HoldsAll number) naming (places number)
     (places number (left.regs number).rip) (thread_of number left) one (threads_step buses targets number left) m
@@ -242,17 +251,19 @@ abbrev Ends : (M A : Type 0) → Event → Type 0
 Ends M A event = (rest : Threads M A → ThreadsRun M A) (number : ℕ) (before after : Threads M A)
     → threads_on rest number before event after ≡ record { lines = line number (before.regs number).rip event ∷ []; end = before }
 
-ended : {M A N B : Type 0} (buses : ℕ → Interface M A) (originals : ℕ → Interface N B) (HoldsAll : (ℕ → Words) → M → N
+ended : {M A N B : Type 0} (IsThread : ℕ → Type 0) (buses : ℕ → Interface M A) (originals : ℕ → Interface N B)
+    (HoldsAll : (ℕ → Words) → M → N
     → Type 0) (naming : BusStop → BusStop) (sources : ℕ → Code) (places : ℕ → ℕ → Position) (rest : Threads M A
     → ThreadsRun M A) (number : ℕ) (left after : Threads M A) (right : Threads N B) (event : Event)
-    → ThreadsRelated buses HoldsAll places left right → is_extra (places number (left.regs number).rip) ≡ false
+    → ThreadsRelated IsThread buses HoldsAll places left right → is_extra (places number (left.regs number).rip) ≡ false
     → (threads_step originals sources number right).event ≡ told_event naming event
     → (right.regs number).rip ≡ original_rip (places number (left.regs number).rip) (left.regs number).rip → Ends M A event
     → Ends N B (told_event naming event)
-    → ThreadsAlike buses HoldsAll naming places (threads_on rest number left event after)
+    → ThreadsAlike IsThread buses HoldsAll naming places (threads_on rest number left event after)
     (threads_run originals sources (entries (threads_lines places naming (threads_on rest number left event after).lines))
     right)
-ended {M} {A} {N} {B} buses originals HoldsAll naming sources places rest number left after right event related own told rip ends
+ended {M} {A} {N} {B} IsThread buses originals HoldsAll naming sources places rest number left after right event related own
+    told rip ends
     other_ends =
     let one = line number (left.regs number).rip event in
     let lines = own_lines places naming one [] own in
@@ -263,57 +274,62 @@ ended {M} {A} {N} {B} buses originals HoldsAll naming sources places rest number
     ≡ record { lines = line number (right.regs number).rip (told_event naming event) ∷ []; end = right } =
     ap (λ (e : Event). threads_on (threads_run originals sources []) number right e next) told
     ∙ other_ends (threads_run originals sources []) number right next in
-    let whole : ThreadsAlike buses HoldsAll naming places (record { lines = one ∷ []; end = left })
+    let whole : ThreadsAlike IsThread buses HoldsAll naming places (record { lines = one ∷ []; end = left })
     (threads_run originals sources (entries (original_line ∷ [])) right) = record {
       lines = ap (λ (r : ThreadsRun N B). r.lines) there ∙ ap (λ (n : ℕ). line number n (told_event naming event) ∷ []) rip
           ∙ sym lines;
-      end = subst (λ (t : Threads N B). ThreadsRelated buses HoldsAll places left t)
+      end = subst (λ (t : Threads N B). ThreadsRelated IsThread buses HoldsAll places left t)
           (sym (ap (λ (r : ThreadsRun N B). r.end) there)) related;
     } in
-    let counted : ThreadsAlike buses HoldsAll naming places (record { lines = one ∷ []; end = left })
+    let counted : ThreadsAlike IsThread buses HoldsAll naming places (record { lines = one ∷ []; end = left })
     (threads_run originals sources (entries (threads_lines places naming (one ∷ []))) right) =
-    subst (λ (l : List ThreadLine). ThreadsAlike buses HoldsAll naming places (record { lines = one ∷ []; end = left })
+    subst (λ (l : List ThreadLine). ThreadsAlike IsThread buses HoldsAll naming places (record { lines = one ∷ []; end = left })
     (threads_run originals sources (entries l) right)) (sym lines) whole in
-    subst (λ (r : ThreadsRun M A). ThreadsAlike buses HoldsAll naming places r
+    subst (λ (r : ThreadsRun M A). ThreadsAlike IsThread buses HoldsAll naming places r
     (threads_run originals sources (entries (threads_lines places naming r.lines)) right))
     (sym (ends rest number left after)) counted
 
-extra_on : {M A N B : Type 0} (buses : ℕ → Interface M A) (originals : ℕ → Interface N B) (HoldsAll : (ℕ → Words) → M → N
+extra_on : {M A N B : Type 0} (IsThread : ℕ → Type 0) (buses : ℕ → Interface M A) (originals : ℕ → Interface N B)
+    (HoldsAll : (ℕ → Words) → M → N
     → Type 0) (naming : BusStop → BusStop) (targets sources : ℕ → Code) (places : ℕ → ℕ
     → Position) (schedule : List ℕ) (number : ℕ) (left after : Threads M A) (right : Threads N B)
     → is_extra (places number (left.regs number).rip) ≡ true
-    → ThreadsAlike buses HoldsAll naming places (threads_run buses targets schedule after)
+    → ThreadsAlike IsThread buses HoldsAll naming places (threads_run buses targets schedule after)
     (threads_run originals sources (entries (threads_lines places naming (threads_run buses targets schedule after).lines))
     right)
-    → ThreadsAlike buses HoldsAll naming places (threads_on (threads_run buses targets schedule) number left (Ran Next) after)
+    → ThreadsAlike IsThread buses HoldsAll naming places
+    (threads_on (threads_run buses targets schedule) number left (Ran Next) after)
     (threads_run originals sources
     (entries
     (threads_lines places naming (threads_on (threads_run buses targets schedule) number left (Ran Next) after).lines))
     right)
-extra_on buses originals HoldsAll naming targets sources places schedule number left after right extra rest =
+extra_on IsThread buses originals HoldsAll naming targets sources places schedule number left after right extra rest =
     let lines =
     extra_lines places naming (line number (left.regs number).rip (Ran Next))
     (threads_run buses targets schedule after).lines extra in record {
       lines = subst (λ (l : List ThreadLine). (threads_run originals sources (entries l) right).lines ≡ l) (sym lines) rest.lines;
       end = subst
-          (λ (l : List ThreadLine). ThreadsRelated buses HoldsAll places (threads_run buses targets schedule after).end
+          (λ (l : List ThreadLine). ThreadsRelated IsThread buses HoldsAll places (threads_run buses targets schedule after).end
           (threads_run originals sources (entries l) right).end) (sym lines) rest.end;
     }
 
-own_on : {M A N B : Type 0} (buses : ℕ → Interface M A) (originals : ℕ → Interface N B) (HoldsAll : (ℕ → Words) → M → N
+own_on : {M A N B : Type 0} (IsThread : ℕ → Type 0) (buses : ℕ → Interface M A) (originals : ℕ → Interface N B)
+    (HoldsAll : (ℕ → Words) → M → N
     → Type 0) (naming : BusStop → BusStop) (targets sources : ℕ → Code) (places : ℕ → ℕ
     → Position) (schedule : List ℕ) (number : ℕ) (left after : Threads M A) (right : Threads N B)
     → is_extra (places number (left.regs number).rip) ≡ false → (threads_step originals sources number right).event ≡ Ran Next
     → (right.regs number).rip ≡ original_rip (places number (left.regs number).rip) (left.regs number).rip
-    → ThreadsAlike buses HoldsAll naming places (threads_run buses targets schedule after)
+    → ThreadsAlike IsThread buses HoldsAll naming places (threads_run buses targets schedule after)
     (threads_run originals sources (entries (threads_lines places naming (threads_run buses targets schedule after).lines))
     (with_thread number (threads_step originals sources number right).thread right))
-    → ThreadsAlike buses HoldsAll naming places (threads_on (threads_run buses targets schedule) number left (Ran Next) after)
+    → ThreadsAlike IsThread buses HoldsAll naming places
+    (threads_on (threads_run buses targets schedule) number left (Ran Next) after)
     (threads_run originals sources
     (entries
     (threads_lines places naming (threads_on (threads_run buses targets schedule) number left (Ran Next) after).lines))
     right)
-own_on {M} {A} {N} {B} buses originals HoldsAll naming targets sources places schedule number left after right own event rip
+own_on {M} {A} {N} {B} IsThread buses originals HoldsAll naming targets sources places schedule number left after right own
+    event rip
     rest =
     let others = threads_lines places naming (threads_run buses targets schedule after).lines in
     let one = line number (original_rip (places number (left.regs number).rip) (left.regs number).rip) (Ran Next) in
@@ -329,115 +345,121 @@ own_on {M} {A} {N} {B} buses originals HoldsAll naming targets sources places sc
     ap (λ (r : ThreadsRun N B). r.lines) there
     ∙ ap (λ (l : List ThreadLine). line number (right.regs number).rip (Ran Next) ∷ l) rest.lines
     ∙ ap (λ (n : ℕ). line number n (Ran Next) ∷ others) rip in
-    let end : ThreadsRelated buses HoldsAll places (threads_run buses targets schedule after).end
+    let end : ThreadsRelated IsThread buses HoldsAll places (threads_run buses targets schedule after).end
     (threads_run originals sources (entries (one ∷ others)) right).end =
-    subst (λ (t : Threads N B). ThreadsRelated buses HoldsAll places (threads_run buses targets schedule after).end t)
+    subst (λ (t : Threads N B). ThreadsRelated IsThread buses HoldsAll places (threads_run buses targets schedule after).end t)
     (sym (ap (λ (r : ThreadsRun N B). r.end) there)) rest.end in record {
       lines = subst (λ (l : List ThreadLine). (threads_run originals sources (entries l) right).lines ≡ l) (sym lines) made;
       end = subst
-          (λ (l : List ThreadLine). ThreadsRelated buses HoldsAll places (threads_run buses targets schedule after).end
+          (λ (l : List ThreadLine). ThreadsRelated IsThread buses HoldsAll places (threads_run buses targets schedule after).end
           (threads_run originals sources (entries l) right).end) (sym lines) end;
     }
 
 -- the law of the rest of the schedule
-abbrev Rest : {M A N B : Type 0} → (ℕ → Interface M A) → (ℕ → Interface N B) → ((ℕ → Words) → M → N → Type 0)
+abbrev Rest : {M A N B : Type 0} → (ℕ → Type 0) → (ℕ → Interface M A) → (ℕ → Interface N B) → ((ℕ → Words) → M → N → Type 0)
     → (BusStop → BusStop) → (ℕ → Code) → (ℕ → Code) → (ℕ → ℕ → Position) → List ℕ → Threads M A → Type 0
-Rest {M} {A} {N} {B} buses originals HoldsAll naming targets sources places schedule left =
-    (right : Threads N B) → ThreadsRelated buses HoldsAll places left right
-    → ThreadsAlike buses HoldsAll naming places (threads_run buses targets schedule left)
+Rest {M} {A} {N} {B} IsThread buses originals HoldsAll naming targets sources places schedule left =
+    (right : Threads N B) → ThreadsRelated IsThread buses HoldsAll places left right
+    → ThreadsAlike IsThread buses HoldsAll naming places (threads_run buses targets schedule left)
     (threads_run originals sources (entries (threads_lines places naming (threads_run buses targets schedule left).lines))
     right)
 
-by_event : {M A N B : Type 0} (buses : ℕ → Interface M A) (originals : ℕ → Interface N B) (HoldsAll : (ℕ → Words) → M → N
+by_event : {M A N B : Type 0} (IsThread : ℕ → Type 0) (buses : ℕ → Interface M A) (originals : ℕ → Interface N B)
+    (HoldsAll : (ℕ → Words) → M → N
     → Type 0) (naming : BusStop → BusStop) (targets sources : ℕ → Code) (places : ℕ → ℕ
     → Position) (schedule : List ℕ) (number : ℕ) (left : Threads M A) (right : Threads N B) (made : Made M A) (event : Event)
     (extra : Bool)
     → made.event ≡ event → is_extra (places number (left.regs number).rip) ≡ extra
-    → ThreadsRelated buses HoldsAll places left right
-    → ThreadStep buses HoldsAll naming places number left right made (threads_step originals sources number right) extra
+    → ThreadsRelated IsThread buses HoldsAll places left right
+    → ThreadStep IsThread buses HoldsAll naming places number left right made (threads_step originals sources number right) extra
     → WhereNext event
-    (Rest {M = M} {A = A} {N = N} {B = B} buses originals HoldsAll naming targets sources places schedule
+    (Rest {M = M} {A = A} {N = N} {B = B} IsThread buses originals HoldsAll naming targets sources places schedule
     (with_thread number made.thread left))
-    → ThreadsAlike buses HoldsAll naming places
+    → ThreadsAlike IsThread buses HoldsAll naming places
     (threads_on (threads_run buses targets schedule) number left event (with_thread number made.thread left))
     (threads_run originals sources
     (entries
     (threads_lines places naming
     (threads_on (threads_run buses targets schedule) number left event (with_thread number made.thread left)).lines))
     right)
-by_event buses originals HoldsAll naming targets sources places schedule number left right made
+by_event IsThread buses originals HoldsAll naming targets sources places schedule number left right made
     (Ran Next) true is extra related alike rest =
-    extra_on buses originals HoldsAll naming targets sources places schedule number left
+    extra_on IsThread buses originals HoldsAll naming targets sources places schedule number left
     (with_thread number made.thread left) right extra (rest right alike.1)
-by_event buses originals HoldsAll naming targets sources places schedule number left right made
+by_event IsThread buses originals HoldsAll naming targets sources places schedule number left right made
     (Ran Syscall) true is extra related alike rest = absurd (let e = alike.0 in cc)
-by_event buses originals HoldsAll naming targets sources places schedule number left right made
+by_event IsThread buses originals HoldsAll naming targets sources places schedule number left right made
     (Ran Switch) true is extra related alike rest = absurd (let e = alike.0 in cc)
-by_event buses originals HoldsAll naming targets sources places schedule number left right made
+by_event IsThread buses originals HoldsAll naming targets sources places schedule number left right made
     (Ran Undefined) true is extra related alike rest = absurd (let e = alike.0 in cc)
-by_event buses originals HoldsAll naming targets sources places schedule number left right made
+by_event IsThread buses originals HoldsAll naming targets sources places schedule number left right made
     (Stopped stop) true is extra related alike rest = absurd (let e = alike.0 in cc)
-by_event buses originals HoldsAll naming targets sources places schedule number left right made NotFetched true is extra related
+by_event IsThread buses originals HoldsAll naming targets sources places schedule number left right made NotFetched true is
+    extra related
     alike rest = absurd (let e = alike.0 in cc)
-by_event buses originals HoldsAll naming targets sources places schedule number left right made
+by_event IsThread buses originals HoldsAll naming targets sources places schedule number left right made
     (Ran Next) false is own related alike rest =
     let next =
     subst (λ (e : Event). WhereNext e
-    (ThreadsRelated buses HoldsAll places (with_thread number made.thread left)
+    (ThreadsRelated IsThread buses HoldsAll places (with_thread number made.thread left)
     (with_thread number (threads_step originals sources number right).thread right))) is alike.2 in
-    own_on buses originals HoldsAll naming targets sources places schedule number left
+    own_on IsThread buses originals HoldsAll naming targets sources places schedule number left
     (with_thread number made.thread left) right own (alike.0 ∙ ap (λ (e : Event). told_event naming e) is) alike.1
     (rest (with_thread number (threads_step originals sources number right).thread right) next)
-by_event buses originals HoldsAll naming targets sources places schedule number left right made
+by_event IsThread buses originals HoldsAll naming targets sources places schedule number left right made
     (Ran Syscall) false is own related alike rest =
-    ended buses originals HoldsAll naming sources places (threads_run buses targets schedule) number left
+    ended IsThread buses originals HoldsAll naming sources places (threads_run buses targets schedule) number left
     (with_thread number made.thread left) right (Ran Syscall) related own (alike.0
     ∙ ap (λ (e : Event). told_event naming e) is) alike.1 (λ r n b a. refl) (λ r n b a. refl)
-by_event buses originals HoldsAll naming targets sources places schedule number left right made
+by_event IsThread buses originals HoldsAll naming targets sources places schedule number left right made
     (Ran Switch) false is own related alike rest =
-    ended buses originals HoldsAll naming sources places (threads_run buses targets schedule) number left
+    ended IsThread buses originals HoldsAll naming sources places (threads_run buses targets schedule) number left
     (with_thread number made.thread left) right (Ran Switch) related own (alike.0
     ∙ ap (λ (e : Event). told_event naming e) is) alike.1 (λ r n b a. refl) (λ r n b a. refl)
-by_event buses originals HoldsAll naming targets sources places schedule number left right made
+by_event IsThread buses originals HoldsAll naming targets sources places schedule number left right made
     (Ran Undefined) false is own related alike rest =
-    ended buses originals HoldsAll naming sources places (threads_run buses targets schedule) number left
+    ended IsThread buses originals HoldsAll naming sources places (threads_run buses targets schedule) number left
     (with_thread number made.thread left) right (Ran Undefined) related own (alike.0
     ∙ ap (λ (e : Event). told_event naming e) is) alike.1 (λ r n b a. refl) (λ r n b a. refl)
-by_event buses originals HoldsAll naming targets sources places schedule number left right made
+by_event IsThread buses originals HoldsAll naming targets sources places schedule number left right made
     (Stopped stop) false is own related alike rest =
-    ended buses originals HoldsAll naming sources places (threads_run buses targets schedule) number left
+    ended IsThread buses originals HoldsAll naming sources places (threads_run buses targets schedule) number left
     (with_thread number made.thread left) right (Stopped stop) related own (alike.0
     ∙ ap (λ (e : Event). told_event naming e) is) alike.1 (λ r n b a. refl) (λ r n b a. refl)
-by_event buses originals HoldsAll naming targets sources places schedule number left right made NotFetched false is own related
+by_event IsThread buses originals HoldsAll naming targets sources places schedule number left right made NotFetched false is
+    own related
     alike rest =
-    ended buses originals HoldsAll naming sources places (threads_run buses targets schedule) number left
+    ended IsThread buses originals HoldsAll naming sources places (threads_run buses targets schedule) number left
     (with_thread number made.thread left) right NotFetched related own (alike.0
     ∙ ap (λ (e : Event). told_event naming e) is) alike.1 (λ r n b a. refl) (λ r n b a. refl)
 
-pub threads_alike : {M A N B : Type 0} (buses : ℕ → Interface M A) (originals : ℕ → Interface N B) (HoldsAll : (ℕ → Words) → M → N
+pub threads_alike : {M A N B : Type 0} (IsThread : ℕ → Type 0) (buses : ℕ → Interface M A) (originals : ℕ → Interface N B)
+    (HoldsAll : (ℕ → Words) → M → N
     → Type 0) (IsOutside : ℕ → ℕ → ℕ → Type 0) (naming : BusStop → BusStop) (targets sources : ℕ → Code) (places : ℕ → ℕ
     → Position)
-    → ((number : ℕ)
+    → ((number : ℕ) → IsThread number
     → AreBeside (buses number) (beside_words (originals number)) (HoldsOf HoldsAll number) (IsOutside number) naming)
-    → ((number address : ℕ)
+    → ((number : ℕ) → IsThread number → (address : ℕ)
     → Stands (buses number) (HoldsOf HoldsAll number) (targets number) (sources number) (places number) address
     (places number address))
-    → (schedule : List ℕ) (left : Threads M A) (right : Threads N B) → ThreadsRelated buses HoldsAll places left right
+    → (schedule : List ℕ) (left : Threads M A) (right : Threads N B) → AllByRecursion IsThread schedule
+    → ThreadsRelated IsThread buses HoldsAll places left right
     → ThreadsStraight buses HoldsAll IsOutside targets sources places schedule left
-    → ThreadsAlike buses HoldsAll naming places (threads_run buses targets schedule left)
+    → ThreadsAlike IsThread buses HoldsAll naming places (threads_run buses targets schedule left)
     (threads_run originals sources (entries (threads_lines places naming (threads_run buses targets schedule left).lines))
     right)
-threads_alike buses originals HoldsAll IsOutside naming targets sources places beside stands [] left right related straight =
-    record { lines = refl; end = related }
-threads_alike {M} {A} {N} {B} buses originals HoldsAll IsOutside naming targets sources places beside stands
-    (number ∷ schedule) left right related (now, later) =
+threads_alike IsThread buses originals HoldsAll IsOutside naming targets sources places beside stands [] left right are related
+    straight = record { lines = refl; end = related }
+threads_alike {M} {A} {N} {B} IsThread buses originals HoldsAll IsOutside naming targets sources places beside stands
+    (number ∷ schedule) left right are related (now, later) =
     let made = threads_step buses targets number left in
-    by_event buses originals HoldsAll naming targets sources places schedule number left right made made.event
+    by_event IsThread buses originals HoldsAll naming targets sources places schedule number left right made made.event
     (is_extra (places number (left.regs number).rip)) refl refl related
-    (thread_alike buses originals HoldsAll IsOutside naming targets sources places beside stands number left right related now)
+    (thread_alike IsThread buses originals HoldsAll IsOutside naming targets sources places beside stands number are.0
+    left right related now)
     (where_map made.event
     (ThreadsStraight buses HoldsAll IsOutside targets sources places schedule (with_thread number made.thread left))
-    (Rest {M = M} {A = A} {N = N} {B = B} buses originals HoldsAll naming targets sources places schedule
+    (Rest {M = M} {A = A} {N = N} {B = B} IsThread buses originals HoldsAll naming targets sources places schedule
     (with_thread number made.thread left))
-    (λ straight other next. threads_alike buses originals HoldsAll IsOutside naming targets sources places beside stands schedule
-    (with_thread number made.thread left) other next straight) later)
+    (λ straight other next. threads_alike IsThread buses originals HoldsAll IsOutside naming targets sources places beside stands
+    schedule (with_thread number made.thread left) other are.1 next straight) later)

@@ -1,5 +1,6 @@
 -- A run of several threads with a kernel beside the original code.
 use Rattle.std.proofs.Common.{◌≡◌, ℕ, Bool, true, false, List, [], ◌∷◌, refl, sym, ap, ◌∙◌, subst}
+use Rattle.std.specs.List.{AllByRecursion}
 use Rattle.std.proofs.lemmas.Bool.{cond-true, cond-false}
 use Rattle.sb_bus.specs.declared.stop.BusStop.{BusStop}
 use Rattle.sb_exec.specs.declared.action.Effect.TheVariants.{Next, Syscall, Switch, Undefined}
@@ -14,110 +15,131 @@ use Rattle.sb_origin_run.proofs.Many.{ThreadStep, thread_alike}
 
 -- ---- one step
 
-abbrev StateStep : {V M A N B : Type 0} → System V M A → System V N B → ((ℕ → Words) → M → N → Type 0) → (BusStop → BusStop)
+abbrev StateStep : {V M A N B : Type 0} → (ℕ → Type 0) → System V M A → System V N B → (V → (ℕ → Words) → M → N → Type 0)
+    → (BusStop → BusStop)
     → (V → ℕ → ℕ → Position) → ℕ → State V M A → State V N B → Bool → Type 0
-StateStep system original HoldsAll naming places number left right true =
-    StatesRelated system.buses HoldsAll places (next_state system number left) right
-StateStep system original HoldsAll naming places number left right false =
+StateStep IsThread system original HoldsAll naming places number left right true =
+    StatesRelated IsThread system.buses HoldsAll places (next_state system number left) right
+StateStep IsThread system original HoldsAll naming places number left right false =
     ((made_of original number right).event ≡ told_event naming (made_of system number left).event)
     × ((right.threads.regs number).rip
     ≡ original_rip (places left.mode number (left.threads.regs number).rip) (left.threads.regs number).rip)
-    × StatesRelated system.buses HoldsAll places (next_state system number left) (next_state original number right)
+    × StatesRelated IsThread system.buses HoldsAll places (next_state system number left) (next_state original number right)
 
 -- the states after a step that is not extra, by its event
-own_after : {V M A N B : Type 0} (system : System V M A) (original : System V N B) (HoldsAll : (ℕ → Words) → M → N
+own_after : {V M A N B : Type 0} (IsThread : ℕ → Type 0) (system : System V M A) (original : System V N B)
+    (HoldsAll : V → (ℕ → Words) → M → N
     → Type 0) (naming : BusStop → BusStop) (places : V → ℕ → ℕ
     → Position) (number : ℕ) (left : State V M A) (threads : Threads N B) (made : Made M A) (other : Made N B) (event : Event)
-    → ServesAlike system original HoldsAll naming places
-    → ThreadsRelated (system.buses left.mode) HoldsAll (places left.mode) left.threads threads
+    → ServesAlike IsThread system original HoldsAll naming places → IsThread number
+    → ThreadsRelated IsThread (system.buses left.mode) (HoldsAll left.mode) (places left.mode) left.threads threads
     → (made_of system number left).event ≡ event
     → is_extra (places left.mode number (left.threads.regs number).rip) ≡ false
     → WhereNext event
-    (ThreadsRelated (system.buses left.mode) HoldsAll (places left.mode) (with_thread number made.thread left.threads)
+    (ThreadsRelated IsThread (system.buses left.mode) (HoldsAll left.mode) (places left.mode) (with_thread number made.thread
+    left.threads)
     (with_thread number other.thread threads))
-    → StatesRelated system.buses HoldsAll places (after_event system number event left made)
+    → StatesRelated IsThread system.buses HoldsAll places (after_event system number event left made)
     (after_event original number (told_event naming event) (record { mode = left.mode; threads = threads }) other)
-own_after system original HoldsAll naming places number left threads made other (Ran Next) serves related is own next =
+own_after IsThread system original HoldsAll naming places number left threads made other
+    (Ran Next) serves is_thread related is own next =
     record { mode = refl; threads = next }
-own_after system original HoldsAll naming places number left threads made other (Ran Syscall) serves related is own next =
-    serves number (Ran Syscall) left (record { mode = left.mode; threads = threads }) (record { mode = refl; threads = related })
+own_after IsThread system original HoldsAll naming places number left threads made other
+    (Ran Syscall) serves is_thread related is own next =
+    serves number (Ran Syscall) left (record { mode = left.mode; threads = threads }) is_thread
+    (record { mode = refl; threads = related })
     (λ e. cc) is own
-own_after system original HoldsAll naming places number left threads made other (Ran Switch) serves related is own next =
-    serves number (Ran Switch) left (record { mode = left.mode; threads = threads }) (record { mode = refl; threads = related })
+own_after IsThread system original HoldsAll naming places number left threads made other
+    (Ran Switch) serves is_thread related is own next =
+    serves number (Ran Switch) left (record { mode = left.mode; threads = threads }) is_thread
+    (record { mode = refl; threads = related })
     (λ e. cc) is own
-own_after system original HoldsAll naming places number left threads made other (Ran Undefined) serves related is own next =
-    serves number (Ran Undefined) left (record { mode = left.mode; threads = threads })
+own_after IsThread system original HoldsAll naming places number left threads made other
+    (Ran Undefined) serves is_thread related is own next =
+    serves number (Ran Undefined) left (record { mode = left.mode; threads = threads }) is_thread
     (record { mode = refl; threads = related }) (λ e. cc) is own
-own_after system original HoldsAll naming places number left threads made other (Stopped stop) serves related is own next =
-    serves number (Stopped stop) left (record { mode = left.mode; threads = threads }) (record { mode = refl; threads = related })
+own_after IsThread system original HoldsAll naming places number left threads made other
+    (Stopped stop) serves is_thread related is own next =
+    serves number (Stopped stop) left (record { mode = left.mode; threads = threads }) is_thread
+    (record { mode = refl; threads = related })
     (λ e. cc) is own
-own_after system original HoldsAll naming places number left threads made other NotFetched serves related is own next =
-    serves number NotFetched left (record { mode = left.mode; threads = threads }) (record { mode = refl; threads = related })
+own_after IsThread system original HoldsAll naming places number left threads made other NotFetched serves is_thread related is
+    own next =
+    serves number NotFetched left (record { mode = left.mode; threads = threads }) is_thread
+    (record { mode = refl; threads = related })
     (λ e. cc) is own
 
-same_mode : {V M A N B : Type 0} (system : System V M A) (original : System V N B) (HoldsAll : (ℕ → Words) → M → N
+same_mode : {V M A N B : Type 0} (IsThread : ℕ → Type 0) (system : System V M A) (original : System V N B)
+    (HoldsAll : V → (ℕ → Words) → M → N
     → Type 0) (naming : BusStop → BusStop) (places : V → ℕ → ℕ
     → Position) (number : ℕ) (left : State V M A) (threads : Threads N B) (extra : Bool)
-    → ServesAlike system original HoldsAll naming places
-    → ThreadsRelated (system.buses left.mode) HoldsAll (places left.mode) left.threads threads
+    → ServesAlike IsThread system original HoldsAll naming places → IsThread number
+    → ThreadsRelated IsThread (system.buses left.mode) (HoldsAll left.mode) (places left.mode) left.threads threads
     → is_extra (places left.mode number (left.threads.regs number).rip) ≡ extra
-    → ThreadStep (system.buses left.mode) HoldsAll naming (places left.mode) number left.threads threads
+    → ThreadStep IsThread (system.buses left.mode) (HoldsAll left.mode) naming (places left.mode) number left.threads threads
     (made_of system number left) (made_of original number (record { mode = left.mode; threads = threads })) extra
-    → StateStep system original HoldsAll naming places number left (record { mode = left.mode; threads = threads }) extra
-same_mode {V} {M} {A} {N} {B} system original HoldsAll naming places number left threads true serves related is (event, next) =
+    → StateStep IsThread system original HoldsAll naming places number left (record { mode = left.mode; threads = threads }) extra
+same_mode {V} {M} {A} {N} {B} IsThread system original HoldsAll naming places number left threads true serves is_thread related
+    is (event, next) =
     let right : State V N B = record { mode = left.mode; threads = threads } in
-    let now : StatesRelated system.buses HoldsAll places
+    let now : StatesRelated IsThread system.buses HoldsAll places
     (after_event system number (Ran Next) left (made_of system number left)) right =
     record { mode = refl; threads = next } in
-    subst (λ (e : Event). StatesRelated system.buses HoldsAll places
+    subst (λ (e : Event). StatesRelated IsThread system.buses HoldsAll places
     (after_event system number e left (made_of system number left)) right) (sym event) now
-same_mode {V} {M} {A} {N} {B} system original HoldsAll naming places number left threads false serves related own (
-  event,
-  rip,
-  next,
-) =
+same_mode {V} {M} {A} {N} {B} IsThread system original HoldsAll naming places number left threads false serves is_thread
+    related own (
+      event,
+      rip,
+      next,
+    ) =
     let right : State V N B = record { mode = left.mode; threads = threads } in
     let made = made_of system number left in
     let now =
-    own_after system original HoldsAll naming places number left threads made
-    (made_of original number right) made.event serves related refl own next in (
+    own_after IsThread system original HoldsAll naming places number left threads made
+    (made_of original number right) made.event serves is_thread related refl own next in (
       event,
       rip,
-      subst (λ (e : Event). StatesRelated system.buses HoldsAll places (next_state system number left)
+      subst (λ (e : Event). StatesRelated IsThread system.buses HoldsAll places (next_state system number left)
           (after_event original number e right (made_of original number right))) (sym event) now,
     )
 
 -- what is asked of the two systems in each mode
-abbrev pub ModesStand : {V M A N B : Type 0} → System V M A → System V N B → ((ℕ → Words) → M → N → Type 0)
+abbrev pub ModesStand : {V M A N B : Type 0} → (ℕ → Type 0) → System V M A → System V N B → (V → (ℕ → Words) → M → N → Type 0)
     → (ℕ → ℕ → ℕ → Type 0) → (BusStop → BusStop) → (V → ℕ → ℕ → Position) → Type 0
-ModesStand {V} system original HoldsAll IsOutside naming places =
-    ((mode : V) (number : ℕ)
-    → AreBeside (system.buses mode number) (beside_words (original.buses mode number)) (HoldsOf HoldsAll number)
+ModesStand {V} IsThread system original HoldsAll IsOutside naming places =
+    ((mode : V) (number : ℕ) → IsThread number
+    → AreBeside (system.buses mode number) (beside_words (original.buses mode number)) (HoldsOf (HoldsAll mode) number)
     (IsOutside number) naming)
-    × ((mode : V) (number address : ℕ)
-    → Stands (system.buses mode number) (HoldsOf HoldsAll number) (system.codes mode number) (original.codes mode number)
+    × ((mode : V) (number : ℕ) → IsThread number → (address : ℕ)
+    → Stands (system.buses mode number) (HoldsOf (HoldsAll mode) number) (system.codes mode number) (original.codes mode number)
     (places mode number) address (places mode number address))
 
-state_alike : {V M A N B : Type 0} (system : System V M A) (original : System V N B) (HoldsAll : (ℕ → Words) → M → N
+state_alike : {V M A N B : Type 0} (IsThread : ℕ → Type 0) (system : System V M A) (original : System V N B)
+    (HoldsAll : V → (ℕ → Words) → M → N
     → Type 0) (IsOutside : ℕ → ℕ → ℕ → Type 0) (naming : BusStop → BusStop) (places : V → ℕ → ℕ → Position)
-    → ModesStand system original HoldsAll IsOutside naming places
-    → ServesAlike system original HoldsAll naming places → (number : ℕ) (left : State V M A) (right : State V N B)
-    → StatesRelated system.buses HoldsAll places left right
-    → IsStraight (system.buses left.mode number) (HoldsOf HoldsAll number) (IsOutside number) (system.codes left.mode number)
+    → ModesStand IsThread system original HoldsAll IsOutside naming places
+    → ServesAlike IsThread system original HoldsAll naming places → (number : ℕ) → IsThread number
+    → (left : State V M A) (right : State V N B)
+    → StatesRelated IsThread system.buses HoldsAll places left right
+    → IsStraight (system.buses left.mode number) (HoldsOf (HoldsAll left.mode) number) (IsOutside number)
+    (system.codes left.mode number)
     (original.codes left.mode number) (places left.mode number) (thread_of number left.threads)
-    → StateStep system original HoldsAll naming places number left right
+    → StateStep IsThread system original HoldsAll naming places number left right
     (is_extra (places left.mode number (left.threads.regs number).rip))
-state_alike {V} {M} {A} {N} {B} system original HoldsAll IsOutside naming places (
+state_alike {V} {M} {A} {N} {B} IsThread system original HoldsAll IsOutside naming places (
   beside,
   stands,
-) serves number left right related straight =
+) serves number is_thread left right related straight =
     let mode = left.mode in
     let extra = is_extra (places mode number (left.threads.regs number).rip) in
-    subst (λ (m : V). StateStep system original HoldsAll naming places number left
+    subst (λ (m : V). StateStep IsThread system original HoldsAll naming places number left
     (record { mode = m; threads = right.threads }) extra) (sym related.mode)
-    (same_mode system original HoldsAll naming places number left right.threads extra serves related.threads refl
-    (thread_alike (system.buses mode) (original.buses mode) HoldsAll IsOutside naming (system.codes mode) (original.codes mode)
-    (places mode) (beside mode) (stands mode) number left.threads right.threads related.threads straight))
+    (same_mode IsThread system original HoldsAll naming places number left right.threads extra serves is_thread related.threads
+    refl
+    (thread_alike IsThread (system.buses mode) (original.buses mode) (HoldsAll mode) IsOutside naming (system.codes mode)
+    (original.codes mode)
+    (places mode) (beside mode) (stands mode) number is_thread left.threads right.threads related.threads straight))
 
 -- ---- the run
 
@@ -141,33 +163,37 @@ own_lines places naming one lines e =
     cond-false (is_extra (places one.mode one.thread one.line.rip)) (original_served places naming lines) _ e
 
 -- the law of the rest of the schedule
-abbrev Rest : {V M A N B : Type 0} → System V M A → System V N B → ((ℕ → Words) → M → N → Type 0) → (BusStop → BusStop)
+abbrev Rest : {V M A N B : Type 0} → (ℕ → Type 0) → System V M A → System V N B → (V → (ℕ → Words) → M → N → Type 0)
+    → (BusStop → BusStop)
     → (V → ℕ → ℕ → Position) → List ℕ → State V M A → Type 0
-Rest {V} {M} {A} {N} {B} system original HoldsAll naming places schedule left =
-    (right : State V N B) → StatesRelated system.buses HoldsAll places left right
-    → ServedAlike system original HoldsAll naming places schedule left
+Rest {V} {M} {A} {N} {B} IsThread system original HoldsAll naming places schedule left =
+    (right : State V N B) → StatesRelated IsThread system.buses HoldsAll places left right
+    → ServedAlike IsThread system original HoldsAll naming places schedule left
     (served_entries (original_served places naming (served_lines system schedule left))) right
 
-by_extra : {V M A N B : Type 0} (system : System V M A) (original : System V N B) (HoldsAll : (ℕ → Words) → M → N
+by_extra : {V M A N B : Type 0} (IsThread : ℕ → Type 0) (system : System V M A) (original : System V N B)
+    (HoldsAll : V → (ℕ → Words) → M → N
     → Type 0) (naming : BusStop → BusStop) (places : V → ℕ → ℕ
     → Position) (number : ℕ) (schedule : List ℕ) (left : State V M A) (right : State V N B) (extra : Bool)
     → is_extra (places left.mode number (left.threads.regs number).rip) ≡ extra → right.mode ≡ left.mode
-    → StateStep system original HoldsAll naming places number left right extra
-    → Rest {V = V} {M = M} {A = A} {N = N} {B = B} system original HoldsAll naming places schedule (next_state system number left)
-    → ServedAlike system original HoldsAll naming places (number ∷ schedule) left
+    → StateStep IsThread system original HoldsAll naming places number left right extra
+    → Rest {V = V} {M = M} {A = A} {N = N} {B = B} IsThread system original HoldsAll naming places schedule
+    (next_state system number left)
+    → ServedAlike IsThread system original HoldsAll naming places (number ∷ schedule) left
     (served_entries (original_served places naming (served_lines system (number ∷ schedule) left))) right
-by_extra {V} {M} {A} {N} {B} system original HoldsAll naming places number schedule left right true extra mode alike rest =
+by_extra {V} {M} {A} {N} {B} IsThread system original HoldsAll naming places number schedule left right true extra mode alike
+    rest =
     let lines =
     extra_lines places naming (line_of system number left)
     (served_lines system schedule (next_state system number left)) extra in
     let later = rest right alike in record {
       lines = subst (λ (l : List (ServedLine V)). served_lines original (served_entries l) right ≡ l) (sym lines) later.lines;
       end = subst
-          (λ (l : List (ServedLine V)). StatesRelated system.buses HoldsAll places
+          (λ (l : List (ServedLine V)). StatesRelated IsThread system.buses HoldsAll places
           (served_end system schedule (next_state system number left)) (served_end original (served_entries l) right))
           (sym lines) later.end;
     }
-by_extra {V} {M} {A} {N} {B} system original HoldsAll naming places number schedule left right false own mode (
+by_extra {V} {M} {A} {N} {B} IsThread system original HoldsAll naming places number schedule left right false own mode (
   event,
   rip,
   next,
@@ -192,24 +218,27 @@ by_extra {V} {M} {A} {N} {B} system original HoldsAll naming places number sched
     ∙ ap (λ (l : List (ServedLine V)). one ∷ l) later.lines in record {
       lines = subst (λ (l : List (ServedLine V)). served_lines original (served_entries l) right ≡ l) (sym lines) whole;
       end = subst
-          (λ (l : List (ServedLine V)). StatesRelated system.buses HoldsAll places
+          (λ (l : List (ServedLine V)). StatesRelated IsThread system.buses HoldsAll places
           (served_end system schedule (next_state system number left)) (served_end original (served_entries l) right))
           (sym lines) later.end;
     }
 
-pub served_alike : {V M A N B : Type 0} (system : System V M A) (original : System V N B) (HoldsAll : (ℕ → Words) → M → N
+pub served_alike : {V M A N B : Type 0} (IsThread : ℕ → Type 0) (system : System V M A) (original : System V N B)
+    (HoldsAll : V → (ℕ → Words) → M → N
     → Type 0) (IsOutside : ℕ → ℕ → ℕ → Type 0) (naming : BusStop → BusStop) (places : V → ℕ → ℕ → Position)
-    → ModesStand system original HoldsAll IsOutside naming places
-    → ServesAlike system original HoldsAll naming places → (schedule : List ℕ) (left : State V M A) (right : State V N B)
-    → StatesRelated system.buses HoldsAll places left right
+    → ModesStand IsThread system original HoldsAll IsOutside naming places
+    → ServesAlike IsThread system original HoldsAll naming places → (schedule : List ℕ) (left : State V M A) (right : State V N B)
+    → AllByRecursion IsThread schedule → StatesRelated IsThread system.buses HoldsAll places left right
     → ServedStraight system original HoldsAll IsOutside places schedule left
-    → ServedAlike system original HoldsAll naming places schedule left
+    → ServedAlike IsThread system original HoldsAll naming places schedule left
     (served_entries (original_served places naming (served_lines system schedule left))) right
-served_alike system original HoldsAll IsOutside naming places stands serves [] left right related straight =
+served_alike IsThread system original HoldsAll IsOutside naming places stands serves [] left right are related straight =
     record { lines = refl; end = related }
-served_alike system original HoldsAll IsOutside naming places stands serves (number ∷ schedule) left right related (now, later) =
-    by_extra system original HoldsAll naming places number schedule left right
+served_alike IsThread system original HoldsAll IsOutside naming places stands serves (number ∷ schedule) left right
+    are related (now, later) =
+    by_extra IsThread system original HoldsAll naming places number schedule left right
     (is_extra (places left.mode number (left.threads.regs number).rip)) refl related.mode
-    (state_alike system original HoldsAll IsOutside naming places stands serves number left right related now)
-    (λ other next. served_alike system original HoldsAll IsOutside naming places stands serves schedule
-    (next_state system number left) other next later)
+    (state_alike IsThread system original HoldsAll IsOutside naming places stands serves number are.0 left right related
+    now)
+    (λ other next. served_alike IsThread system original HoldsAll IsOutside naming places stands serves schedule
+    (next_state system number left) other are.1 next later)

@@ -76,7 +76,9 @@ accesses_at bus Holds (AtOnce slot) state regs is = tt
 
 -- ---- positions
 
-open_at : {M A N : Type 0} (bus : Interface M A) (Holds : Words → M → N → Type 0) (at : Position) (state : Slotted) (regs : Regs)
+-- at an open position the registers are the original ones
+pub open_at : {M A N : Type 0} (bus : Interface M A) (Holds : Words → M → N → Type 0) (at : Position) (state : Slotted)
+    (regs : Regs)
     → is_open at ≡ true → regs ≡ state.regs → IsAt bus Holds at state regs
 open_at bus Holds Same state regs e is = is
 open_at bus Holds Changed state regs e is = is
@@ -497,5 +499,5 @@ pub step_alike : {M A N B : Type 0} (bus : Interface M A) (original : Interface 
     (is_extra (place left.regs.rip))
 step_alike bus original Holds IsOutside naming target source place beside stands left right related straight =
     by_position bus original Holds IsOutside naming target source place related.words left right (place left.regs.rip) beside
-    (stands left.regs.rip) related.at related.holds straight.regs straight.leads
-    (straight.outside related.words right.meaning related.holds)
+    (stands left.regs.rip) related.at related.holds straight.regs straight.stays.leads
+    (straight.stays.outside related.words right.meaning related.holds)

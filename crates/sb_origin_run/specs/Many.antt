@@ -4,10 +4,11 @@ use Rattle.sb_insn.specs.declared.registers.Regs.{Regs}
 use Rattle.sb_bus.specs.declared.stop.BusStop.{BusStop}
 use Rattle.sb_exec.specs.declared.action.Effect.TheVariants.{Next}
 use Rattle.sb_exec.specs.Interface.{Interface}
+use Rattle.sb_exec.specs.Words.{AreWords}
 use Rattle.sb_original.specs.Words.{Words}
 use Rattle.sb_origin_run.specs.Machine.{Code, Thread, Event, Ran, Made, step, Line}
 use Rattle.sb_origin_run.specs.Position.{Position, is_extra, original_rip, told_event}
-use Rattle.sb_origin_run.specs.Related.{IsAt, WhereNext, IsStraight}
+use Rattle.sb_origin_run.specs.Related.{IsAt, WhereNext, IsNotStray, IsStraight}
 
 -- ---- the threads
 
@@ -24,6 +25,11 @@ thread_of number all = record { regs = all.regs number; meaning = all.meaning; a
 
 abbrev pub with_thread : {M A : Type 0} → ℕ → Thread M A → Threads M A → Threads M A
 with_thread number one all = record { regs = with_at number one.regs all.regs; meaning = one.meaning; account = one.account }
+
+-- the registers of each are words, and the memory gives bytes
+pub record AreOfWords {M A : Type 0} (IsThread : ℕ → Type 0) (HasBytes : M → Type 0) (all : Threads M A) : Type 0 where
+  pub regs : (number : ℕ) → IsThread number → AreWords (all.regs number)
+  pub bytes : HasBytes all.meaning
 
 -- ---- a run: each thread sees the memory by its own interface, and has its own code
 
@@ -90,16 +96,18 @@ beside_words bus = record {
   rule = λ call other account. bus.rule call other.0 account;
 }
 
--- ---- related threads
+-- ---- related threads: of these numbers, since each has a scratch page
 
-pub record ThreadsRelated {M A N B : Type 0} (buses : ℕ → Interface M A) (HoldsAll : (ℕ → Words) → M → N → Type 0) (places : ℕ → ℕ
-    → Position) (left : Threads M A) (right : Threads N B) : Type 0 where
+pub record ThreadsRelated {M A N B : Type 0} (IsThread : ℕ → Type 0) (buses : ℕ → Interface M A)
+    (HoldsAll : (ℕ → Words) → M → N → Type 0) (places : ℕ → ℕ → Position) (left : Threads M A) (right : Threads N B)
+    : Type 0 where
   pub words : ℕ → Words
   pub holds : HoldsAll words left.meaning right.meaning
-  pub at : (number : ℕ)
+  pub at : (number : ℕ) → IsThread number
       → IsAt (buses number) (HoldsOf HoldsAll number) (places number (left.regs number).rip)
       (record { regs = left.regs number; words = words number }) (right.regs number)
 
+-- each step of a run is straight
 abbrev pub ThreadsStraight : {M A N : Type 0} → (ℕ → Interface M A) → ((ℕ → Words) → M → N → Type 0) → (ℕ → ℕ → ℕ → Type 0)
     → (ℕ → Code) → (ℕ → Code) → (ℕ → ℕ → Position) → List ℕ → Threads M A → Type 0
 ThreadsStraight buses HoldsAll IsOutside targets sources places [] left = Unit {0}
@@ -110,7 +118,19 @@ ThreadsStraight buses HoldsAll IsOutside targets sources places (number ∷ sche
     (ThreadsStraight buses HoldsAll IsOutside targets sources places schedule
     (with_thread number (threads_step buses targets number left).thread left))
 
-pub record ThreadsAlike {M A N B : Type 0} (buses : ℕ → Interface M A) (HoldsAll : (ℕ → Words) → M → N → Type 0) (naming : BusStop
-    → BusStop) (places : ℕ → ℕ → Position) (rewritten : ThreadsRun M A) (original : ThreadsRun N B) : Type 0 where
+-- no step of a run is stray
+abbrev pub ThreadsNotStray : {M A N : Type 0} → (ℕ → Interface M A) → ((ℕ → Words) → M → N → Type 0) → (ℕ → ℕ → ℕ → Type 0)
+    → (ℕ → Code) → (ℕ → Code) → (ℕ → ℕ → Position) → List ℕ → Threads M A → Type 0
+ThreadsNotStray buses HoldsAll IsOutside targets sources places [] left = Unit {0}
+ThreadsNotStray buses HoldsAll IsOutside targets sources places (number ∷ schedule) left =
+    IsNotStray (buses number) (HoldsOf HoldsAll number) (IsOutside number) (targets number) (sources number) (places number)
+    (thread_of number left)
+    × WhereNext (threads_step buses targets number left).event
+    (ThreadsNotStray buses HoldsAll IsOutside targets sources places schedule
+    (with_thread number (threads_step buses targets number left).thread left))
+
+pub record ThreadsAlike {M A N B : Type 0} (IsThread : ℕ → Type 0) (buses : ℕ → Interface M A)
+    (HoldsAll : (ℕ → Words) → M → N → Type 0) (naming : BusStop → BusStop) (places : ℕ → ℕ → Position)
+    (rewritten : ThreadsRun M A) (original : ThreadsRun N B) : Type 0 where
   pub lines : original.lines ≡ threads_lines places naming rewritten.lines
-  pub end : ThreadsRelated buses HoldsAll places rewritten.end original.end
+  pub end : ThreadsRelated IsThread buses HoldsAll places rewritten.end original.end

@@ -69,17 +69,21 @@ WhereNext (Ran Undefined) Claim = Unit {0}
 WhereNext (Stopped stop) Claim = Unit {0}
 WhereNext NotFetched Claim = Unit {0}
 
--- The step of the rewritten code leads nowhere astray, and the original instruction does not access the scratch page. The
--- registers are a machine's.
-pub record IsStraight {M A N : Type 0} (bus : Interface M A) (Holds : Words → M → N → Type 0) (IsOutside : ℕ → ℕ
+-- The step of the rewritten code leads nowhere astray, and the original instruction does not access the scratch page.
+pub record IsNotStray {M A N : Type 0} (bus : Interface M A) (Holds : Words → M → N → Type 0) (IsOutside : ℕ → ℕ
     → Type 0) (target source : Code) (place : ℕ → Position) (left : Thread M A) : Type 0 where
-  pub regs : IsRegs left.regs
   pub leads : WhereNext (step bus target left).event
       (leads_astray (place left.regs.rip) (place (step bus target left).thread.regs.rip) ≡ false)
   pub outside : (words : Words) (other : N) → Holds words left.meaning other
       → UnlessStopped (step bus target left).event
       (AtRow (place left.regs.rip) (source left.regs.rip)
       (original_at (place left.regs.rip) (record { regs = left.regs; words = words })) (λ row. IsRowAt IsOutside row))
+
+-- and the registers are a machine's
+pub record IsStraight {M A N : Type 0} (bus : Interface M A) (Holds : Words → M → N → Type 0) (IsOutside : ℕ → ℕ
+    → Type 0) (target source : Code) (place : ℕ → Position) (left : Thread M A) : Type 0 where
+  pub regs : IsRegs left.regs
+  pub stays : IsNotStray bus Holds IsOutside target source place left
 
 -- each step of a run is such a one
 abbrev pub AreStraight : {M A N : Type 0} → Interface M A → (Words → M → N → Type 0) → (ℕ → ℕ → Type 0) → Code → Code
@@ -89,6 +93,15 @@ AreStraight bus Holds IsOutside target source place (suc count) left =
     IsStraight bus Holds IsOutside target source place left
     × WhereNext (step bus target left).event
     (AreStraight bus Holds IsOutside target source place count (step bus target left).thread)
+
+-- no step of a run is stray
+abbrev pub AreNotStray : {M A N : Type 0} → Interface M A → (Words → M → N → Type 0) → (ℕ → ℕ → Type 0) → Code → Code
+    → (ℕ → Position) → ℕ → Thread M A → Type 0
+AreNotStray bus Holds IsOutside target source place zero left = Unit {0}
+AreNotStray bus Holds IsOutside target source place (suc count) left =
+    IsNotStray bus Holds IsOutside target source place left
+    × WhereNext (step bus target left).event
+    (AreNotStray bus Holds IsOutside target source place count (step bus target left).thread)
 
 -- ---- what follows
 

@@ -76,32 +76,36 @@ served_entries lines = map (λ one. one.thread) lines
 
 -- ---- related states
 
-pub record StatesRelated {V M A N B : Type 0} (buses : V → ℕ → Interface M A) (HoldsAll : (ℕ → Words) → M → N
-    → Type 0) (places : V → ℕ → ℕ → Position) (left : State V M A) (right : State V N B) : Type 0 where
+-- In each mode the memory holds the words of the scratch pages that the threads then see.
+pub record StatesRelated {V M A N B : Type 0} (IsThread : ℕ → Type 0) (buses : V → ℕ → Interface M A)
+    (HoldsAll : V → (ℕ → Words) → M → N → Type 0) (places : V → ℕ → ℕ → Position) (left : State V M A) (right : State V N B)
+    : Type 0 where
   pub mode : right.mode ≡ left.mode
-  pub threads : ThreadsRelated (buses left.mode) HoldsAll (places left.mode) left.threads right.threads
+  pub threads : ThreadsRelated IsThread (buses left.mode) (HoldsAll left.mode) (places left.mode) left.threads right.threads
 
--- both kernels serve an event alike
-abbrev pub ServesAlike : {V M A N B : Type 0} → System V M A → System V N B → ((ℕ → Words) → M → N → Type 0)
-    → (BusStop → BusStop) → (V → ℕ → ℕ → Position) → Type 0
-ServesAlike {V} {M} {A} {N} {B} system original HoldsAll naming places =
-    (number : ℕ) (event : Event) (left : State V M A) (right : State V N B)
-    → StatesRelated system.buses HoldsAll places left right → (event ≡ Ran Next → ⊥)
+-- both kernels serve an event of a thread alike
+abbrev pub ServesAlike : {V M A N B : Type 0} → (ℕ → Type 0) → System V M A → System V N B
+    → (V → (ℕ → Words) → M → N → Type 0) → (BusStop → BusStop) → (V → ℕ → ℕ → Position) → Type 0
+ServesAlike {V} {M} {A} {N} {B} IsThread system original HoldsAll naming places =
+    (number : ℕ) (event : Event) (left : State V M A) (right : State V N B) → IsThread number
+    → StatesRelated IsThread system.buses HoldsAll places left right → (event ≡ Ran Next → ⊥)
     → (made_of system number left).event ≡ event
     → is_extra (places left.mode number (left.threads.regs number).rip) ≡ false
-    → StatesRelated system.buses HoldsAll places (system.serve number event left)
+    → StatesRelated IsThread system.buses HoldsAll places (system.serve number event left)
     (original.serve number (told_event naming event) right)
 
-abbrev pub ServedStraight : {V M A N B : Type 0} → System V M A → System V N B → ((ℕ → Words) → M → N → Type 0)
+abbrev pub ServedStraight : {V M A N B : Type 0} → System V M A → System V N B → (V → (ℕ → Words) → M → N → Type 0)
     → (ℕ → ℕ → ℕ → Type 0) → (V → ℕ → ℕ → Position) → List ℕ → State V M A → Type 0
 ServedStraight system original HoldsAll IsOutside places [] state = Unit {0}
 ServedStraight system original HoldsAll IsOutside places (number ∷ schedule) state =
-    IsStraight (system.buses state.mode number) (HoldsOf HoldsAll number) (IsOutside number) (system.codes state.mode number)
-    (original.codes state.mode number) (places state.mode number) (thread_of number state.threads)
+    IsStraight (system.buses state.mode number) (HoldsOf (HoldsAll state.mode) number) (IsOutside number)
+    (system.codes state.mode number) (original.codes state.mode number) (places state.mode number)
+    (thread_of number state.threads)
     × ServedStraight system original HoldsAll IsOutside places schedule (next_state system number state)
 
-pub record ServedAlike {V M A N B : Type 0} (system : System V M A) (original : System V N B) (HoldsAll : (ℕ → Words) → M → N
-    → Type 0) (naming : BusStop → BusStop) (places : V → ℕ → ℕ → Position)
+pub record ServedAlike {V M A N B : Type 0} (IsThread : ℕ → Type 0) (system : System V M A) (original : System V N B)
+    (HoldsAll : V → (ℕ → Words) → M → N → Type 0) (naming : BusStop → BusStop) (places : V → ℕ → ℕ → Position)
     (schedule : List ℕ) (left : State V M A) (entries : List ℕ) (right : State V N B) : Type 0 where
   pub lines : served_lines original entries right ≡ original_served places naming (served_lines system schedule left)
-  pub end : StatesRelated system.buses HoldsAll places (served_end system schedule left) (served_end original entries right)
+  pub end : StatesRelated IsThread system.buses HoldsAll places (served_end system schedule left)
+      (served_end original entries right)

@@ -1,6 +1,6 @@
 //! Laws of steps and runs, as functions with nothing to run.
 
-ghost use Rattle.sb_origin_run.specs.Laws.{OriginalState, SlotAccesses, StepsAlike, RunsAlike, ThreadsRunAlike, TextStands, RewrittenRuns, RewrittenThreadsRun, RewrittenSystemRuns};
+ghost use Rattle.sb_origin_run.specs.Laws.{OriginalState, SlotAccesses, StepsAlike, RunsAlike, WordsAreRegs, StepsKeepWords, WordsRunStraight, WordsThreadsStraight, ThreadsRunAlike, TextStands, RewrittenRuns, RewrittenThreadsRun, RewrittenSystemRuns};
 
 /// Rewritten code on one memory, and the original code on another. It has no values: a type stands for them.
 pub trait Codes {
@@ -38,6 +38,9 @@ pub trait Codes {
 
     /// Where each address lies in the rewritten code.
     ghost place: { ℕ → Position };
+
+    /// Loads from the memory give bytes.
+    ghost has_bytes: { Meaning → Type 0 };
 }
 
 /// The original registers of a thread are a function of its registers and its words.
@@ -60,9 +63,22 @@ pub fn runs_alike<R: Codes>()
     ensures { RunsAlike R.bus R.original R.holds R.outside R.naming R.target R.source R.place }
 {}
 
+/// Registers of 64 bits are those of a machine. A step leaves them so where the code has instructions and the memory gives
+/// bytes, and a run that begins with them needs no more than that no step is stray.
+pub fn registers_stay<R: Codes>()
+    ensures words { WordsAreRegs }
+    ensures steps { StepsKeepWords R.bus R.has_bytes R.target }
+    ensures runs { WordsRunStraight R.bus R.holds R.outside R.has_bytes R.target R.source R.place }
+{}
+
 /// The same of several threads, for each of which the codes and the memory are so.
 pub fn threads_run_alike<R: ThreadCodes>()
-    ensures { ThreadsRunAlike R.buses R.originals R.holds R.outside R.naming R.targets R.sources R.places }
+    ensures { ThreadsRunAlike R.is_thread R.buses R.originals R.holds R.outside R.naming R.targets R.sources R.places }
+{}
+
+/// A run of several threads that begin with registers of 64 bits needs no more than that no step is stray.
+pub fn registers_of_threads_stay<R: ThreadCodes>()
+    ensures { WordsThreadsStraight R.is_thread R.buses R.holds R.outside R.has_bytes R.targets R.sources R.places }
 {}
 
 /// What the table of forms has made of a code stands for it.
@@ -77,7 +93,7 @@ pub fn rewritten_runs<R: Codes>()
 
 /// The same of several threads.
 pub fn rewritten_threads_run<R: ThreadCodes>()
-    ensures { RewrittenThreadsRun R.buses R.originals R.holds R.outside R.naming R.targets R.sources R.places }
+    ensures { RewrittenThreadsRun R.is_thread R.buses R.originals R.holds R.outside R.naming R.targets R.sources R.places }
 {}
 
 /// Rewritten code of several threads on one memory, and the original code on another.
@@ -97,6 +113,9 @@ pub trait ThreadCodes {
 
     ghost OtherAccount: { Type 0 };
 
+    /// The numbers of the threads.
+    ghost is_thread: { ℕ → Type 0 };
+
     /// The memory as each thread sees it.
     ghost buses: { ℕ → Interface Meaning Account };
 
@@ -114,6 +133,9 @@ pub trait ThreadCodes {
     ghost sources: { ℕ → Code };
 
     ghost places: { ℕ → ℕ → Position };
+
+    /// Loads from the memory give bytes.
+    ghost has_bytes: { Meaning → Type 0 };
 }
 
 /// A kernel beside rewritten code of several threads, and one beside the original code.
@@ -135,11 +157,15 @@ pub trait Systems {
 
     ghost OtherAccount: { Type 0 };
 
+    /// The numbers of the threads.
+    ghost is_thread: { ℕ → Type 0 };
+
     ghost system: { System Mode Meaning Account };
 
     ghost original: { System Mode Other OtherAccount };
 
-    ghost holds: { (ℕ → Words) → Meaning → Other → Type 0 };
+    /// In each mode the rewritten memory holds these words of each thread, and is the other one beside all scratch pages.
+    ghost holds: { Mode → (ℕ → Words) → Meaning → Other → Type 0 };
 
     ghost outside: { ℕ → ℕ → ℕ → Type 0 };
 
@@ -150,5 +176,5 @@ pub trait Systems {
 
 /// A run of several threads with a kernel that serves both codes alike.
 pub fn rewritten_system_runs<R: Systems>()
-    ensures { RewrittenSystemRuns R.system R.original R.holds R.outside R.naming R.places }
+    ensures { RewrittenSystemRuns R.is_thread R.system R.original R.holds R.outside R.naming R.places }
 {}

@@ -4,6 +4,7 @@
 mod laws;
 
 pub use laws::{
-    Codes, Systems, ThreadCodes, original_state, rewritten_runs, rewritten_system_runs,
-    rewritten_threads_run, runs_alike, slot_accesses, steps_alike, text_stands, threads_run_alike,
+    Codes, Systems, ThreadCodes, original_state, registers_of_threads_stay, registers_stay,
+    rewritten_runs, rewritten_system_runs, rewritten_threads_run, runs_alike, slot_accesses,
+    steps_alike, text_stands, threads_run_alike,
 };

@@ -1,0 +1,4 @@
+pub mod Blocks
+pub mod OneFrame
+pub mod Changed
+pub mod Noting

@@ -1,5 +1,5 @@
 -- Copies of frames, with what was read of them and what was written.
-use Rattle.std.specs.Prelude.{ℕ, ◌+◌, ◌*◌, ◌≤◌, true, false, List, All, length, set, replicate}
+use Rattle.std.specs.Prelude.{ℕ, ◌+◌, ◌*◌, ◌≤◌, true, false, List, Option, Some, None, All, set, replicate}
 use Rattle.sb_memory.specs.Physical.{Physical, frame_count}
 use Rattle.sb_memory.specs.Words.{put_bytes}
 use Rattle.sb_memory.specs.declared.page.TheConstants.{PAGE_SIZE}
@@ -29,3 +29,8 @@ with_copy copies frame bytes =
 -- these words, by their numbers, lie in frames of the memory
 abbrev pub AllInside : Physical → List ℕ → Type 0
 AllInside copies words = All (λ word. 8 * word + 8 ≤ PAGE_SIZE * frame_count copies) words
+
+-- the copies, where there were any, or none of so many frames
+abbrev pub copied_in : ℕ → Option Copied → Copied
+copied_in frames None = untouched (no_copies frames)
+copied_in frames (Some copied) = copied

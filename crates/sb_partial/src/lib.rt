@@ -1,6 +1,8 @@
 //! Physical memory of which some frames are there, as copies. It notes which words are read and holds back what is written.
 //!
-//! Inside: the copies (`partial`) and what they note (`note`). Not inside: what is done with them (`sb_block`).
+//! Inside, from the lowest: the copy of one frame (`frame`), the copies of all (`frames`), what is noted of their words (`note`),
+//! both together (`held`), and the memory that holds them once there are any (`partial`). Not inside: what is done with them
+//! (`sb_block`).
 //!
 //! ```text
 //! let mut part = Partial::new(640);                     // no frame is there: each access is Missing
@@ -10,6 +12,9 @@
 //! ```
 #![tactic(auto)]
 
+mod frame;
+mod frames;
+mod held;
 mod note;
 mod partial;
 

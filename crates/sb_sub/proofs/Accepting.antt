@@ -20,15 +20,15 @@ use Rattle.sb_trace.proofs.TablePages.{pool_there}
 use Rattle.sb_shows.specs.Related.{HasCores}
 use Rattle.sb_shows.specs.Shows.{CoreWords, present_index}
 use Rattle.sb_shows.proofs.Steps.{cores_see}
-use Rattle.sb_sub.specs.Carries.{Carries}
+use Rattle.sb_mapping.specs.Carries.{Carries}
+use Rattle.sb_mapping.specs.Taking.{CanTake}
+use Rattle.sb_mapping.proofs.Carried.{can_take}
 use Rattle.sb_sub.specs.Kernel.{Entry, Kernel, process_of}
 use Rattle.sb_sub.specs.Outcomes.{RegistersBy}
 use Rattle.sb_sub.specs.Refusals.{process_in, server_refusal}
 use Rattle.sb_sub.specs.Registering.{FindsPool, RegistersPages, with_server_entry}
 use Rattle.sb_sub.specs.StandsFor.{StandsFor}
-use Rattle.sb_sub.specs.Taking.{CanTake}
 use Rattle.sb_sub.specs.Translations.{PlacesStay}
-use Rattle.sb_sub.proofs.Carried.{can_take}
 use Rattle.sb_sub.proofs.Finding.{process_there, set_is}
 use Rattle.sb_sub.proofs.Pooled.{finds_pool}
 use Rattle.sb_sub.proofs.Registered.{done, registered_stands}

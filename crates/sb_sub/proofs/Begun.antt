@@ -1,12 +1,10 @@
 -- Memory before there are processes and threads: the root kernel was built, and the trampoline put into its frames.
-use Rattle.std.proofs.Common.{◌≡◌, ◌∙◌, sym, ap, subst, ℕ, zero, suc, ◌+◌, ◌*◌, ◌<◌, ◌≤◌, ◌==◌, ◌⊎◌, inl, inr, false, List, [], ◌∷◌, length, get_or, refl, arith}
+use Rattle.std.proofs.Common.{◌≡◌, ◌∙◌, sym, ap, subst, ℕ, zero, suc, ◌+◌, ◌<◌, ◌≤◌, ◌==◌, ◌⊎◌, inl, inr, false, [], ◌∷◌, get_or, refl, arith}
 use Rattle.std.specs.Prelude.{None, Some, replicate}
 use Rattle.std.specs.List.{Contains}
 use Rattle.std.proofs.lemmas.Bool.{ne_eqb}
-use Rattle.sb_memory.specs.Physical.{Physical, HasSize, HoldsBytes, frame_count}
+use Rattle.sb_memory.specs.Physical.{Physical, HoldsBytes}
 use Rattle.sb_memory.specs.Changes.{SameOutside}
-use Rattle.sb_memory.specs.Reading.{with_bytes}
-use Rattle.sb_memory.specs.Words.{put_bytes}
 use Rattle.sb_frames.specs.Book.{Book}
 use Rattle.sb_pagewalk.specs.declared.table_set.TableSet.{TableSet}
 use Rattle.sb_root.specs.declared.root_kernel.RootKernel.{RootKernel}
@@ -21,15 +19,13 @@ use Rattle.sb_root.proofs.NewBase.{repeated}
 use Rattle.sb_tramp.specs.Home.{home_page}
 use Rattle.sb_tramp.specs.Server.{server_page}
 use Rattle.sb_load.specs.Loading.{Load}
-use Rattle.sb_shows.specs.Fills.{FillsFrame}
 use Rattle.sb_shows.specs.Placement.{Unused, BaseTable}
 use Rattle.sb_shows.specs.Starts.{first_purpose, first_placement}
-use Rattle.sb_shows.proofs.Fills.{pages_fill}
 use Rattle.sb_shows.proofs.Placing.{others_kept}
 use Rattle.sb_shows.proofs.Starting.{first_kept}
+use Rattle.sb_mapping.specs.StartThreads.{HasNoViews}
+use Rattle.sb_mapping.proofs.StartTables.{base_range}
 use Rattle.sb_sub.specs.Start.{HasBegun, bare_state}
-use Rattle.sb_sub.specs.StartThreads.{HasNoViews}
-use Rattle.sb_sub.proofs.StartTables.{base_range}
 
 -- ---- a root kernel without threads
 
@@ -54,15 +50,6 @@ no_use (ListOf thread) frame is = let e = sym (ap list_frame_in (repeated 32 thr
 no_use (PartOf thread index part) frame is = let e = sym (ap (λ view. part_in view part) (no_view thread index)) ∙ is in cc
 
 -- ---- the trampoline
-
--- a page is put into a frame
-pub page_put : (memory new : Physical) (frame at : ℕ) (page : List ℕ) → HasSize memory → frame < frame_count memory
-    → length page ≡ 4096 → at ≡ 4096 * frame → new ≡ with_bytes memory (put_bytes memory.bytes at page)
-    → FillsFrame frame page memory new
-page_put memory new frame at page size inside whole here written =
-    subst (FillsFrame frame page memory)
-    (sym (written ∙ ap (λ (n : ℕ). with_bytes memory (put_bytes memory.bytes n page)) here))
-    (pages_fill memory frame page size inside whole)
 
 module _ (root : RootKernel) (book : Book) (memory new : Physical) (load : Load) (is : root ≡ no_threads)
     (stands : Stands root memory) (booked : IsBooked root book memory)

@@ -34,13 +34,13 @@ use Rattle.sb_shows.specs.Keeping.{HasGuest, HasView}
 use Rattle.sb_shows.specs.Views.{AddsRootView, part_purpose, placed_view}
 use Rattle.sb_shows.proofs.Binding.{binds_view, free_away, free_fresh, home_shown, server_in, slice_same, viewed}
 use Rattle.sb_shows.proofs.Placing.{others_kept, view_kept}
-use Rattle.sb_sub.specs.Carries.{Carries}
+use Rattle.sb_mapping.specs.Carries.{Carries}
+use Rattle.sb_mapping.specs.Taking.{CanTake}
+use Rattle.sb_mapping.proofs.Carried.{can_take}
 use Rattle.sb_sub.specs.Kernel.{Entry, Kernel, Seat, process_of, seat_in, seat_of}
 use Rattle.sb_sub.specs.Sharing.{CanShare}
 use Rattle.sb_sub.specs.StandsFor.{StandsFor}
-use Rattle.sb_sub.specs.Taking.{CanTake}
 use Rattle.sb_sub.proofs.Calling.{count_same}
-use Rattle.sb_sub.proofs.Carried.{can_take}
 use Rattle.sb_sub.proofs.Finding.{process_there, set_is}
 use Rattle.sb_sub.proofs.Moves.{seat_at}
 
@@ -205,7 +205,8 @@ module _ (kernel : Kernel) (root : RootKernel) (book : Book) (memory : Physical)
     server_flag = ap not (sym (ne_eqb index 0 away))
 
     -- it is a view that was added to the placement
-    unfoldable pub adds_view : AddsRootView stands.placement root' number index (thread_at state number).home server words memory mid
+    unfoldable pub adds_view : AddsRootView stands.placement root' number index (thread_at state number).home server words
+        memory mid
     adds_view = record {
       before = book;
       after = between;

@@ -182,8 +182,8 @@ module _ (kernel : Kernel) (root : RootKernel) (book : Book) (memory : Physical)
         server_words number (thread_at state number) (new_binding state (thread_at state number) server)
         (handler_in (registration_at state server))
 
-    added_told : IsAddedView root root' book pages.between memory pages.mid number pages.client.set.root pages.target.set.root told
-        true index pages.view
+    added_told : IsAddedView root root' book pages.between memory pages.mid number pages.client.set.root pages.target.set.root
+        told true index pages.view
     added_told = subst (λ (words : RecordWords). IsAddedView root root' book pages.between memory pages.mid number
         pages.client.set.root pages.target.set.root words true index pages.view) words_same pages.added
 
@@ -399,8 +399,8 @@ pub bind_done : (kernel : Kernel) (root : RootKernel) (book : Book) (memory : Ph
     → (kernel' : Kernel) → kernel' ≡ kernel_with kernel number one
     → (state : State) → StandsFor kernel root book memory state → (thread_at state number).view ≡ view
     → BindsBy kernel' root' book' new state number server (Ok one)
-bind_done kernel root book memory number inside view server accepts root' book' new one to with_key pages fewer kernel' noted state
-    stands is =
+bind_done kernel root book memory number inside view server accepts root' book' new one to with_key pages fewer kernel' noted
+    state stands is =
     bound_by kernel root book memory state stands number inside view server
     (bind_accepted kernel root book memory state stands number inside view server accepts) root' book' new one.index pages fewer
     one refl to with_key (sym (refusal_by_view kernel root book memory state stands number inside view server is) ∙ accepts)

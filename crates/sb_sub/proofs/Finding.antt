@@ -20,7 +20,8 @@ use Rattle.sb_trace.specs.Pattern.{heap_pattern, heap_address, first_pattern, pa
 use Rattle.sb_trace.proofs.TablePages.{heap_there, heap_below}
 use Rattle.sb_shows.specs.Placement.{IsThere}
 use Rattle.sb_sub.specs.Kernel.{Entry, Kernel, process_of}
-use Rattle.sb_sub.specs.Heap.{FindsHeap, heap_at, heap_frame, frame_bytes, frame_before, frame_behind, pattern_where, pattern_at}
+use Rattle.sb_mapping.specs.StartPages.{heap_at}
+use Rattle.sb_sub.specs.Heap.{FindsHeap, heap_frame, frame_bytes, frame_before, frame_behind, pattern_where, pattern_at}
 use Rattle.sb_sub.specs.StandsFor.{StandsFor}
 use Rattle.sb_sub.proofs.Led.{inside, above, read_frame, walk_fact, bytes_are, executed_are}
 

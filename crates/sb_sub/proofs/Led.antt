@@ -24,7 +24,8 @@ use Rattle.sb_shows.specs.Placement.{Placement, is_own, guest_page, leaf_for, le
 use Rattle.sb_shows.specs.Keeping.{Keeps}
 use Rattle.sb_shows.proofs.Leaves.{guest_permits, leaf_judged}
 use Rattle.sb_shows.proofs.Protecting.{heap_named, heap_window}
-use Rattle.sb_sub.specs.Heap.{heap_at, heap_frame, led_to, frame_bytes}
+use Rattle.sb_mapping.specs.StartPages.{heap_at}
+use Rattle.sb_sub.specs.Heap.{heap_frame, led_to, frame_bytes}
 
 -- ---- one answer
 

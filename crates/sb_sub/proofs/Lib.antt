@@ -4,11 +4,7 @@ pub mod Finding
 pub mod Moves
 pub mod Protected
 pub mod Calling
-pub mod Filling
 pub mod Shown
-pub mod Taken
-pub mod Carried
-pub mod Stacks
 pub mod Pooled
 pub mod Translated
 pub mod SeenAfter
@@ -22,10 +18,6 @@ pub mod Binding
 pub mod Bound
 pub mod Telling
 pub mod Lists
-pub mod StartPages
-pub mod StartTables
-pub mod StartThreads
-pub mod StartProcesses
 pub mod Frames
 pub mod Begun
 pub mod StartImages

@@ -9,7 +9,7 @@ use Rattle.sb_pagewalk.specs.declared.table_set.TableSet.{TableSet}
 use Rattle.sb_pagewalk.specs.Windows.{IsInWindow, region_of, page_table_of}
 use Rattle.sb_pagewalk.specs.TableSet.{table_frame, page_place}
 use Rattle.sb_shows.proofs.Protecting.{heap_window}
-use Rattle.sb_sub.specs.Heap.{heap_at}
+use Rattle.sb_mapping.specs.StartPages.{heap_at}
 
 pub window_at : (page count : ℕ) → page < count → count ≤ 512 → IsInWindow (heap_at page)
 window_at page count below few = heap_window page (omega arith)

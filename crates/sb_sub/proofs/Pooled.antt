@@ -35,11 +35,11 @@ use Rattle.sb_shows.proofs.Leaves.{guest_permits, leaf_judged}
 use Rattle.sb_shows.proofs.Registering.{word_kept}
 use Rattle.sb_shows.proofs.Threads.{keeps_moved}
 use Rattle.sb_state.proofs.Cases.{same_some}
+use Rattle.sb_mapping.specs.Carries.{Carries}
+use Rattle.sb_mapping.proofs.Stacks.{StacksCarried, stacks_carried}
 use Rattle.sb_sub.specs.Heap.{led_to}
-use Rattle.sb_sub.specs.Carries.{Carries}
 use Rattle.sb_sub.specs.Registering.{FindsPool, RegistersPages, Registered, pool_found}
 use Rattle.sb_sub.proofs.Led.{on_judged, led_if, answer_fact}
-use Rattle.sb_sub.proofs.Stacks.{StacksCarried, stacks_carried}
 use Rattle.sb_shows.proofs.Registering.{registered_count}
 use Rattle.sb_shows.proofs.Seen.{pool_named}
 use Rattle.sb_shows.proofs.Registering.{pools_differ}

@@ -29,7 +29,8 @@ use Rattle.sb_shows.specs.Calls.{SetsPage, ExposesFrame}
 use Rattle.sb_shows.proofs.Protecting.{guest_root_apart, protected_keeps}
 use Rattle.sb_state.proofs.Cases.{same_some}
 use Rattle.sb_sub.specs.Kernel.{Entry, Kernel, process_of}
-use Rattle.sb_sub.specs.Heap.{SetsMode, heap_at, heap_mode, pattern_at}
+use Rattle.sb_mapping.specs.StartPages.{heap_at}
+use Rattle.sb_sub.specs.Heap.{SetsMode, heap_mode, pattern_at}
 use Rattle.sb_sub.specs.Refusals.{with_pattern, page_refusal}
 use Rattle.sb_sub.specs.StandsFor.{StandsFor}
 use Rattle.sb_sub.specs.Outcomes.{ProtectsBy, after_protect}

@@ -13,9 +13,9 @@ use Rattle.sb_trace.specs.State.{State, Process, find_page, with_contents, proce
 use Rattle.sb_trace.specs.SyscallRegister.{with_registration, with_server}
 use Rattle.sb_shows.specs.Placement.{IsThere}
 use Rattle.sb_trace.proofs.TablePages.{pool_there, stack_absent}
+use Rattle.sb_mapping.specs.Carries.{Carries}
 use Rattle.sb_sub.specs.Kernel.{Entry, Kernel, process_of, seat_of}
 use Rattle.sb_sub.specs.StandsFor.{StandsFor}
-use Rattle.sb_sub.specs.Carries.{Carries}
 use Rattle.sb_sub.specs.Registering.{RegistersPages, Registered, with_entry}
 use Rattle.sb_sub.proofs.Finding.{process_found, process_there, set_is}
 use Rattle.sb_sub.proofs.Pooled.{registered_carried}

@@ -16,8 +16,8 @@ use Rattle.sb_trace.specs.SyscallBind.{buffer_page}
 use Rattle.sb_shows.specs.Placement.{Placement, Unused, Holds, leaf_for}
 use Rattle.sb_shows.specs.Calls.{SetsPage, ExposesFrame, AddsPage, AddsPages, placed_all, placed_with}
 use Rattle.sb_shows.specs.Windows.{page_number}
+use Rattle.sb_mapping.proofs.Taken.{free_before}
 use Rattle.sb_sub.specs.Sharing.{SharesPage, SharesBuffer, buffer_page_at}
-use Rattle.sb_sub.proofs.Taken.{free_before}
 
 -- where a page of a buffer stands
 buffer_place : (thread index page : ℕ) → 4096 * page_number (Buffer thread index page) ≡ buffer_page_at thread index page

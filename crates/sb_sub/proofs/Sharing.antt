@@ -23,9 +23,9 @@ use Rattle.sb_root.proofs.Frames.{only_one, shared_in_base}
 use Rattle.sb_root.proofs.Kept.{stands_kept}
 use Rattle.sb_root.proofs.Between.{booked_kept, booked_beside}
 use Rattle.sb_shows.proofs.Protecting.{base_word}
+use Rattle.sb_mapping.specs.Taking.{CanTake}
+use Rattle.sb_mapping.proofs.Taken.{free_before, set_word, tables_filled, stands_filled, stands_mapped}
 use Rattle.sb_sub.specs.Sharing.{CanShare, SharesPage, SharesBuffer, buffer_page_at}
-use Rattle.sb_sub.specs.Taking.{CanTake}
-use Rattle.sb_sub.proofs.Taken.{free_before, set_word, tables_filled, stands_filled, stands_mapped}
 
 -- ---- one page
 

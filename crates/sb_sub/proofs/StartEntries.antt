@@ -21,9 +21,9 @@ use Rattle.sb_shows.specs.Starts.{with_whole_thread}
 use Rattle.sb_shows.proofs.ManyThreads.{HasNoThreadsFrom, pages_of_thread, pages_of_threads, with_entries, other_thread, joined_pages}
 use Rattle.sb_shows.proofs.Threads.{keeps_moved}
 use Rattle.sb_shows.proofs.WholeStart.{no_thread_yet, start_sight}
+use Rattle.sb_mapping.specs.Carries.{Carries}
+use Rattle.sb_mapping.specs.StartThreads.{IsReadyForThread, AddedThread}
 use Rattle.sb_sub.specs.Kernel.{Entry}
-use Rattle.sb_sub.specs.Carries.{Carries}
-use Rattle.sb_sub.specs.StartThreads.{IsReadyForThread, AddedThread}
 use Rattle.sb_sub.proofs.StartImages.{drop_past}
 use Rattle.sb_sub.specs.Start.{HasAllProcesses, HasStarted, threadless_state}
 

@@ -22,11 +22,11 @@ use Rattle.sb_plain.proofs.Starting.{IsReadAt, images_from}
 use Rattle.sb_shows.specs.Placement.{Placement}
 use Rattle.sb_shows.proofs.WholeStart.{no_process_yet}
 use Rattle.sb_shows.proofs.ManyProcesses.{HasNoPagesFrom, with_images, other_process}
+use Rattle.sb_mapping.specs.Carries.{Carries}
+use Rattle.sb_mapping.specs.StartTables.{HasFreeRoots}
+use Rattle.sb_mapping.specs.StartProcesses.{with_image, image_need, IsReadyForProcess, AddedProcess}
 use Rattle.sb_sub.specs.Kernel.{Entry, process_of}
-use Rattle.sb_sub.specs.Carries.{Carries}
-use Rattle.sb_sub.specs.StartTables.{HasFreeRoots}
-use Rattle.sb_sub.specs.StartProcesses.{with_image, with_set, with_set_at, image_need, IsReadyForProcess, AddedProcess}
-use Rattle.sb_sub.specs.Start.{HasSets, HasBegun, HasAllProcesses, bare_state, threadless_state, images_need}
+use Rattle.sb_sub.specs.Start.{HasSets, HasBegun, HasAllProcesses, bare_state, threadless_state, images_need, with_set, with_set_at}
 use Rattle.sb_sub.proofs.Servable.{set_here}
 
 -- ---- images that are left
@@ -169,7 +169,8 @@ module _ (load : Load) (number : ℕ) (root root' : RootKernel) (book book' : Bo
     (image : Image) (becomes : RewrittenText) (set : TableSet) (read : IsReadAt load number image becomes)
     (left : ImagesLeft load number root book memory entries) (within : number < length entries)
     (added : AddedProcess left.placement root' book' new left.state number (image_of image becomes) set) where
-  none_now : HasNoPagesFrom (left.state.pages ++ process_pages (length left.state.processes) (image_of image becomes)) (number + 1)
+  none_now : HasNoPagesFrom (left.state.pages ++ process_pages (length left.state.processes) (image_of image becomes))
+      (number + 1)
   none_now = record {
     none = λ other above. other_process left.state.pages (length left.state.processes) other (image_of image becomes)
         (λ same. let is = left.count in absurd (omega (arith, is, same, above))) (left.none.none other (omega (arith, above)));
@@ -238,5 +239,6 @@ all_built load root book memory entries number none all left = record {
 
 -- ---- what images ask
 
-pub need_more : (image : ProcessImage) (images : List ProcessImage) → images_need (image ∷ images) ≡ image_need image + images_need images
+pub need_more : (image : ProcessImage) (images : List ProcessImage)
+    → images_need (image ∷ images) ≡ image_need image + images_need images
 need_more image images = sum_by-cons image_need image images

@@ -22,9 +22,9 @@ use Rattle.sb_load.proofs.FirstState.{first_threads}
 use Rattle.sb_plain.proofs.FirstSound.{loaded_sound}
 use Rattle.sb_plain.proofs.SoundStart.{loaded_start}
 use Rattle.sb_shows.specs.StartLaws.{ImageFitsWindows}
+use Rattle.sb_mapping.specs.StartProcesses.{image_need}
 use Rattle.sb_sub.specs.Kernel.{Kernel, Seat, process_of, seat_of}
 use Rattle.sb_sub.specs.StandsFor.{StandsFor}
-use Rattle.sb_sub.specs.StartProcesses.{image_need}
 use Rattle.sb_sub.specs.Start.{HasStarted, images_need, start_seat}
 use Rattle.sb_sub.proofs.Servable.{sound_servable}
 

@@ -2,7 +2,7 @@
 use Rattle.std.specs.Prelude.{ℕ, ◌≡◌, ◌+◌, ◌*◌, ◌/◌, ◌-◌, ◌^◌, ◌<◌, ◌≤◌, ◌==◌, nat_lt, Bool, List, [], ◌++◌, length, take, drop, Option, Some, None, Result, Ok, Err, IfOk, if◌then◌else◌}
 use Rattle.std.specs.Option.{option_map}
 use Rattle.sb_abi.specs.declared.frames.TheConstants.{KEPT_FRAMES}
-use Rattle.sb_abi.specs.declared.space.TheConstants.{HEAP_ADDRESS, WINDOW_PAGES}
+use Rattle.sb_abi.specs.declared.space.TheConstants.{WINDOW_PAGES}
 use Rattle.sb_memory.specs.Physical.{Physical, frame_count}
 use Rattle.sb_memory.specs.declared.address.Access.{Access}
 use Rattle.sb_memory.specs.declared.address.Access.TheVariants.{Read, Fetch}
@@ -18,10 +18,7 @@ use Rattle.sb_state.specs.declared.page.Mode.{Mode}
 use Rattle.sb_state.specs.declared.page.Mode.TheVariants as mode
 use Rattle.sb_shows.specs.Placement.{leaf_for, rights_for}
 use Rattle.sb_shows.specs.Calls.{SetsPage, ExposesFrame}
-
--- the linear address of a heap page
-abbrev pub heap_at : ℕ → ℕ
-heap_at page = HEAP_ADDRESS + PAGE_SIZE * page
+use Rattle.sb_mapping.specs.StartPages.{heap_at}
 
 -- the frame to which a walk led
 abbrev pub led_to : Result GuestPhys WalkStop → Option Frame

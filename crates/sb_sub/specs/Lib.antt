@@ -1,3 +1,4 @@
+pub use Rattle.sb_mapping.specs.Carries
 pub mod Kernel
 pub mod Heap
 pub mod Refusals
@@ -5,15 +6,9 @@ pub mod StandsFor
 pub mod Outcomes
 pub mod Serving
 pub mod Laws
-pub mod Taking
-pub mod Carries
 pub mod Registering
 pub mod Sharing
 pub mod Binding
 pub mod BindingTold
 pub mod Translations
-pub mod StartPages
-pub mod StartTables
-pub mod StartThreads
-pub mod StartProcesses
 pub mod Start

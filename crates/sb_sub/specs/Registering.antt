@@ -17,9 +17,9 @@ use Rattle.sb_root.specs.Standing.{IsApart as IsRootApart}
 use Rattle.sb_trace.specs.State.{State}
 use Rattle.sb_trace.specs.SyscallRegister.{with_server}
 use Rattle.sb_shows.specs.Placement.{Placement}
+use Rattle.sb_mapping.specs.Carries.{Carries, StaysPlaced, TakesStacks}
 use Rattle.sb_sub.specs.Kernel.{Entry}
 use Rattle.sb_sub.specs.Heap.{led_to}
-use Rattle.sb_sub.specs.Carries.{Carries, StaysPlaced, TakesStacks}
 
 -- the frame of the pool page
 abbrev pub pool_found : Physical → TableSet → Option Frame

@@ -5,7 +5,7 @@ use Rattle.sb_calls.specs.SyscallRegisters.{after_syscall, server_fault_regs}
 use Rattle.sb_memory.specs.Physical.{Physical}
 use Rattle.sb_frames.specs.Book.{Book}
 use Rattle.sb_root.specs.declared.root_kernel.RootKernel.{RootKernel}
-use Rattle.sb_root.specs.Root.{IsSet, eptp_list_frame, list_entry}
+use Rattle.sb_root.specs.Root.{IsSet, eptp_list_frame, view_of}
 use Rattle.sb_trace.specs.declared.event.Event.{Event}
 use Rattle.sb_trace.specs.declared.event.Event.TheVariants as event
 use Rattle.sb_trace.specs.State.{State, thread_at}
@@ -51,10 +51,10 @@ ServesBy outcome kernel root book memory kernel' root' book' memory' thread view
     (state : State) → StandsFor kernel root book memory state → (thread_at state thread).view ≡ view
     → Serves kernel' root' book' memory' thread answer new (outcome state thread (entered old))
 
--- Each list stays in its frame, and so does each entry that is set.
+-- Each list stays in its frame, and each view that is set stays what it is: its entry, its tables, and its own pages.
 pub record KeepsLists (old new : RootKernel) : Type 0 where
   pub lists : (thread : ℕ) → eptp_list_frame new thread ≡ eptp_list_frame old thread
-  pub entries : (thread index : ℕ) → IsSet old thread index → list_entry new thread index ≡ list_entry old thread index
+  pub views : (thread index : ℕ) → IsSet old thread index → view_of new thread index ≡ view_of old thread index
 
 -- what exit answers, and the registers that it leaves
 abbrev pub exit_answer : ℕ → ℕ → Answer

@@ -16,7 +16,7 @@ use Rattle.sb_state.specs.declared.page.Mode.TheVariants.{ReadWrite}
 use Rattle.sb_trace.specs.PageWords.{zeros}
 use Rattle.sb_shows.specs.Placement.{leaf_for}
 use Rattle.sb_shows.specs.Calls.{SetsPage, ExposesFrame}
-use Rattle.sb_sub.specs.Taking.{CanTake}
+use Rattle.sb_mapping.specs.Taking.{CanTake}
 
 -- Frames may be taken for pages of the client's home and of the server, and no table of one is a table of the other.
 pub record CanShare (home server : TableSet) (root : RootKernel) (book : Book) (memory : Physical) : Type 0 where

@@ -11,7 +11,7 @@ use Rattle.sb_trace.specs.SyscallRegister.{with_server}
 use Rattle.sb_memory.specs.Physical.{Physical}
 use Rattle.sb_frames.specs.Book.{Book}
 use Rattle.sb_root.specs.declared.root_kernel.RootKernel.{RootKernel}
-use Rattle.sb_sub.specs.Carries.{StaysPlaced}
+use Rattle.sb_mapping.specs.Carries.{StaysPlaced}
 use Rattle.sb_sub.specs.Kernel.{Kernel}
 use Rattle.sb_sub.specs.StandsFor.{StandsFor}
 use Rattle.sb_shows.specs.Related.{Sees, HasCores}

@@ -18,14 +18,14 @@ ghost use Rattle.sb_sub.specs.StandsFor.{StandsFor};
 ghost use Rattle.sb_sub.specs.Translations.{PlacesStay};
 
 use crate::sub_kernel::{Seat, SubKernel};
-use crate::taking::{data_entry, fill};
 use sb_abi::{BUFFER_PAGES, CallRefusal};
 use sb_calls::{bind_refusal, buffer_address, server_record};
 use sb_frames::{FrameBook, Kind};
+use sb_mapping::{fill, page_entry};
 use sb_memory::{Linear, Memory, PAGE_SIZE};
 use sb_pagewalk::TableSet;
 use sb_root::{RIGHT_READ_WRITE, RootKernel};
-use sb_state::Binding;
+use sb_state::{Binding, Mode};
 use sb_tramp::RecordWords;
 
 // ---- the buffer
@@ -51,7 +51,7 @@ fn share_page(
     ensures can { CanShare home.now server.now root.new book.new memory.new }
 {
     let frame = book.take_free(Kind::Writable, owner);
-    let entry = data_entry(frame);
+    let entry = page_entry(frame.0, Mode::ReadWrite);
     fill(memory, frame, 0);
     home.set_page(memory, at, entry);
     server.set_page(memory, at, entry);

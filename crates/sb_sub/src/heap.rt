@@ -7,9 +7,10 @@ ghost use Rattle.sb_memory.specs.declared.address.Frame.{Frame};
 ghost use Rattle.sb_memory.specs.declared.address.Access.TheVariants.{Read};
 ghost use Rattle.sb_memory.specs.declared.page.TheConstants.{PAGE_SIZE};
 ghost use Rattle.sb_pagewalk.specs.TableSet.{walked_in};
-ghost use Rattle.sb_sub.specs.Heap.{FindsHeap, frame_before, frame_behind, frame_bytes, heap_at, heap_frame, pattern_at, pattern_by};
+ghost use Rattle.sb_mapping.specs.StartPages.{heap_at};
+ghost use Rattle.sb_sub.specs.Heap.{FindsHeap, frame_before, frame_behind, frame_bytes, heap_frame, pattern_at, pattern_by};
 
-use sb_abi::HEAP_ADDRESS;
+use sb_mapping::heap_address;
 use sb_memory::{Access, Frame, Linear, Memory};
 use sb_pagewalk::{Direct, TableSet, walk};
 use sb_scan::first_place;
@@ -17,13 +18,6 @@ use sb_state::last_two;
 
 /// The bytes of a page.
 const PAGE_SIZE: usize = sb_memory::PAGE_SIZE as usize;
-
-/// The linear address of a heap page.
-pub fn heap_address(page: u32) -> Linear
-    ensures { result.0 ≡ heap_at page }
-{
-    Linear(HEAP_ADDRESS + (PAGE_SIZE as u64) * u64::from(page))
-}
 
 /// The frame of a heap page, where it may be accessed so.
 pub fn heap_frame(memory: &mut Memory, set: &TableSet, page: u32, access: Access) -> Option<Frame>

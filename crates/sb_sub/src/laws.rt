@@ -1,17 +1,16 @@
 //! What a memory that stands for a state shows.
 
 ghost use Rattle.sb_sub.specs.Translations.{RegisterStays, TranslationsKept};
-ghost use Rattle.sb_sub.specs.Laws.{CarriedCanTake, CarriedFindsPool, PagesCarried, RegistersCarried, ServersServable, ServersStand, SoundStatesServable, StandsShows};
+ghost use Rattle.sb_sub.specs.Laws.{CarriedFindsPool, RegistersCarried, ServersServable, ServersStand, SoundStatesServable, StandsShows};
 
 /// What stands for a state shows it, with the words of the cores.
 pub fn what_is_stood_for_is_shown()
     ensures { StandsShows }
 {}
 
-/// What the code that adds pages asks holds where a state is carried, and what it leaves carries the state with the pages.
-pub fn pages_are_carried()
-    ensures can_take { CarriedCanTake }
-    ensures page { PagesCarried }
+/// Where a state is carried, the pool page of each process is found, and what register leaves carries the state with the server.
+/// The same of what stands for a state: it stands for the state with the server. A sound state is servable, and stays so.
+pub fn servers_are_carried()
     ensures finds_pool { CarriedFindsPool }
     ensures registers { RegistersCarried }
     ensures servable { SoundStatesServable }

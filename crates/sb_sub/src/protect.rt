@@ -1,25 +1,21 @@
 //! System call 4: a heap page is written, or executed.
 
 ghost use Rattle.std.specs.Prelude.{◌≡◌, ◌<◌, ◌==◌, [], ◌∷◌, IfNone, IfSome};
-ghost use Rattle.sb_memory.specs.declared.address.Frame.{Frame};
 ghost use Rattle.sb_pagewalk.specs.Standing.{HasTables};
 ghost use Rattle.sb_pagewalk.specs.TableSet.{table_frame};
 ghost use Rattle.sb_calls.specs.declared.refusals.TheConstants.{EXECUTE_MODE};
 ghost use Rattle.sb_root.specs.Standing.{IsApart, Stands};
-ghost use Rattle.sb_shows.specs.Placement.{leaf_for, rights_for};
 ghost use Rattle.sb_sub.specs.Heap.{FindsHeap, SetsMode, heap_mode, pattern_at};
 ghost use Rattle.sb_sub.specs.Refusals.{pattern_refusal, heap_page_refusal};
 
-use crate::heap::{heap_address, heap_pattern, page_frame};
+use crate::heap::{heap_pattern, page_frame};
 use crate::process::Process;
-use crate::taking::DATA;
 use sb_abi::CallRefusal;
 use sb_calls::{EXECUTE_MODE, protect_refusal};
-use sb_memory::{Frame, Memory, PAGE_SIZE};
-use sb_root::{RIGHT_EXECUTE, RIGHT_READ_WRITE, RootKernel};
-
-/// Present, user, and not writable: a lowest entry for code.
-const CODE: u64 = 5;
+use sb_mapping::{heap_address, page_entry, page_rights};
+use sb_memory::Memory;
+use sb_root::RootKernel;
+use sb_state::Mode;
 
 /// The first refusal of a change of mode, and a second value with it.
 fn refusal(
@@ -54,27 +50,14 @@ fn pattern_refusal(process: &Process, memory: &mut Memory, page: u32) -> Option<
     Some((CallRefusal::Pattern, address))
 }
 
-/// The lowest entry for a heap page.
-#[tactic(auto, unfolding(sb_shows::specs::Placement::leaf_for))]
-fn heap_entry(frame: Frame, executable: bool) -> u64
-    ensures { result ≡ leaf_for frame.0 (heap_mode executable) }
-{
-    let start = PAGE_SIZE * u64::from(frame.0);
-    if executable {
-        start + CODE
-    } else {
-        start + DATA
-    }
-}
-
-/// What the base permits of a heap page.
-fn heap_rights(executable: bool) -> u8
-    ensures { result ≡ rights_for (heap_mode executable) }
+/// How a heap page may be accessed in its two modes.
+fn heap_mode(executable: bool) -> Mode
+    ensures { result ≡ heap_mode executable }
 {
     if executable {
-        RIGHT_EXECUTE
+        Mode::Fetch
     } else {
-        RIGHT_READ_WRITE
+        Mode::ReadWrite
     }
 }
 
@@ -94,11 +77,12 @@ fn set_mode(
     ensures root { root.new ≡ root.old }
     ensures sets { SetsMode process.now.set root.old memory.old memory.new page executable }
 {
+    let mode = heap_mode(executable);
     let frame = page_frame(memory, &process.set, page, process.plain.heap_pages);
     process
         .set
-        .set_page(memory, heap_address(page), heap_entry(frame, executable));
-    root.expose(memory, frame, heap_rights(executable));
+        .set_page(memory, heap_address(page), page_entry(frame.0, mode));
+    root.expose(memory, frame, page_rights(mode));
 }
 
 /// Gives a heap page of a process a mode, or answers the first refusal and a second value. Where the bytes of VMFUNC refuse it,

@@ -4,12 +4,12 @@ ghost use Rattle.std.specs.Prelude.{◌≡◌, ◌+◌, ◌-◌, ◌*◌, ◌^�
 ghost use Rattle.sb_abi.specs.declared.space.TheConstants.{MAX_STACKS, STACK_PAGES};
 ghost use Rattle.sb_memory.specs.Physical.{frame_count};
 ghost use Rattle.sb_frames.specs.Book.{free_count};
+ghost use Rattle.sb_mapping.specs.Taking.{CanTake};
 ghost use Rattle.sb_sub.specs.Registering.{FindsPool, RegistersPages, pool_found};
-ghost use Rattle.sb_sub.specs.Taking.{CanTake};
 
-use crate::taking::add_stacks;
 use sb_abi::{POOL_ADDRESS, STACK_PAGES};
 use sb_frames::FrameBook;
+use sb_mapping::add_stacks;
 use sb_memory::{Access, Frame, Linear, Memory, PAGE_SIZE, PhysAddr};
 use sb_pagewalk::{Direct, TableSet, walk};
 use sb_root::RootKernel;

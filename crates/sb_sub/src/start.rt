@@ -17,37 +17,25 @@ ghost use Rattle.sb_load.specs.FirstState.{first_state, image_of, images_loaded}
 ghost use Rattle.sb_load.specs.Loading.{IsLoadable};
 ghost use Rattle.sb_load.specs.Need.{have_of, need_of};
 ghost use Rattle.sb_shows.specs.Fills.{FillsFrame};
+ghost use Rattle.sb_mapping.specs.StartThreads.{HasNoViews};
 ghost use Rattle.sb_sub.specs.Kernel.{process_of};
 ghost use Rattle.sb_sub.specs.StandsFor.{StandsFor};
-ghost use Rattle.sb_sub.specs.Start.{HasAllProcesses, HasBegun, HasStarted, images_need, start_seat};
-ghost use Rattle.sb_sub.specs.StartProcesses.{with_set};
-ghost use Rattle.sb_sub.specs.StartThreads.{HasNoViews};
+ghost use Rattle.sb_sub.specs.Start.{HasAllProcesses, HasBegun, HasStarted, images_need, start_seat, with_set};
 
 use crate::process::Process;
 use crate::sub_kernel::{Seat, SubKernel};
-use sb_abi::{HOME_TRAMPOLINE_FRAME, SERVER_TRAMPOLINE_FRAME};
 use sb_bundle::{CoreStart, Image};
 use sb_frames::FrameBook;
 use sb_list::Listed;
 use sb_load::Loaded;
+use sb_mapping::{add_process, add_thread, put_trampolines};
 use sb_memory::{Frame, Memory};
 use sb_pagewalk::TableSet;
 use sb_rewrite::Rewritten;
 use sb_root::RootKernel;
 use sb_trace::Bindings;
-use sb_tramp::{KeyWords, put_home, put_server};
+use sb_tramp::KeyWords;
 use std::alloc::{AllocError, Global};
-
-mod pages;
-mod processes;
-mod tables;
-mod threads;
-
-use processes::add_process;
-use threads::add_thread;
-
-/// The bytes of a page.
-const PAGE_SIZE: usize = sb_memory::PAGE_SIZE as usize;
 
 // ---- what is kept
 
@@ -110,31 +98,6 @@ fn bare_kernel(alloc: Global, loaded: &Loaded) -> Result<SubKernel, AllocError>
 }
 
 // ---- what is built
-
-/// Puts a page into a frame.
-fn put_page(memory: &mut Memory, frame: Frame, page: &[u8])
-    requires inside { frame.0 < frame_count memory.old }
-    requires size { HasSize memory.old }
-    requires whole { length page.now ≡ PAGE_SIZE }
-    ensures { FillsFrame frame.0 page.now memory.old memory.new }
-{
-    memory.set_bytes(frame.base(), page);
-}
-
-/// Puts the two pages of the trampoline into their frames.
-fn put_trampolines(memory: &mut Memory)
-    requires kept { KEPT_FRAMES ≤ frame_count memory.old }
-    requires size { HasSize memory.old }
-    ensures home { HoldsBytes memory.new HOME_TRAMPOLINE_FRAME home_page }
-    ensures server { HoldsBytes memory.new SERVER_TRAMPOLINE_FRAME server_page }
-    ensures same { SameOutside (HOME_TRAMPOLINE_FRAME ∷ SERVER_TRAMPOLINE_FRAME ∷ []) memory.old memory.new }
-{
-    let mut page = [0u8; PAGE_SIZE];
-    put_home(&mut page);
-    put_page(memory, Frame(HOME_TRAMPOLINE_FRAME), &page);
-    put_server(&mut page);
-    put_page(memory, Frame(SERVER_TRAMPOLINE_FRAME), &page);
-}
 
 /// Keeps the tables of a process.
 fn keep_set(processes: &mut [Process], process: usize, set: TableSet)

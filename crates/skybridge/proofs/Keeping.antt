@@ -10,8 +10,8 @@ use Rattle.sb_shows.specs.Dump.{IsDumpOf}
 use Rattle.sb_trace.specs.Report.{report_text}
 use Rattle.sb_trace.specs.declared.end.EndState.{EndState}
 use Rattle.sb_trace.specs.declared.event.Line.{Line}
-use Rattle.skybridge.specs.declared.status.Status.{Status}
-use Rattle.skybridge.specs.declared.status.Status.TheVariants.{Done, BadWords, ReadFault, WriteFault, BundleRefused, LoadRefused, NoMemory, TooLong}
+use Rattle.sb_input.specs.declared.status.Status.{Status}
+use Rattle.sb_input.specs.declared.status.Status.TheVariants.{Done, BadWords, ReadFault, WriteFault, BundleRefused, LoadRefused, NoMemory, TooLong}
 use Rattle.skybridge.specs.Words.{AreWordsOf}
 use Rattle.skybridge.specs.declared.words.Command.{Command}
 use Rattle.skybridge.specs.declared.words.Command.TheVariants.{OfBundle}

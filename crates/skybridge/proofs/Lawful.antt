@@ -16,8 +16,8 @@ use Rattle.sb_plain.proofs.FirstSound.{first_sound}
 use Rattle.skybridge.specs.declared.words.BundleCommand.{BundleCommand}
 use Rattle.skybridge.specs.declared.words.BundleCommand.TheVariants.{Replay, ReplayDump, Plain, Check, Rewrite}
 use Rattle.sb_generator.specs.Summary.{summary_text}
-use Rattle.skybridge.specs.declared.status.Status.{Status}
-use Rattle.skybridge.specs.declared.status.Status.TheVariants.{Done, BadWords, ReadFault, WriteFault, BundleRefused, LoadRefused, NoMemory, TooLong}
+use Rattle.sb_input.specs.declared.status.Status.{Status}
+use Rattle.sb_input.specs.declared.status.Status.TheVariants.{Done, BadWords, ReadFault, WriteFault, BundleRefused, LoadRefused, NoMemory, TooLong}
 use Rattle.skybridge.specs.Written.{Writes}
 use Rattle.skybridge.specs.Output.{IsReport, IsReportWithDump, IsSummary, IsOutput, WasRead, ReportedAs}
 use Rattle.skybridge.specs.Lawful.{SwitchesAtTwoPlaces, IsLawfulReport, IsLawfulReportWithDump, IsLawfulOutput, IsLawfulSummary}

@@ -1,8 +1,8 @@
 -- Texts of which a part was written.
 use Rattle.std.proofs.Common.{◌≡◌, ℕ, List, String, Option, Result, Ok, Err, sym, subst}
 use Rattle.std.specs.Prelude.{IfOk, MatchResult, string_bytes}
-use Rattle.skybridge.specs.declared.status.Status.{Status}
-use Rattle.skybridge.specs.declared.status.Status.TheVariants.{Done, BadWords, ReadFault, WriteFault, BundleRefused, LoadRefused, NoMemory, TooLong}
+use Rattle.sb_input.specs.declared.status.Status.{Status}
+use Rattle.sb_input.specs.declared.status.Status.TheVariants.{Done, BadWords, ReadFault, WriteFault, BundleRefused, LoadRefused, NoMemory, TooLong}
 use Rattle.skybridge.specs.Written.{Writes}
 
 -- what is written of one kind is written of each kind to which it belongs

@@ -16,7 +16,7 @@ use Rattle.skybridge.specs.declared.words.BundleCommand.TheVariants.{Replay, Rep
 use Rattle.skybridge.specs.Output.{IsReport, WasRead}
 use Rattle.skybridge.specs.Words.{AreWordsOf}
 use Rattle.skybridge.specs.Written.{Leaves}
-use Rattle.skybridge.specs.declared.status.Status.{Status}
+use Rattle.sb_input.specs.declared.status.Status.{Status}
 
 -- the command runs the machine with page tables
 abbrev pub RunsMachine : Command → Type 0

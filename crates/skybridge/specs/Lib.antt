@@ -2,6 +2,7 @@ pub use Rattle.sb_port.specs.Port
 pub use Rattle.sb_input.specs.Told
 pub use Rattle.sb_input.specs.Input
 pub use Rattle.sb_input.specs.Lines
+pub use Rattle.sb_input.specs.Status
 pub use Rattle.sb_generator.specs.Generator
 pub use Rattle.sb_generator.specs.Summary
 pub use Rattle.sb_machine.specs.Ran
@@ -12,5 +13,4 @@ pub mod Runs
 pub mod Output
 pub mod Kept
 pub mod Lawful
-pub mod Status
 pub mod Written

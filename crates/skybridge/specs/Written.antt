@@ -1,11 +1,11 @@
 -- How the writing of a text ends, and what is left of the machine that made it.
-use Rattle.std.specs.Prelude.{◌≡◌, ℕ, List, ◌⊎◌, Option, None, IfSome}
-use Rattle.std.specs.Option.{IsSome, IsSomeAnd}
+use Rattle.std.specs.Prelude.{◌≡◌, ℕ, List, Option, None}
+use Rattle.std.specs.Option.{IsSomeAnd}
 use Rattle.sb_port.specs.Port.{Rose, Appended}
 use Rattle.sb_input.specs.Told.{PartlyAppended}
 use Rattle.sb_machine.specs.Machine.{Machine}
-use Rattle.skybridge.specs.declared.status.Status.{Status}
-use Rattle.skybridge.specs.declared.status.Status.TheVariants.{Done, BadWords, ReadFault, WriteFault, BundleRefused, LoadRefused, NoMemory, TooLong}
+use Rattle.sb_input.specs.declared.status.Status.{Status}
+use Rattle.sb_input.specs.declared.status.Status.TheVariants.{Done, BadWords, ReadFault, WriteFault, BundleRefused, LoadRefused, NoMemory, TooLong}
 
 -- A text of this kind was written whole, or a part of it before the sink failed, or there was no memory for one.
 abbrev pub Writes : (List ℕ → Type 0) → Status → Option (List ℕ) → Option (List ℕ) → ℕ → ℕ → Type 0

@@ -16,17 +16,17 @@ ghost use Rattle.skybridge.specs.Lawful.{IsLawfulOutput, WroteLawfully};
 ghost use Rattle.skybridge.specs.Kept.{RunsMachine, RunMachine, LeavesOf, HasDumpOf, HasRunFor, IsLeft, ReportedWithDump};
 ghost use Rattle.skybridge.specs.Words.{AreWordsOf, IsCommand, ReadsBundle, usage_line};
 ghost use Rattle.skybridge.specs.Written.{Writes};
-ghost use Rattle.skybridge.specs.Status.{IsOwn};
+ghost use Rattle.sb_input.specs.Status.{IsOwn};
 
 use crate::command_text::{check_text, rewrite_text};
 use crate::generated::generated_bytes;
 use crate::help::help_text;
-use crate::status::Status;
 use crate::words::{BundleCommand, Command, command_of};
-use crate::writing::{
-    refuse, refuse_by, replay, replay_with_dump, summarize, write_made, write_plain, write_text,
+use crate::writing::{replay, replay_with_dump, summarize, write_made, write_plain, write_text};
+use sb_input::{
+    InputRefusal, READ_FAULT_LINE, Status, TOO_LONG_LINE, bundle_line, load_line, read_loaded,
+    refuse, refuse_by,
 };
-use sb_input::{InputRefusal, READ_FAULT_LINE, TOO_LONG_LINE, bundle_line, load_line, read_loaded};
 use sb_load::Loaded;
 use sb_machine::Machine;
 use sb_port::{Sink, Source};

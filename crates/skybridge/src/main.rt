@@ -21,7 +21,6 @@ mod generated;
 mod help;
 mod machine_run;
 mod plain_run;
-mod status;
 #[cfg(test)]
 mod tests;
 mod words;
@@ -29,9 +28,9 @@ mod writing;
 
 pub use bridge::{bridge, one_output};
 pub use sb_generator::{gen_bundle, generated_is_loadable};
+pub use sb_input::Status;
 use sb_port::{ReadSource, WriteSink};
 use sb_words::command_words;
-pub use status::Status;
 use std::io;
 use std::process::ExitCode;
 

@@ -45,6 +45,21 @@ keys 0
 end
 ";
 
+/// The report of `FIVE` in 576 frames, of 207 bytes, and the start of a dump behind it.
+const FIVE_WITH_DUMP: &str = "skybridge report 1
+0 step 400000
+0 step 400005
+0 print 7
+0 step 40000c
+0 exit 7
+thread 0 home 0 view 0 at 0 ended 7
+regs 0 rip 400010 flags 44 0 400010 0 0 3008000 0 0 7 0 0 0 246 0 0 0 0
+free 39
+keys 0
+end
+dump 576
+core 0 eptp ";
+
 /// Two other programs, written from the description of the format, gave these counts.
 const SUMMARY_OF_42: &str = "gen 42
 step 53741
@@ -134,8 +149,23 @@ fn two_memories(alloc: Global) -> Result<Vec<u8>, Fail> {
     Ok(bytes)
 }
 
-/// What `bridge` answers and writes for words with a blank between them, where the listed calls of the source and the sink
-/// fail.
+/// What `bridge` answers for words with a blank between them, and what the sink holds then.
+fn outcome_at(
+    alloc: Global,
+    words: &str,
+    mut source: MemorySource,
+    mut sink: MemorySink,
+) -> Result<(Status, Vec<u8>), Fail> {
+    let mut list = Vec::new(alloc);
+    for word in words.split(' ') {
+        list.push(String::from_str(alloc, word)?)?;
+    }
+    let mut kept: Option<Machine> = None;
+    let status = bridge(alloc, &list, &mut source, &mut sink, &mut kept);
+    Ok((status, Vec::from_slice(alloc, sink.held())?))
+}
+
+/// The same with an ample sink, where the listed calls of the source and the sink fail.
 fn outcome(
     alloc: Global,
     words: &str,
@@ -143,15 +173,9 @@ fn outcome(
     read_fails: Vec<u64>,
     write_fails: Vec<u64>,
 ) -> Result<(Status, Vec<u8>), Fail> {
-    let mut list = Vec::new(alloc);
-    for word in words.split(' ') {
-        list.push(String::from_str(alloc, word)?)?;
-    }
-    let mut source = MemorySource::new(bytes, 7, read_fails);
-    let mut sink = MemorySink::new(alloc, 262_144, 16, write_fails)?;
-    let mut kept: Option<Machine> = None;
-    let status = bridge(alloc, &list, &mut source, &mut sink, &mut kept);
-    Ok((status, Vec::from_slice(alloc, sink.held())?))
+    let source = MemorySource::new(bytes, 7, read_fails);
+    let sink = MemorySink::new(alloc, 262_144, 16, write_fails)?;
+    outcome_at(alloc, words, source, sink)
 }
 
 /// The same where nothing fails.
@@ -556,5 +580,30 @@ fn a_fault_of_the_sink_leaves_a_prefix(rt: HostRuntime) -> Result<(), Fail> {
     let empty = Vec::new(alloc);
     let found = outcome(alloc, "replay", empty, Vec::new(alloc), vec![in alloc; 1]?)?;
     assert_told(&rt, "a refusal", &found, Status::BundleRefused, "");
+    Ok(())
+}
+
+#[test]
+fn a_dump_follows_the_report(rt: HostRuntime) -> Result<(), Fail> {
+    let alloc = rt.alloc();
+    let five = bundle(alloc, 576, &FIVE, 0, 5)?;
+    let (status, held) = quiet_outcome(alloc, "replay --dump", five)?;
+    assert_eq!(rt; status, Status::Done);
+    assert!(rt; held.starts_with(FIVE_WITH_DUMP.as_bytes()));
+    assert!(rt; held.ends_with(b"\nend\n"));
+    Ok(())
+}
+
+/// The sink is full in the report, exactly at its end, and in the dump.
+#[test]
+fn a_full_sink_has_a_front_of_report_and_dump(rt: HostRuntime) -> Result<(), Fail> {
+    let alloc = rt.alloc();
+    for capacity in [32, 207, 228] {
+        let five = MemorySource::new(bundle(alloc, 576, &FIVE, 0, 5)?, 7, Vec::new(alloc));
+        let sink = MemorySink::new(alloc, capacity, 16, Vec::new(alloc))?;
+        let (status, held) = outcome_at(alloc, "replay --dump", five, sink)?;
+        assert_eq!(rt; (status, held.len()), (Status::WriteFault, capacity));
+        assert!(rt; FIVE_WITH_DUMP.as_bytes().starts_with(&held));
+    }
     Ok(())
 }

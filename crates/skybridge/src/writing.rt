@@ -1,8 +1,7 @@
 //! What goes to the sink, and the status with which that ends.
 
-ghost use Rattle.std.specs.Prelude.{◌≡◌, ◌≤◌, ◌++◌, ◌⊎◌, None, IfSome, MatchResult, string_bytes};
+ghost use Rattle.std.specs.Prelude.{◌≡◌, ◌++◌, ◌⊎◌, None, IfSome, MatchResult, string_bytes};
 ghost use Rattle.sb_generator.specs.Generator.{generated};
-ghost use Rattle.sb_input.specs.Told.{WritesLine};
 ghost use Rattle.sb_load.specs.Loading.{IsLoadable};
 ghost use Rattle.sb_machine.specs.Dump.{machine_dump, DumpShows};
 ghost use Rattle.skybridge.specs.Output.{IsReport, IsReportWithDump, IsSummary};
@@ -12,38 +11,11 @@ ghost use Rattle.skybridge.specs.Written.{Writes, Leaves};
 use crate::generated::summary;
 use crate::machine_run::machine_report;
 use crate::plain_run::plain_report;
-use crate::status::Status;
-use sb_input::write_line;
+use sb_input::Status;
 use sb_load::Loaded;
 use sb_machine::Machine;
 use sb_port::{Sink, write_all};
 use std::alloc::{AllocError, Global};
-
-// ---- refusals
-
-/// Writes the line of a refusal, as far as the sink takes it. The status is the refusal's.
-pub fn refuse<K: Sink>(sink: &mut K, line: &str, status: Status) -> Status
-    ensures same { result ≡ status }
-    ensures written { WritesLine (K.held sink.old) (K.held sink.new) (K.faults sink.old) (K.faults sink.new) line.now }
-    ensures later { K.faults sink.old ≤ K.faults sink.new }
-{
-    write_line(sink, line);
-    status
-}
-
-/// Writes the line of a refusal with this status, if there is memory for the line.
-pub fn refuse_by<K: Sink>(sink: &mut K, line: Result<String, AllocError>, status: Status) -> Status
-    ensures written { MatchResult line
-        (λ text. (result ≡ status)
-        × WritesLine (K.held sink.old) (K.held sink.new) (K.faults sink.old) (K.faults sink.new) (string_bytes text))
-        (λ _. (result ≡ Status.NoMemory) × (K.held sink.new ≡ K.held sink.old)) }
-    ensures later { K.faults sink.old ≤ K.faults sink.new }
-{
-    match line {
-        Ok(text) => refuse(sink, text.as_str(), status),
-        Err(AllocError) => Status::NoMemory,
-    }
-}
 
 // ---- texts
 

@@ -2,8 +2,8 @@
 use Rattle.std.proofs.Common.{◌≡◌, ◌⊎◌, inl, inr, ◌↔◌, ℕ, ◌<◌, List, Option, Some, None, Ok, IsErrOf}
 use Rattle.sb_port.specs.Port.{TookFirst}
 use Rattle.sb_input.specs.Input.{input_limit}
-use Rattle.skycores.specs.declared.cores.Status.{Status}
-use Rattle.skycores.specs.declared.cores.Status.TheVariants.{Done, WriteFault, NoMemory, TooLong}
+use Rattle.sb_input.specs.declared.status.Status.{Status}
+use Rattle.sb_input.specs.declared.status.Status.TheVariants.{Done, WriteFault, NoMemory, TooLong}
 
 not_long : (status : Status) → (status ≡ Done) ⊎ ((status ≡ WriteFault) ⊎ (status ≡ NoMemory)) → ¬ (status ≡ TooLong)
 not_long status (inl is) long = cc

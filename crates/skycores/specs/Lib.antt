@@ -2,8 +2,8 @@ pub use Rattle.sb_port.specs.Port
 pub use Rattle.sb_input.specs.Told
 pub use Rattle.sb_input.specs.Input
 pub use Rattle.sb_input.specs.Lines
+pub use Rattle.sb_input.specs.Status
 pub use Rattle.sb_book.specs.History
 pub mod Words
-pub mod Status
 pub mod Text
 pub mod Output

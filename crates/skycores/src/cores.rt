@@ -1,6 +1,6 @@
 //! The top call.
 
-ghost use Rattle.std.specs.Prelude.{◌≡◌, ◌≤◌, ◌<◌, ◌++◌, ◌↔◌, ◌⊎◌, IfOk, MatchResult, string_bytes};
+ghost use Rattle.std.specs.Prelude.{◌≡◌, ◌<◌, ◌++◌, ◌↔◌, ◌⊎◌, IfOk, string_bytes};
 ghost use Rattle.sb_port.specs.Port.{Rose, TookFirst, Appended};
 ghost use Rattle.sb_load.specs.Loading.{IsLoadable};
 ghost use Rattle.sb_input.specs.Told.{IsTold, WhereTold, PartlyAppended, WritesLine};
@@ -8,7 +8,6 @@ ghost use Rattle.sb_input.specs.Input.{input_limit, IsTooLong, SomeNoBundle, Som
 ghost use Rattle.sb_input.specs.Lines.{read_fault_line, too_long_line};
 ghost use Rattle.sb_words.specs.Words.{word_texts};
 ghost use Rattle.skycores.specs.Words.{IsCommand, IsWithin, usage_line};
-ghost use Rattle.skycores.specs.Status.{exit_status};
 ghost use Rattle.sb_machine.specs.Dump.{DumpShows};
 ghost use Rattle.skycores.specs.Text.{IsOutputFor, dump_where};
 ghost use Rattle.skycores.specs.Output.{WroteOutput, WrotePart, Reported, PartlyReported, Wrote, PartlyWrote, RefusedBundle, RefusedLoad};
@@ -17,7 +16,8 @@ use crate::text::output_text;
 use crate::words::{Run, command_of};
 use sb_book::{Gate, history_by_threads};
 use sb_input::{
-    InputRefusal, READ_FAULT_LINE, TOO_LONG_LINE, bundle_line, load_line, read_loaded, write_line,
+    InputRefusal, READ_FAULT_LINE, Status, TOO_LONG_LINE, bundle_line, load_line, read_loaded,
+    refuse, refuse_by,
 };
 use sb_load::Loaded;
 use sb_machine::Machine;
@@ -26,62 +26,8 @@ use std::alloc::{AllocError, Global};
 use std::sync::Wait;
 use std::thread::Threads;
 
-/// How a command ended. The number is the program's exit status.
-#[derive(Clone, Copy, Debug, PartialEq, Eq)]
-pub enum Status {
-    /// The whole output was written.
-    Done = 0,
-    /// The words are no command.
-    BadWords = 2,
-    /// The source failed.
-    ReadFault = 3,
-    /// The sink failed while the output was written.
-    WriteFault = 4,
-    /// The input is no bundle.
-    BundleRefused = 5,
-    /// The bundle cannot be loaded.
-    LoadRefused = 6,
-    /// Memory did not suffice. Nothing was written.
-    NoMemory = 7,
-    /// The input is longer than 64 MiB.
-    TooLong = 8,
-}
-
-impl Status {
-    /// The program's exit status.
-    pub fn number(self) -> u8
-        ensures { result ≡ exit_status self }
-    {
-        self as u8
-    }
-}
-
 /// The line where the words are no command.
 const USAGE_LINE: &str = "usage: skycores run --steps N --block B [--dump]\n";
-
-/// Writes the line of a refusal, as far as the sink takes it. The status is the refusal's.
-fn refuse<K: Sink>(sink: &mut K, line: &str, status: Status) -> Status
-    ensures same { result ≡ status }
-    ensures written { WritesLine (K.held sink.old) (K.held sink.new) (K.faults sink.old) (K.faults sink.new) line.now }
-    ensures later { K.faults sink.old ≤ K.faults sink.new }
-{
-    write_line(sink, line);
-    status
-}
-
-/// Writes the line of a refusal with this status, if there is memory for the line.
-fn refuse_by<K: Sink>(sink: &mut K, line: Result<String, AllocError>, status: Status) -> Status
-    ensures written { MatchResult line
-        (λ text. (result ≡ status)
-        × WritesLine (K.held sink.old) (K.held sink.new) (K.faults sink.old) (K.faults sink.new) (string_bytes text))
-        (λ _. (result ≡ Status.NoMemory) × (K.held sink.new ≡ K.held sink.old)) }
-    ensures later { K.faults sink.old ≤ K.faults sink.new }
-{
-    match line {
-        Ok(text) => refuse(sink, text.as_str(), status),
-        Err(AllocError) => Status::NoMemory,
-    }
-}
 
 /// Writes the dump of a machine if it is asked for, as far as the sink takes it.
 fn write_dump_where<K: Sink>(sink: &mut K, machine: &Machine, dump: bool) -> Status

@@ -17,8 +17,9 @@ mod tests;
 mod text;
 mod words;
 
-pub use cores::{Status, cores};
+pub use cores::cores;
 use sb_book::OpenGate;
+pub use sb_input::Status;
 use sb_port::{ReadSource, WriteSink};
 use sb_words::command_words;
 use std::io;

@@ -11,7 +11,7 @@ loop-preserved c =
     let had = now.room in
     let has = c.next.ensures.room in
     record {
-      runs = run_pushed noted_rule c.args.number (at c.args.core.now c.args.part.now.memory nothing)
+      runs = run_pushed noted_rule c.args.number (at c.args.core.now c.args.part.now.given nothing)
           (at c.loop.core c.loop.part.memory c.loop.part.noted) (at c.next.new.core c.next.new.part.memory c.next.new.part.noted)
           c.loop.lines.items c.next.new.lines.items _ now.runs made.step made.line;
       given = c.next.ensures.given ∙ now.given;

@@ -9,7 +9,7 @@ use Rattle.sb_block.proofs.run.steps.Given as goal
 
 abbrev pub invariant-loop : goal.invariant-loop
 invariant-loop l = record {
-  runs : IsToldRun noted_rule l.fn.number (at l.fn.core l.fn.part.memory nothing) l.lines.items
+  runs : IsToldRun noted_rule l.fn.number (at l.fn.core l.fn.part.given nothing) l.lines.items
       (at l.core l.part.memory l.part.noted);
   given : l.part.given ≡ l.fn.part.given;
   walks : HasWalks (frame_count l.part.memory) l.core;

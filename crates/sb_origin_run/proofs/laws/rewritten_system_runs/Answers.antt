@@ -7,9 +7,10 @@ pub returns : goal.returns
 returns g c has beside made =
     let system = g.R.Systems.system in
     let original = g.R.Systems.original in
+    let holds = g.R.Systems.holds in
     let places = g.R.Systems.places in
-    served_alike system original g.R.Systems.holds g.R.Systems.outside g.R.Systems.naming places (
+    served_alike g.R.Systems.is_thread system original holds g.R.Systems.outside g.R.Systems.naming places (
       beside,
-      λ mode number. made_stands (system.buses mode number) (HoldsOf g.R.Systems.holds number) (system.codes mode number)
-          (original.codes mode number) (places mode number) (has mode number) (made mode number),
+      λ mode number is_thread. made_stands (system.buses mode number) (HoldsOf (holds mode) number) (system.codes mode number)
+          (original.codes mode number) (places mode number) (has mode number is_thread) (made mode number is_thread),
     )

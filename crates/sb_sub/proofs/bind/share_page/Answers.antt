@@ -1,4 +1,4 @@
-use Rattle.sb_sub.proofs.Taken.{tables_filled}
+use Rattle.sb_mapping.proofs.Taken.{tables_filled}
 use Rattle.sb_sub.proofs.Sharing.{server_between, stands_both, can_again}
 use Rattle.sb_sub.proofs.bind.share_page.Goals as goal
 

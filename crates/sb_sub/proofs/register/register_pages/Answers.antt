@@ -3,7 +3,7 @@ use Rattle.sb_memory.specs.declared.address.Frame.{Frame}
 use Rattle.sb_pagewalk.specs.Standing.{IsApart as IsSetApart}
 use Rattle.sb_root.specs.Standing.{IsApart as IsRootApart}
 use Rattle.sb_state.proofs.Cases.{same_some}
-use Rattle.sb_sub.proofs.Taken.{can_put}
+use Rattle.sb_mapping.proofs.Taken.{can_put}
 use Rattle.sb_sub.proofs.register.register_pages.Goals as goal
 
 pub add_stacks-requires-clause-can : goal.add_stacks-requires-clause-can

@@ -2,8 +2,8 @@ use Rattle.std.proofs.Common.{◌≡◌, ◌<◌, ◌≤◌, ◌∙◌, sym, ap,
 use Rattle.sb_bundle.specs.declared.bundle.Bundle.{Bundle}
 use Rattle.sb_bundle.specs.declared.bundle.CoreStart.{CoreStart}
 use Rattle.sb_load.specs.Loading.{Load}
+use Rattle.sb_mapping.specs.StartThreads.{IsReadyForThread}
 use Rattle.sb_sub.specs.Kernel.{Entry}
-use Rattle.sb_sub.specs.StartThreads.{IsReadyForThread}
 use Rattle.sb_sub.proofs.StartImages.{images_count}
 use Rattle.sb_sub.proofs.StartEntries.{ready, first_left, one_built, all_built, none_from, entry_read, home_there}
 use Rattle.sb_sub.proofs.start.build_threads.Goals as goal

@@ -2,7 +2,7 @@
 use Rattle.std.proofs.Common.{◌≡◌, ◌≤◌, ◌+◌, ◌*◌, ℕ}
 use Rattle.sb_memory.specs.Physical.{frame_count}
 use Rattle.sb_frames.specs.Book.{free_count}
-use Rattle.sb_sub.specs.StartThreads.{HasNoViews}
+use Rattle.sb_mapping.specs.StartThreads.{HasNoViews}
 use Rattle.sb_sub.proofs.StartEntries.{EntriesLeft}
 use Rattle.sb_sub.proofs.start.build_threads.Given as goal
 

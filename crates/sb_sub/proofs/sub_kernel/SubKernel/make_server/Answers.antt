@@ -1,7 +1,7 @@
 use Rattle.std.proofs.Common.{sym, subst}
+use Rattle.sb_mapping.specs.Taking.{CanTake}
 use Rattle.sb_sub.specs.Kernel.{Entry}
 use Rattle.sb_sub.specs.Registering.{FindsPool}
-use Rattle.sb_sub.specs.Taking.{CanTake}
 use Rattle.sb_sub.proofs.Accepting.{finds_entry_pool, can_take_entry}
 use Rattle.sb_sub.proofs.Frames.{registered_frames}
 use Rattle.sb_sub.proofs.sub_kernel.SubKernel.make_server.Goals as goal

@@ -1,0 +1,42 @@
+-- Steps over copies are a block, and a block holds.
+use Rattle.std.proofs.Common.{◌≡◌, ap, subst, ℕ, List}
+use Rattle.sb_memory.specs.Physical.{Physical, IsPhysical, frame_count}
+use Rattle.sb_partial.specs.Copies.{Copied, untouched}
+use Rattle.sb_trace.specs.declared.event.Event.{Event}
+use Rattle.sb_trace.specs.declared.event.Line.{Line}
+use Rattle.sb_machine.specs.declared.processor.CoreState.{CoreState}
+use Rattle.sb_machine.specs.declared.place.Seen.{Seen}
+use Rattle.sb_block.specs.Answers.{IsRunOf}
+use Rattle.sb_block.specs.Block.{BlockHolds, IsBlock}
+use Rattle.sb_block.specs.Run.{lines_of_core}
+use Rattle.sb_block.proofs.Blocks.{copies_give}
+use Rattle.sb_block.proofs.Machines.{block_holds}
+
+-- copies to which nothing was done are a physical memory
+pub given_sound : (part : Copied) → part ≡ untouched part.given → IsPhysical part.memory → IsPhysical part.given
+given_sound part same sound = subst IsPhysical (ap (λ (one : Copied). one.memory) same) sound
+
+-- steps over copies are the block of their lines
+block_of : {number limit core : ℕ} {start before last : CoreState} {copies : Physical} {lines : List Line}
+    {reads writes : List Seen} → IsPhysical copies → (run : IsRunOf number start limit copies core before last lines reads writes)
+    → IsBlock (frame_count copies) number start run.events last reads writes
+block_of {number} {start} {last} {copies} sound run =
+    rw (run.saw, run.wrote) (copies_give number start run.events last copies run.ended run.noted sound run.runs)
+
+-- so there is a list of lines whose block it is
+pub block_by : {number limit core : ℕ} {start before last : CoreState} {copies : Physical} {lines : List Line}
+    {reads writes : List Seen} → IsPhysical copies → IsRunOf number start limit copies core before last lines reads writes
+    → (events : List Event) × (lines ≡ lines_of_core number events)
+    × IsBlock (frame_count copies) number start events last reads writes
+block_by sound run = (run.events, run.told, block_of sound run)
+
+-- and by the law it is a run of each machine that holds what was read
+pub holds_by : {number limit core : ℕ} {start before last : CoreState} {copies : Physical} {lines : List Line}
+    {reads writes : List Seen} → IsPhysical copies → IsRunOf number start limit copies core before last lines reads writes
+    → (events : List Event) × (lines ≡ lines_of_core number events)
+    × BlockHolds (frame_count copies) number start events last reads writes
+holds_by {number} {start} {last} {copies} {reads} {writes} sound run = (
+  run.events,
+  run.told,
+  block_holds (frame_count copies) number start run.events last reads writes (block_of sound run),
+)

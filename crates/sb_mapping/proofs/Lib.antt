@@ -1,0 +1,9 @@
+pub mod Filling
+pub mod Taken
+pub mod Carried
+pub mod Stacks
+pub mod StartPages
+pub mod StartTables
+pub mod StartProcesses
+pub mod StartThreads
+pub mod Frames

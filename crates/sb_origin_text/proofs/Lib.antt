@@ -1,0 +1,12 @@
+pub mod ValidPieces
+pub mod ValidMains
+pub mod ValidConstants
+pub mod ValidForms
+pub mod Spelled
+pub mod Slots
+pub mod Placed
+pub mod Texts
+pub mod Made
+pub mod Fetched
+pub mod Coded
+pub mod Codes

@@ -1,0 +1,4 @@
+pub mod Valid
+pub mod Positions
+pub mod Codes
+pub mod Fetched

@@ -1,0 +1,20 @@
+-- The instructions that the table of forms gives are valid ones.
+use Rattle.std.specs.Prelude.{Bool}
+use Rattle.sb_insn.specs.declared.insn.Insn.{Insn}
+use Rattle.sb_insn.specs.Grammar.{IsValid}
+use Rattle.sb_forms.specs.declared.slots.Site.{Site}
+use Rattle.sb_forms.specs.Answers.{IsSite}
+use Rattle.sb_forms.specs.Table.{Replacement, Keep, InPlace, Moved, Unmovable, replacement}
+use Rattle.sb_rewrite.specs.Listing.{AllValid}
+
+-- each instruction of a replacement is valid
+abbrev pub AreValid : Replacement → Type 0
+AreValid Keep = Unit {0}
+AreValid (InPlace mains) = AllValid mains
+AreValid (Moved pre main post) = AllValid pre × IsValid main × AllValid post
+AreValid Unmovable = Unit {0}
+
+-- so it is with what the table gives for a valid instruction
+abbrev pub ReplacementsValid : Type 0
+ReplacementsValid = (insn : Insn) (site : Site) (after_0f : Bool) → IsValid insn → IsSite site
+    → AreValid (replacement insn site after_0f)
