@@ -1,0 +1,3 @@
+pub mod Fetched
+pub mod Stays
+pub mod Runs
