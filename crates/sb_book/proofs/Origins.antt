@@ -38,6 +38,10 @@ use Rattle.sb_machine.proofs.Counting.{step_cores, works_keep}
 use Rattle.sb_book.specs.Commit.{LeadsBehind}
 use Rattle.sb_book.specs.Undecided.{begins_flight, decides_call, undecided_after, undecided_behind}
 
+-- nothing is kept, or this
+abbrev IsGoneOr : Option Origin → Option Origin → Type 0
+IsGoneOr before origin = (origin ≡ None) ⊎ (origin ≡ before)
+
 -- ---- one step
 
 -- what is kept of that place is as before, or gone, where no flight begins; and it is gone where the call is decided
@@ -48,7 +52,7 @@ record LeavesOrigin (old : Machine) (number : ℕ) (line : Event) (new : Machine
 abbrev LeavesBy : Machine → ℕ → Outcome → Type 0
 LeavesBy machine number outcome = IsTrue (is_own outcome.0) → LeavesOrigin machine number outcome.0 outcome.1
 
-behind_is : (line : Event) (origin : Option Origin) → (origin_behind line origin ≡ None) ⊎ (origin_behind line origin ≡ origin)
+behind_is : (line : Event) (origin : Option Origin) → IsGoneOr origin (origin_behind line origin)
 behind_is (event.Landing phase) origin = inr refl
 behind_is _ origin = inl refl
 
@@ -72,14 +76,14 @@ call_apart (answer.GoHome status) own = cc
 module _ (machine : Machine) (number : ℕ) (there : number < length machine.cores) where
   -- a core is put
   put_leaves : (line : Event) (new : Machine) (core : Core) → new.cores ≡ slice_set machine.cores number core
-      → (begins_flight line ≡ false → (core.origin ≡ None) ⊎ (core.origin ≡ (core_at machine number).origin))
+      → (begins_flight line ≡ false → IsGoneOr (core_at machine number).origin core.origin)
       → (decides_call line ≡ true → core.origin ≡ None) → LeavesOrigin machine number line new
   put_leaves line new core is kept gone =
       let same : (core_at new number).origin ≡ core.origin =
       ap (λ (one : Core). one.origin) (own_core machine new number core there is) in
       record {
         kept = λ none.
-            subst (λ (origin : Option Origin). (origin ≡ None) ⊎ (origin ≡ (core_at machine number).origin)) (sym same) (kept none);
+            subst (IsGoneOr (core_at machine number).origin) (sym same) (kept none);
         gone = λ decided. same ∙ gone decided;
       }
 
@@ -158,7 +162,7 @@ step_leaves old number line new there own steps =
     (own_core worked new number counted inside (ap (λ (machine : Machine). machine.cores) steps.2)) in
     record {
       kept = λ none.
-          subst (λ (origin : Option Origin). (origin ≡ None) ⊎ (origin ≡ (core_at old number).origin)) (sym same) (left.kept none);
+          subst (IsGoneOr (core_at old number).origin) (sym same) (left.kept none);
       gone = λ decided. same ∙ left.gone decided;
     }
 
@@ -173,21 +177,19 @@ none_undecided false true false none = absurd cc
 none_undecided false false decides none = (refl, inr refl)
 
 -- a place that was gone or kept, and is gone or kept again
-kept_again : (first before after : Option Origin) → (before ≡ None) ⊎ (before ≡ first) → (after ≡ None) ⊎ (after ≡ before)
-    → (after ≡ None) ⊎ (after ≡ first)
+kept_again : (first before after : Option Origin) → IsGoneOr first before → IsGoneOr before after → IsGoneOr first after
 kept_again first before after was (inl gone) = inl gone
 kept_again first before after (inl none) (inr same) = inl (same ∙ none)
 kept_again first before after (inr kept) (inr same) = inr (same ∙ kept)
 
+-- behind steps one after another, where no call is undecided, that place is gone, or as at first if it was so before them
 origin_after : (undecided : Bool) (first : Option Origin) (old : Machine) (number : ℕ) (events : List Event) (new : Machine)
     → number < length old.cores → OwnSteps old number events new
-    → (undecided ≡ false → ((core_at old number).origin ≡ None) ⊎ ((core_at old number).origin ≡ first))
-    → undecided_after undecided (lines_of_core number events) ≡ false
-    → ((core_at new number).origin ≡ None) ⊎ ((core_at new number).origin ≡ first)
+    → (undecided ≡ false → IsGoneOr first (core_at old number).origin)
+    → undecided_after undecided (lines_of_core number events) ≡ false → IsGoneOr first (core_at new number).origin
 unfolding OwnSteps
 origin_after undecided first old number [] new there same before none =
-    subst (λ (machine : Machine). ((core_at machine number).origin ≡ None) ⊎ ((core_at machine number).origin ≡ first)) (sym same)
-    (before none)
+    subst (λ (machine : Machine). IsGoneOr first (core_at machine number).origin) (sym same) (before none)
 origin_after undecided first old number (line ∷ lines) new there (next, own, steps, rest) before none =
     let left = step_leaves old number line next there own steps in
     let there' : number < length next.cores =

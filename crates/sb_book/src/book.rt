@@ -1,15 +1,26 @@
 //! The book that the workers share under a lock.
 
-ghost use Rattle.std.specs.Prelude.{◌≡◌, ℕ, ◌+◌, ◌-◌, ◌^◌, ◌<◌, ◌↔◌, true, false, length, IsFalse, IfOk, IfSome, IfNone};
+ghost use Rattle.std.specs.Prelude.{◌≡◌, ℕ, ◌+◌, ◌-◌, ◌^◌, ◌<◌, ◌≤◌, ◌↔◌, true, false, length, IsFalse, IfErr, IfOk, IfSome, IfNone};
+ghost use Rattle.sb_abi.specs.declared.frames.TheConstants.{MIN_FRAMES, MAX_FRAMES};
+ghost use Rattle.sb_memory.specs.Frames.{frame_bytes};
+ghost use Rattle.sb_memory.specs.Physical.{frame_count};
+ghost use Rattle.sb_memory.specs.declared.page.TheConstants.{PAGE_SIZE};
 ghost use Rattle.sb_load.specs.Loading.{Load};
+ghost use Rattle.sb_machine.specs.Counts.{made_by};
+ghost use Rattle.sb_machine.specs.Machine.{state_at};
+ghost use Rattle.sb_machine.specs.OwnSteps.{HasWalks};
+ghost use Rattle.sb_book.specs.Commit.{Commits, IsBlockOf};
 ghost use Rattle.sb_book.specs.History.{IsBegun, IsRunning, AllEnded, IsOneStep, IsDone, IsLowest, IsOfTask};
 ghost use Rattle.sb_book.specs.Book.{IsBook, Turns, no_load};
 
+use crate::commit::CommitRefusal;
 use crate::history::History;
 use crate::share::Share;
+use sb_block::Block;
 use sb_bundle::Bundle;
 use sb_load::Loaded;
-use sb_machine::Machine;
+use sb_machine::{CoreState, Machine};
+use sb_memory::Frame;
 use sb_trace::Line;
 use std::alloc::{AllocError, Global};
 use std::marker::{Brand, Model};
@@ -150,6 +161,33 @@ impl<E: Task, Z: Ledger> Book<E, Z> {
         self.history.cores()
     }
 
+    /// The number of frames of the bundle, which is that of the machine.
+    pub fn frames(&self) -> u32
+        ensures bundle { result ≡ self.now.history.load.bundle.frames }
+        ensures machine { result ≡ frame_count self.now.history.machine.memory }
+        ensures limits { (MIN_FRAMES ≤ result) × (result ≤ MAX_FRAMES) }
+    {
+        self.history().frames()
+    }
+
+    /// The state of a core, with how many lines it has made.
+    pub fn core_state(&self, core: u8) -> CoreState
+        requires { core < length self.now.history.machine.cores }
+        ensures state { result ≡ state_at self.now.history.machine core }
+        ensures walks { HasWalks (frame_count self.now.history.machine.memory) result }
+    {
+        self.machine().core_state(core)
+    }
+
+    /// The 4,096 bytes of a frame.
+    pub fn copy_frame(&self, frame: Frame) -> &[u8]
+        requires { frame.0 < frame_count self.now.history.machine.memory }
+        ensures bytes { result.now ≡ frame_bytes self.now.history.machine.memory frame.0 }
+        ensures size { length result.now ≡ PAGE_SIZE }
+    {
+        self.machine().frame_bytes(frame)
+    }
+
     /// Whether the thread of a core has ended.
     pub fn ended(&self, core: u8) -> bool
         ensures { IsFalse result ↔ IsRunning self.now.history.machine core }
@@ -184,6 +222,39 @@ impl<E: Task, Z: Ledger> Book<E, Z> {
         } = self;
         history.step(core);
         entries.add(&mut share.entries, 1);
+    }
+
+    /// Makes the steps of a block, if there is room and all that it read still holds: an entry of the journal for each, and one
+    /// of the share. It takes no memory.
+    ///
+    /// # Errors
+    ///
+    /// `Full` comes exactly where the block has more lines than there is room, and else `Stale` exactly where a place that was
+    /// read holds another value now, for the first such place. The book and the share are as before then.
+    pub fn commit(&mut self, block: &Block, share: &mut Share<E, Z>) -> Result<(), CommitRefusal>
+        requires block { IsBlockOf (frame_count self.old.history.machine.memory) block.now.core block.now.before block.now.after
+            block.now.lines block.now.reads block.now.writes }
+        requires core { block.now.core < length self.old.history.machine.cores }
+        requires running { IsRunning self.old.history.machine block.now.core }
+        requires state { made_by self.old.history.machine block.now.core ≡ block.now.before.made
+            → state_at self.old.history.machine block.now.core ≡ block.now.before }
+        requires parts { (0 < share.old.entries.parts) × (0 < share.old.stops.parts) }
+        ensures commit { Commits self.old.history block.now.core block.now.lines block.now.reads result self.new.history }
+        ensures stops { self.new.stops ≡ self.old.stops }
+        ensures made { IfOk result (λ _. share.new.entries.amount ≡ share.old.entries.amount + length block.now.lines) }
+        ensures refused { IfErr result (λ _. (self.new ≡ self.old) × (share.new.entries.amount ≡ share.old.entries.amount)) }
+        ensures units { share.new.stops.amount ≡ share.old.stops.amount }
+        ensures kept { (share.new.entries.parts ≡ share.old.entries.parts) × (share.new.stops.parts ≡ share.old.stops.parts) }
+    {
+        let Book {
+            history,
+            entries,
+            stops: _,
+            given: _,
+        } = self;
+        history.commit(block)?;
+        entries.add(&mut share.entries, block.lines.items().len() as u64);
+        Ok(())
     }
 
     /// Gives a stop unit, where nothing is left to do. It answers false, and changes nothing, exactly where no more can be

@@ -1,6 +1,8 @@
 //! A machine with its journal.
 
 ghost use Rattle.std.specs.Prelude.{◌≡◌, ◌+◌, ◌<◌, ◌≤◌, ◌↔◌, ◌∷◌, ◌++◌, [], length, replicate, IsTrue, IsFalse, vec_len, vec_capacity, IfOk, IfSome, IfNone};
+ghost use Rattle.sb_abi.specs.declared.frames.TheConstants.{MIN_FRAMES, MAX_FRAMES};
+ghost use Rattle.sb_memory.specs.Physical.{frame_count};
 ghost use Rattle.sb_book.specs.Commit.{AreOwnSteps, LeadsBehind};
 ghost use Rattle.sb_book.specs.History.{IsBegun, IsRunning, AllEnded, IsRun, IsOneStep, IsDone, IsLowest, IsNext};
 
@@ -147,6 +149,15 @@ impl History {
         ensures bundle { result ≡ length self.now.load.bundle.cores }
     {
         self.loaded.bundle().cores.items().len() as u8
+    }
+
+    /// The number of frames of the bundle, which is that of the machine.
+    pub fn frames(&self) -> u32
+        ensures bundle { result ≡ self.now.load.bundle.frames }
+        ensures machine { result ≡ frame_count self.now.machine.memory }
+        ensures limits { (MIN_FRAMES ≤ result) × (result ≤ MAX_FRAMES) }
+    {
+        self.loaded.bundle().frames
     }
 
     /// Whether the thread of a core has ended. A core that has none is one whose thread has ended.

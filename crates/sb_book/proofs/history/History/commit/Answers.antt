@@ -12,4 +12,5 @@ make-requires-clause-leads c =
     leads_behind c.args.self.now.machine block.core block.before block.after block.lines block.reads block.writes c.requires.block
     c.requires.core c.requires.running c.requires.state
     (subst (λ (machine : Machine). IsPhysical machine.memory) same c.frames.ensures.sound)
-    (subst (λ (machine : Machine). HasAllFrames machine.memory) same c.frames.ensures.all) (rw (← c.machine.ensures, ← c.items-2.ensures) held)
+    (subst (λ (machine : Machine). HasAllFrames machine.memory) same c.frames.ensures.all)
+    (rw (← c.machine.ensures, ← c.items-2.ensures) held)
