@@ -1,0 +1,3 @@
+pub mod StartBits
+pub mod TextMap
+pub mod Marks
