@@ -24,6 +24,7 @@ mod history;
 mod share;
 mod steps;
 mod threads;
+mod workbench;
 mod worker;
 
 pub use book::{Book, Task};

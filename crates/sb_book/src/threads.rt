@@ -53,6 +53,7 @@ fn jobs<E: Task, Z: Ledger>(
 /// Does a job.
 fn worker<E: Task, Z: Ledger, W: Wait, G: Gate>(
     rt: &W,
+    alloc: Global,
     book: &Mutex<Book<E, Z>>,
     gate: &G,
     block: u32,
@@ -61,7 +62,7 @@ fn worker<E: Task, Z: Ledger, W: Wait, G: Gate>(
     requires { 1 ≤ block }
 {
     let Job { core, share } = job;
-    let share = work(rt, book, gate, core, block, share)?;
+    let share = work(rt, alloc, book, gate, core, block, share)?;
     Ok(Stopped { share })
 }
 
@@ -126,7 +127,7 @@ fn on_threads<
     let stopped = thread::map_vec(
         rt,
         jobs,
-        &|job: Job<E, Z>| worker(rt, shared, gate, block, job),
+        &|job: Job<E, Z>| worker(rt, alloc, shared, gate, block, job),
     )?;
     gather(&mut all, stopped)?;
     Ok(audited(book.into_inner(), all))
