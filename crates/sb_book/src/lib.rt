@@ -21,6 +21,7 @@ mod book;
 mod commit;
 mod flight;
 mod history;
+mod same;
 mod share;
 mod steps;
 mod threads;

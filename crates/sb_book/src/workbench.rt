@@ -10,6 +10,7 @@ ghost use Rattle.sb_book.specs.Commit.{IsBlockOf};
 ghost use Rattle.sb_book.specs.History.{IsDone, IsRunning};
 
 use crate::book::{Book, Task};
+use crate::same::are_same_states;
 use crate::share::Share;
 use sb_block::{Block, CoreState, Partial, Place, Seen, Stop, run_block};
 use sb_memory::{Frame, PAGE_SIZE};
@@ -43,7 +44,7 @@ fn may_commit<E: Task, Z: Ledger>(book: &Book<E, Z>, frames: u32, block: &Block)
         return false;
     }
     let now = book.core_state(block.core);
-    now.made != block.before.made || now == block.before
+    now.made != block.before.made || are_same_states(&now, &block.before)
 }
 
 impl Workbench {
