@@ -134,7 +134,7 @@ fn on_threads<
 }
 
 /// Runs what was loaded, each core on a thread of its own, until nothing is left to do: each thread has ended, or so many steps
-/// were made. No return is promised. `block` has no effect yet.
+/// were made. No return is promised. `block` is the most steps that a worker makes outside the lock at one go.
 pub fn history_by_threads<R: Threads + Wait + Sync, G: Gate + Sync>(
     rt: &R,
     alloc: Global,

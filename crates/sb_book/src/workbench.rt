@@ -3,14 +3,11 @@
 ghost use Rattle.std.specs.Prelude.{◌≡◌, ◌+◌, ◌<◌, ◌≤◌, true, false, length, IfOk, IfSome};
 ghost use Rattle.sb_memory.specs.Physical.{frame_count};
 ghost use Rattle.sb_partial.specs.Copies.{untouched};
-ghost use Rattle.sb_machine.specs.Counts.{made_by};
-ghost use Rattle.sb_machine.specs.Machine.{state_at};
 ghost use Rattle.sb_machine.specs.OwnSteps.{HasWalks};
 ghost use Rattle.sb_book.specs.Commit.{IsBlockOf};
 ghost use Rattle.sb_book.specs.History.{IsDone, IsRunning};
 
 use crate::book::{Book, Task};
-use crate::same::are_same_states;
 use crate::share::Share;
 use sb_block::{Block, CoreState, Partial, Place, Seen, Stop, run_block};
 use sb_memory::{Frame, PAGE_SIZE};
@@ -20,6 +17,7 @@ use std::sync::ledger::Ledger;
 /// Copies of frames, on which a worker makes blocks of steps of its core.
 #[derive(Drop)]
 pub struct Workbench {
+    /// The core of its blocks.
     pub core: u8,
     /// The most steps of a block.
     limit: u32,
@@ -29,22 +27,6 @@ pub struct Workbench {
     ghost some: { 1 ≤ limit },
     ghost as_given: { copies ≡ untouched copies.given },
     ghost all_frames: { frame_count copies.given ≡ frames },
-}
-
-/// Whether a block over so many frames may be committed: it is one of this machine and of a thread that runs, and where its core
-/// has made no line since the block began it is as the block begins.
-fn may_commit<E: Task, Z: Ledger>(book: &Book<E, Z>, frames: u32, block: &Block) -> bool
-    ensures frames { result ≡ true → frames ≡ frame_count book.now.history.machine.memory }
-    ensures core { result ≡ true → block.now.core < length book.now.history.machine.cores }
-    ensures running { result ≡ true → IsRunning book.now.history.machine block.now.core }
-    ensures state { result ≡ true → made_by book.now.history.machine block.now.core ≡ block.now.before.made
-        → state_at book.now.history.machine block.now.core ≡ block.now.before }
-{
-    if frames != book.frames() || block.core >= book.cores() || book.ended(block.core) {
-        return false;
-    }
-    let now = book.core_state(block.core);
-    now.made != block.before.made || are_same_states(&now, &block.before)
 }
 
 impl Workbench {
@@ -157,7 +139,7 @@ impl Workbench {
         ensures kept { (share.new.entries.parts ≡ share.old.entries.parts) × (share.new.stops.parts ≡ share.old.stops.parts) }
         ensures frames { self.new.frames ≡ self.old.frames }
     {
-        if may_commit(book, self.frames, block) && book.commit(block, share).is_ok() {
+        if book.may_commit(block, self.frames) && book.commit(block, share).is_ok() {
             self.renew(alloc, book, block.writes.items())?;
             return Ok(false);
         }
