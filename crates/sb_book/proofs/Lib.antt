@@ -5,3 +5,4 @@ pub mod Origins
 pub mod BlockRuns
 pub mod Through
 pub mod Holding
+pub mod Made

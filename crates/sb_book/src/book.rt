@@ -15,6 +15,7 @@ ghost use Rattle.sb_book.specs.Book.{IsBook, Turns, no_load};
 
 use crate::commit::CommitRefusal;
 use crate::history::History;
+use crate::same::are_same_states;
 use crate::share::Share;
 use sb_block::Block;
 use sb_bundle::Bundle;
@@ -222,6 +223,22 @@ impl<E: Task, Z: Ledger> Book<E, Z> {
         } = self;
         history.step(core);
         entries.add(&mut share.entries, 1);
+    }
+
+    /// Whether a block over so many frames may be committed: it is one of this machine and of a thread that runs, and where its
+    /// core has made no line since the block began, it is as the block begins.
+    pub fn may_commit(&self, block: &Block, frames: u32) -> bool
+        ensures frames { result ≡ true → frames ≡ frame_count self.now.history.machine.memory }
+        ensures core { result ≡ true → block.now.core < length self.now.history.machine.cores }
+        ensures running { result ≡ true → IsRunning self.now.history.machine block.now.core }
+        ensures state { result ≡ true → made_by self.now.history.machine block.now.core ≡ block.now.before.made
+            → state_at self.now.history.machine block.now.core ≡ block.now.before }
+    {
+        if frames != self.frames() || block.core >= self.cores() || self.ended(block.core) {
+            return false;
+        }
+        let now = self.core_state(block.core);
+        now.made != block.before.made || are_same_states(&now, &block.before)
     }
 
     /// Makes the steps of a block, if there is room and all that it read still holds: an entry of the journal for each, and one

@@ -53,6 +53,7 @@ fn jobs<E: Task, Z: Ledger>(
 /// Does a job.
 fn worker<E: Task, Z: Ledger, W: Wait, G: Gate>(
     rt: &W,
+    alloc: Global,
     book: &Mutex<Book<E, Z>>,
     gate: &G,
     block: u32,
@@ -61,7 +62,7 @@ fn worker<E: Task, Z: Ledger, W: Wait, G: Gate>(
     requires { 1 ≤ block }
 {
     let Job { core, share } = job;
-    let share = work(rt, book, gate, core, block, share)?;
+    let share = work(rt, alloc, book, gate, core, block, share)?;
     Ok(Stopped { share })
 }
 
@@ -126,14 +127,14 @@ fn on_threads<
     let stopped = thread::map_vec(
         rt,
         jobs,
-        &|job: Job<E, Z>| worker(rt, shared, gate, block, job),
+        &|job: Job<E, Z>| worker(rt, alloc, shared, gate, block, job),
     )?;
     gather(&mut all, stopped)?;
     Ok(audited(book.into_inner(), all))
 }
 
 /// Runs what was loaded, each core on a thread of its own, until nothing is left to do: each thread has ended, or so many steps
-/// were made. No return is promised. `block` has no effect yet.
+/// were made. No return is promised. `block` is the most steps that a worker makes outside the lock at one go.
 pub fn history_by_threads<R: Threads + Wait + Sync, G: Gate + Sync>(
     rt: &R,
     alloc: Global,
