@@ -4,7 +4,7 @@
 //! written and when each status comes. `main` hands it the standard streams, and a gate that does nothing.
 //!
 //! The way through: `words` (the command), `cores` (reading, threads, writing and statuses), `text` (what is written of a run).
-//! What they call: `sb_input` reads the bundle and loads it, and `sb_book` runs the cores, one step at each taking of a lock.
+//! What they call: `sb_input` reads the bundle and loads it, and `sb_book` runs the cores, in blocks of steps beside a lock.
 //!
 //! ```text
 //! skycores run --steps 100 --block 8 < five.bundle

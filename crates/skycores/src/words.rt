@@ -18,7 +18,7 @@ pub const MAX_BLOCK: u32 = 256;
 pub struct Run {
     /// The most steps of the run.
     pub steps: u32,
-    /// The most steps at one taking of the lock. It has no effect yet: each taking makes one step.
+    /// The most steps that a worker makes outside the lock at one go, and commits at one taking of it.
     pub block: u32,
     /// Whether the dump of the machine follows the report.
     pub dump: bool,
