@@ -14,3 +14,4 @@ pub mod Simulation
 pub mod Within
 pub mod NumberWords
 pub mod RowWords
+pub mod Touched

@@ -18,3 +18,4 @@ pub mod LoadThenStore
 pub mod Fetching
 pub mod Simulation
 pub mod Words
+pub mod Touching

@@ -30,6 +30,7 @@ mod operand;
 mod pair;
 mod rows;
 mod table;
+mod touch;
 mod words;
 mod write_back;
 
@@ -41,4 +42,5 @@ pub use pair::{
 };
 pub use sb_alu::{Operation, OperationOutcome, Size};
 pub use sb_bus::{Bus, BusStop, FaultKind};
+pub use touch::touches;
 pub use words::{executions_keep_words, rows_keep_words};

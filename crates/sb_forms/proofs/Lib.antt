@@ -20,3 +20,8 @@ pub mod Immediates
 pub mod Foreseen
 pub mod Across
 pub mod Joints
+pub mod Fields
+pub mod ValidPieces
+pub mod ValidMains
+pub mod ValidConstants
+pub mod ValidForms

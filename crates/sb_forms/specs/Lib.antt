@@ -8,3 +8,4 @@ pub mod Places
 pub mod Borders
 pub mod Immediates
 pub mod Laws
+pub mod Valid

@@ -4,6 +4,7 @@ ghost use Rattle.sb_forms.specs.Places.{BehindOpcode, AtModrm, AtLeastFive, InIm
 ghost use Rattle.sb_forms.specs.Immediates.{WithFour, WithEight};
 ghost use Rattle.sb_forms.specs.Borders.{NoneWithD4, OneWith01D4, AcrossBorder, FormsBorder};
 ghost use Rattle.sb_forms.specs.Laws.{HeldForeseen, Helpers, FormsSmall};
+ghost use Rattle.sb_forms.specs.Valid.{ReplacementsValid};
 
 /// Laws of the grammar: where the bytes of VMFUNC can stand in an instruction that is not VMFUNC.
 ///
@@ -37,6 +38,11 @@ pub fn free_helpers()
 #[tactic(auto, using(crate::proofs::Small::forms_small))]
 pub fn forms_small()
     ensures { FormsSmall }
+{}
+
+/// The instructions that the table puts in place of a valid one are valid: all that stand in its slot, and those in its place.
+pub fn replacements_valid()
+    ensures { ReplacementsValid }
 {}
 
 /// Which instructions have an immediate of four or of eight bytes.

@@ -29,7 +29,8 @@ pub use answer::Form;
 pub use code::Code;
 pub use helper::Helper;
 pub use laws::{
-    across_borders, forms_small, free_helpers, held_instructions, pattern_places, wide_immediates,
+    across_borders, forms_small, free_helpers, held_instructions, pattern_places,
+    replacements_valid, wide_immediates,
 };
 pub use pieces::jump_code;
 pub use places::form_applies;

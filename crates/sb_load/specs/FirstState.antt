@@ -4,14 +4,14 @@ use Rattle.sb_state.specs.State.{State, HasFewThreads}
 use Rattle.sb_state.specs.Start.{ProcessImage, ThreadEntry, start_state}
 use Rattle.sb_bundle.specs.declared.bundle.Image.{Image}
 use Rattle.sb_bundle.specs.declared.bundle.CoreStart.{CoreStart}
-use Rattle.sb_rewrite.specs.RewrittenText.{RewrittenText}
+use Rattle.sb_rewrite.specs.RewrittenText.{RewrittenText, map_of}
 use Rattle.sb_load.specs.Loading.{Load, IsLoadable}
 use Rattle.sb_load.specs.Need.{need_of, have_of}
 
 -- the image of a process: what its text becomes stands in place of the text
 abbrev pub image_of : Image → RewrittenText → ProcessImage
 image_of image made =
-    record { text = made.text; area = made.area; starts = made.starts; initial = image.initial; heap_pages = image.heap_pages }
+    record { text = made.text; area = made.area; map = map_of made; initial = image.initial; heap_pages = image.heap_pages }
 
 abbrev pub images_of : List Image → List RewrittenText → List ProcessImage
 images_of [] rewritten = []

@@ -8,7 +8,7 @@ use Rattle.sb_bundle.specs.declared.bundle.CoreStart.{CoreStart}
 use Rattle.sb_bundle.specs.Limits.{IsBundle}
 use Rattle.sb_rewrite.specs.declared.refusal.RewriteRefusal.{RewriteRefusal}
 use Rattle.sb_rewrite.specs.declared.refusal.RewriteRefusal.TheVariants as cause
-use Rattle.sb_rewrite.specs.RewrittenText.{RewrittenText, text_from_parts}
+use Rattle.sb_rewrite.specs.RewrittenText.{RewrittenText, rewritten_text}
 use Rattle.sb_rewrite.specs.Rewriting.{Rewrites}
 use Rattle.sb_load.specs.declared.refusal.LoadRefusal.{LoadRefusal}
 use Rattle.sb_load.specs.declared.refusal.LoadRefusal.TheVariants.{Process, BadEntry, NoFrames, Memory}
@@ -32,7 +32,7 @@ text_of images process = text_in (slice_get images process)
 
 -- what an empty text becomes
 abbrev pub nothing : RewrittenText
-nothing = text_from_parts [] [] [] [] []
+nothing = rewritten_text []
 
 -- what the text of a process becomes
 abbrev pub rewritten_of : List RewrittenText → ℕ → RewrittenText

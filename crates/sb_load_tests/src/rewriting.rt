@@ -2,7 +2,9 @@
 
 use crate::same::assert_same;
 use sb_insn::{Disp, Imm, Insn, Op};
-use sb_rewrite::{AREA_SIZE, Edit, ListRefusal, Listing, RewriteRefusal, Rewritten, list, rewrite};
+use sb_rewrite::{
+    AREA_SIZE, Edit, ListRefusal, Listing, Mark, RewriteRefusal, Rewritten, Starts, list, rewrite,
+};
 use std::alloc::{AllocError, Global};
 use std::test::Fail;
 
@@ -13,7 +15,7 @@ fn listed(alloc: Global, text: &[u8]) -> Result<Listing, ListRefusal> {
 
 /// Texts and where their instructions start, or why they have no listing.
 #[rattlefmt::skip]
-const LISTINGS: [(&str, &[u8], Result<&[u32], ListRefusal>); 6] = [
+const LISTINGS: [(&str, &[u8], Result<&[u64], ListRefusal>); 6] = [
     ("no byte", &[], Ok(&[])),
     ("three instructions", &[0xBF, 7, 0, 0, 0, 0x31, 0xC0, 0x0F, 5], Ok(&[0x40_0000, 0x40_0005, 0x40_0007])),
     ("the first byte", &[0xCC], Err(ListRefusal::Undecoded { at: 0x40_0000 })),
@@ -23,32 +25,28 @@ const LISTINGS: [(&str, &[u8], Result<&[u32], ListRefusal>); 6] = [
     ("an operand size prefix", &[0x66, 0x90], Err(ListRefusal::Undecoded { at: 0x40_0000 })),
 ];
 
-#[test]
-fn lists_instructions_or_says_where_none_stands(rt: HostRuntime) {
-    for (name, text, expected) in &LISTINGS {
-        match listed(rt.alloc(), text) {
-            Ok(listing) => assert_same(&rt, name, &Ok(listing.starts().items()), expected),
-            Err(refusal) => assert_same(&rt, name, &Err(refusal), expected),
+/// The starts around a short text.
+fn addresses(alloc: Global, starts: &Starts) -> Result<Vec<u64>, AllocError> {
+    let mut addresses = Vec::new(alloc);
+    for at in 0x3F_FFFF..0x40_0010 {
+        if starts.contains(at) {
+            addresses.push(at)?;
         }
     }
+    Ok(addresses)
 }
 
 #[test]
-fn knows_the_starts(rt: HostRuntime) -> Result<(), Fail> {
-    let text = [0xBF, 7, 0, 0, 0, 0x31, 0xC0];
-    let listing = listed(rt.alloc(), &text)?;
-    let mut starts = Vec::new(rt.alloc());
-    for at in 0x3F_FFFF..0x40_0009 {
-        if listing.is_start(at) {
-            starts.push(at)?;
+fn lists_instructions_or_says_where_none_stands(rt: HostRuntime) -> Result<(), Fail> {
+    for (name, text, expected) in &LISTINGS {
+        match listed(rt.alloc(), text) {
+            Ok(listing) => {
+                let starts = addresses(rt.alloc(), listing.starts())?;
+                assert_same(&rt, name, &Ok(starts.as_slice()), expected);
+            }
+            Err(refusal) => assert_same(&rt, name, &Err(refusal), expected),
         }
     }
-    assert_same(
-        &rt,
-        "starts",
-        &starts.as_slice(),
-        &[0x40_0000, 0x40_0005].as_slice(),
-    );
     Ok(())
 }
 
@@ -220,11 +218,38 @@ fn knows_what_runs_where(rt: HostRuntime) -> Result<(), Fail> {
     // NOP; VMFUNC; ADD EAX, 00D4010F; RET.
     let text = [0x90, 0x0F, 0x01, 0xD4, 0x05, 0x0F, 0x01, 0xD4, 0, 0xC3];
     let made = rewritten(rt.alloc(), &text)?;
-    let starts = [0x40_0000, 0x40_0001, 0x40_0004, 0x40_0009];
-    assert_same(&rt, "starts", &made.starts().items(), &starts.as_slice());
+    let expected = [0x40_0000, 0x40_0001, 0x40_0004, 0x40_0009];
+    let starts = addresses(rt.alloc(), made.starts())?;
+    assert_same(&rt, "starts", &starts.as_slice(), &expected.as_slice());
     assert_same(&rt, "edits", &made.edits().items(), &MIXED_EDITS.as_slice());
     for (name, at, start) in &PLACES {
         assert_same(&rt, name, &made.original_of(*at), start);
+    }
+    Ok(())
+}
+
+/// Names, where a step of that text is and goes, whether it accesses the scratch page, and its mark.
+#[rattlefmt::skip]
+const MARKS: [(&str, u64, u64, bool, Mark); 10] = [
+    ("a start that was kept", 0x40_0000, 0x40_0001, false, Mark::Step),
+    ("the first NOP in place of VMFUNC", 0x40_0001, 0x40_0002, false, Mark::Step),
+    ("the second", 0x40_0002, 0x40_0003, false, Mark::Extra),
+    ("the third", 0x40_0003, 0x40_0004, false, Mark::Extra),
+    ("the jump to the slot", 0x40_0004, 0x1000, false, Mark::Extra),
+    ("the slot's first instruction", 0x1000, 0x1008, true, Mark::Extra),
+    ("the one before the main", 0x100F, 0x1016, false, Mark::Extra),
+    ("the main", 0x1016, 0x1018, false, Mark::Step),
+    ("the jump behind it", 0x1020, 0x40_0009, false, Mark::Extra),
+    ("a jump into the slot", 0x40_0009, 0x1016, false, Mark::Stray),
+];
+
+#[test]
+fn marks_steps(rt: HostRuntime) -> Result<(), Fail> {
+    // NOP; VMFUNC; ADD EAX, 00D4010F; RET.
+    let text = [0x90, 0x0F, 0x01, 0xD4, 0x05, 0x0F, 0x01, 0xD4, 0, 0xC3];
+    let made = rewritten(rt.alloc(), &text)?;
+    for (name, at, next, scratch, mark) in &MARKS {
+        assert_same(&rt, name, &made.mark(*at, *next, *scratch), mark);
     }
     Ok(())
 }

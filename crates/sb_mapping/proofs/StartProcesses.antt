@@ -5,6 +5,7 @@ use Rattle.std.proofs.lemmas.Bool.{ne_eqb}
 use Rattle.std.proofs.lemmas.Bool.Decides.{Decides-eqb}
 use Rattle.std.proofs.lemmas.List.{length-append}
 use Rattle.sb_memory.specs.Physical.{Physical}
+use Rattle.sb_slots.specs.TextMap.{no_map}
 use Rattle.sb_frames.specs.Book.{Book}
 use Rattle.sb_pagewalk.specs.declared.table_set.TableSet.{TableSet}
 use Rattle.sb_root.specs.declared.root_kernel.RootKernel.{RootKernel}
@@ -60,7 +61,7 @@ module _ (placement : Placement) (root : RootKernel) (book between : Book) (memo
 
   can_by : CanTake set root between mid
   can_by =
-      let process : Process = record { starts = []; heap_pages = 0; registration = None } in
+      let process : Process = record { map = no_map; heap_pages = 0; registration = None } in
       subst (λ (one : TableSet). CanTake one root between mid) set_here
       (can_take (placed_tables placement (length state.processes) tables.adds.set) root between mid
       (with_new_process state process) (carries_tables process) (length state.processes) (there process))

@@ -1,7 +1,3 @@
-pub mod ValidPieces
-pub mod ValidMains
-pub mod ValidConstants
-pub mod ValidForms
 pub mod Spelled
 pub mod Slots
 pub mod Placed

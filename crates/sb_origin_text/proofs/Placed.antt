@@ -26,10 +26,10 @@ use Rattle.sb_original.specs.Going.{passing_row, original_row}
 use Rattle.sb_origin_run.specs.Machine.{Code}
 use Rattle.sb_origin_run.specs.Position.{Position, Same, Changed, Entry, AtOnce, Nowhere, HasNext, behind}
 use Rattle.sb_origin_run.specs.Text.{IsReplaced, IsPlaced}
-use Rattle.sb_origin_text.specs.Valid.{AreValid}
+use Rattle.sb_forms.specs.Valid.{AreValid}
 use Rattle.sb_origin_text.specs.Positions.{slot_of, post_position, in_place, in_slot, slot_size}
 use Rattle.sb_origin_text.specs.Codes.{HasBytes}
-use Rattle.sb_origin_text.proofs.ValidPieces.{jump_valid}
+use Rattle.sb_forms.proofs.ValidPieces.{jump_valid}
 use Rattle.sb_origin_text.proofs.Spelled.{first_code, code_behind}
 use Rattle.sb_origin_text.proofs.Slots.{elsewhere, by_address, behind_is, AgreesPost, post_first, post_placed, pre_first, HasLast, pre_placed}
 

@@ -25,7 +25,7 @@ use Rattle.sb_origin_run.specs.Position.{Position}
 use Rattle.sb_origin_run.specs.Text.{IsPlaced}
 use Rattle.sb_origin_text.specs.Positions.{in_place, in_slot, replacement_at, slot_size, text_position, area_position}
 use Rattle.sb_origin_text.specs.Codes.{HasBytes}
-use Rattle.sb_origin_text.proofs.ValidForms.{replacements_valid}
+use Rattle.sb_forms.proofs.ValidForms.{replacements_valid}
 use Rattle.sb_origin_text.proofs.Spelled.{first_code, code_behind}
 use Rattle.sb_origin_text.proofs.Placed.{IsOne, has_post, text_one, slot_one}
 

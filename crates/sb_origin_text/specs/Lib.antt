@@ -1,4 +1,3 @@
-pub mod Valid
 pub mod Positions
 pub mod Codes
 pub mod Fetched

@@ -3,4 +3,4 @@
 
 mod laws;
 
-pub use laws::{codes_fetched, replacements_valid, text_is_made, texts_give_codes};
+pub use laws::{codes_fetched, text_is_made, texts_give_codes};

@@ -52,7 +52,7 @@ use Rattle.sb_original.specs.Work.{constant_operation, is_imm_form, IsConstantWo
 use Rattle.sb_original.specs.Alike.{AlikeBut}
 use Rattle.sb_original.proofs.Registers.{value_same}
 use Rattle.sb_original.proofs.Alike.{compute_alike}
-use Rattle.sb_original.proofs.Fields.{with_w}
+use Rattle.sb_forms.proofs.Fields.{with_w}
 
 -- ---- which operation
 

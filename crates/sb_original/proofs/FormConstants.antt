@@ -43,7 +43,7 @@ use Rattle.sb_original.specs.Alike.{hides, NamesNone}
 use Rattle.sb_original.specs.Slot.{Slotted, saved}
 use Rattle.sb_original.proofs.Saves.{save_done_first, save_done_second, staged_done, staged_then, address_saves, constant_saves}
 use Rattle.sb_original.specs.Original.{Save, Stage, insns_of, Before, staged, FormLaw}
-use Rattle.sb_original.proofs.Fields.{with_b_0, with_b, helper_not_0}
+use Rattle.sb_forms.proofs.Fields.{with_b_0, with_b, helper_not_0}
 use Rattle.sb_original.proofs.Memory.{memory_place, memory_mod}
 use Rattle.sb_original.proofs.Classes.{number_shown}
 use Rattle.sb_original.proofs.Helpers.{first_unnamed, helpers_differ}

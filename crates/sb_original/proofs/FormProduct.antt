@@ -44,7 +44,7 @@ use Rattle.sb_original.specs.Words.{Words}
 use Rattle.sb_original.specs.Kept.{AgreeBut, FollowBut, IsShown}
 use Rattle.sb_original.specs.Alike.{hides}
 use Rattle.sb_original.specs.Slot.{Slotted, Does}
-use Rattle.sb_original.proofs.Fields.{with_w}
+use Rattle.sb_forms.proofs.Fields.{with_w}
 use Rattle.sb_original.proofs.Registers.{follow_with, value_same}
 use Rattle.sb_original.proofs.Operands.{register_place, with_r_0}
 use Rattle.sb_original.proofs.Pieces.{plain_row, plain_does}

@@ -10,7 +10,7 @@ use Rattle.sb_original.proofs.Pieces.{save_does}
 use Rattle.sb_original.proofs.Helpers.{second_unnamed, first_unnamed, helpers_differ}
 use Rattle.sb_original.proofs.Classes.{number_shown}
 use Rattle.sb_original.proofs.Memory.{memory_place, memory_mod}
-use Rattle.sb_original.proofs.Fields.{with_b}
+use Rattle.sb_forms.proofs.Fields.{with_b}
 use Rattle.sb_original.proofs.Saves.{save_done_first, save_done_second, staged_done, staged_then, address_saves, constant_saves}
 use Rattle.sb_original.specs.Work.{IsEntered}
 use Rattle.sb_forms.proofs.Leads.{b_1}

@@ -43,7 +43,7 @@ use Rattle.sb_original.specs.Alike.{AlikeBut, hides}
 use Rattle.sb_original.specs.Slot.{Slotted, saved}
 use Rattle.sb_original.proofs.Saves.{save_done_first, staged_done, constant_saves}
 use Rattle.sb_original.specs.Original.{Stage, insns_of, Before, staged, FormLaw}
-use Rattle.sb_original.proofs.Fields.{helper_not_4}
+use Rattle.sb_forms.proofs.Fields.{helper_not_4}
 use Rattle.sb_original.proofs.Alike.{push_follows, top_same}
 use Rattle.sb_original.proofs.Pieces.{save_does}
 use Rattle.sb_original.proofs.Chains.{before_rip}

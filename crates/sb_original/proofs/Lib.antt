@@ -1,7 +1,6 @@
 pub mod PieceRows
 pub mod Registers
 pub mod Alike
-pub mod Fields
 pub mod Memory
 pub mod Classes
 pub mod Mains

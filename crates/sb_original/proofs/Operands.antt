@@ -15,7 +15,7 @@ use Rattle.sb_forms.specs.declared.mains.RmOperand.{RmOperand}
 use Rattle.sb_insn.specs.Rex.{with_r_b}
 use Rattle.sb_forms.specs.Registers.{number_of}
 use Rattle.sb_forms.specs.Mains.{at_helper, with_constant}
-use Rattle.sb_original.proofs.Fields.{with_b_0, helper_not_4, at_mod, at_reg, at_rm}
+use Rattle.sb_forms.proofs.Fields.{with_b_0, helper_not_4, at_mod, at_reg, at_rm}
 use Rattle.sb_original.proofs.Memory.{memory_place, rm_base}
 use Rattle.sb_forms.proofs.QuietPieces.{number_7}
 

@@ -1,14 +1,12 @@
 //! The plain machine at its start.
 
 ghost use Rattle.std.specs.Prelude.{◌≡◌, IfOk, length, map};
-ghost use Rattle.std.specs.List.Sorted.{IsStrictlyIncreasing};
 ghost use Rattle.sb_state.specs.Start.{start_process};
 ghost use Rattle.sb_trace.specs.Sound.{IsSound};
 ghost use Rattle.sb_plain.specs.Start.{image_of, images_loaded, first_state};
 
 use crate::plain::Plain;
 use sb_bundle::Image;
-use sb_list::Listed;
 use sb_load::Loaded;
 use sb_rewrite::Rewritten;
 use sb_state::{PlainState, Process, no_thread};
@@ -23,11 +21,9 @@ use threads::{start_flights, start_threads};
 
 /// A process that is no server yet.
 fn start_process(alloc: Global, image: &Image, made: &Rewritten) -> Result<Process, AllocError>
-    requires { IsStrictlyIncreasing made.now.starts }
     ensures { IfOk result (λ process. process ≡ start_process (image_of image.now made.now)) }
 {
-    let starts = Listed::new(Vec::from_slice(alloc, made.starts().items())?);
-    Ok(Process::new(starts, image.heap_pages))
+    Ok(Process::new(made.map().copied(alloc)?, image.heap_pages))
 }
 
 /// The processes at the start, by their numbers.

@@ -11,7 +11,7 @@ use Rattle.sb_rewrite.specs.Listing.{text_address, spelled_bytes, AllValid, star
 
 -- ---- the instructions
 
-pub NoneBegins : List ℕ → Type 0
+unfoldable pub NoneBegins : List ℕ → Type 0
 NoneBegins rest = (insn : Insn) → ¬ BeginsWith rest insn
 
 pub nothing_begins : NoneBegins []

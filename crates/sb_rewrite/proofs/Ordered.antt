@@ -1,8 +1,7 @@
--- Starts come in order, and so do moves.
-use Rattle.std.proofs.Common.{◌≡◌, ℕ, zero, suc, ◌+◌, ◌<◌, ◌≤◌, Bool, List, [], ◌∷◌, ◌++◌, length, get_or, refl, ap, sym, subst, arith, length-append}
+-- Starts come in order, and so do moves and slots.
+use Rattle.std.proofs.Common.{◌≡◌, ℕ, ◌+◌, ◌<◌, Bool, List, [], ◌∷◌, ◌++◌, length, refl, ap, sym, subst, arith, length-append}
 use Rattle.std.specs.Prelude.{map, flat_map}
 use Rattle.std.specs.List.Sorted.{IsStrictlyIncreasing}
-use native.Mathlib.Numerals.{unary_clauses}
 use Rattle.sb_insn.specs.declared.insn.Insn.{Insn}
 use Rattle.sb_insn.specs.Spelling.{spelling}
 use Rattle.sb_forms.specs.declared.answer.Form.{Form}
@@ -15,27 +14,10 @@ use Rattle.sb_rewrite.specs.RewrittenText.{rewritten_text, moves_of, moves_by, I
 use Rattle.sb_rewrite.specs.Rewriting.{ArePlaces}
 use Rattle.sb_rewrite.proofs.OneListing.{rises}
 use Rattle.sb_rewrite.proofs.Placed.{starts_placed}
+use Rattle.sb_rewrite.proofs.Originals.{start_of, main_of}
+use Rattle.sb_rewrite.proofs.Rising.{Rising, rising_from, increasing}
+use Rattle.sb_rewrite.proofs.OrderedSlots.{slots_are_moves, passes_rise, vmfuncs_rise}
 use Rattle.sb_decode.proofs.Exact.{some_spelling}
-
--- each number is behind the one before, and the first is no less than this
-Rising : ℕ → List ℕ → Type 0
-Rising low [] = Unit {0}
-Rising low (first ∷ rest) = (low ≤ first) × Rising (first + 1) rest
-
-rising_from : (low lower : ℕ) (numbers : List ℕ) → lower ≤ low → Rising low numbers → Rising lower numbers
-unfolding Rising
-rising_from low lower [] less rising = tt
-rising_from low lower (first ∷ rest) less rising = (omega (arith, rising.0), rising.1)
-
-increasing : (low : ℕ) (numbers : List ℕ) → Rising low numbers → IsStrictlyIncreasing numbers
-unfolding Rising
-increasing low [] rising k less = absurd (omega arith)
-increasing low (first ∷ []) rising k less = absurd (omega arith)
-increasing low (first ∷ second ∷ rest) rising zero less = omega (arith, rising.1.0)
-increasing low (first ∷ second ∷ rest) rising (suc k) less =
-    let next : get_or (second ∷ rest) k 0 < get_or (second ∷ rest) (k + 1) 0 =
-    increasing (first + 1) (second ∷ rest) rising.1 k (omega arith) in
-    simp unary_clauses (simp unary_clauses at next)
 
 -- a moved instruction has a main
 some_main : (one : Replacement) (pre main post : List ℕ) → bytes_of one ≡ form.Moved pre main post → 0 < length main
@@ -60,12 +42,6 @@ form_has_main : (insn : Insn) (at slot : ℕ) (after_0f : Bool) → has_main (fo
 unfolding form_of
 form_has_main insn at slot after_0f =
     by_form (replacement insn (site_of insn at slot) after_0f) (bytes_of (replacement insn (site_of insn at slot) after_0f)) refl
-
-abbrev start_of : Move → ℕ
-start_of one = one.start
-
-abbrev main_of : Move → ℕ
-main_of one = one.main
 
 -- the move of an instruction, if it has one, before those of later ones
 first_start : (made : Form) (insn : Insn) (at slot next : ℕ) (later : List Move) → at < next → Rising next (map start_of later)
@@ -117,11 +93,19 @@ mains_rise text at slot (insn ∷ insns) =
 -- what is made of the instructions of a text is in order
 pub ordered : (text : List ℕ) (of_text : List Placement) → ArePlaces text of_text → IsOrdered (rewritten_text of_text)
 ordered text of_text are =
-    let all : IsOrdered (rewritten_text (places text are.insns)) = record {
+    let of_all : List Placement = places text are.insns in
+    let same = slots_are_moves of_all in
+    let moved = increasing text_address _ (starts_rise text text_address area_address are.insns) in
+    let mains = increasing area_address _ (mains_rise text text_address area_address are.insns) in
+    let all : IsOrdered (rewritten_text of_all) = record {
       starts =
           subst (λ (list : List ℕ). IsStrictlyIncreasing list) (sym (starts_placed text text_address area_address are.insns))
           (rises text_address are.insns);
-      moved = increasing text_address _ (starts_rise text text_address area_address are.insns);
-      mains = increasing area_address _ (mains_rise text text_address area_address are.insns);
+      moved = moved;
+      mains = mains;
+      slots = subst (λ (list : List ℕ). IsStrictlyIncreasing list) (sym same.0) moved;
+      slot_mains = subst (λ (list : List ℕ). IsStrictlyIncreasing list) (sym same.1) mains;
+      passes = increasing area_address _ (passes_rise text text_address area_address are.insns);
+      vmfuncs = increasing text_address _ (vmfuncs_rise text text_address area_address are.insns);
     } in
     subst (λ (list : List Placement). IsOrdered (rewritten_text list)) (sym are.places_are) all

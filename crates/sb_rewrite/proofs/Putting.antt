@@ -9,11 +9,14 @@ use Rattle.sb_insn.specs.declared.insn.Insn.{Insn}
 use Rattle.sb_forms.specs.Places.{HasForm, NotInJumps}
 use Rattle.sb_rewrite.specs.declared.edit.Edit.{Edit}
 use Rattle.sb_rewrite.specs.declared.edit.Move.{Move}
+use Rattle.sb_slots.specs.declared.slot.Slot.{Slot}
+use Rattle.sb_slots.specs.declared.slot.Pass.{Pass}
 use Rattle.sb_rewrite.specs.declared.text_insn.TextInsn.{TextInsn}
 use Rattle.sb_rewrite.specs.declared.target.Jump.{Jump}
 use Rattle.sb_rewrite.specs.Listing.{text_address, spelled_bytes, starts_from}
 use Rattle.sb_rewrite.specs.Target.{direct_target}
 use Rattle.sb_rewrite.specs.Placing.{Placement, place, places_from, places, area_address}
+use Rattle.sb_rewrite.specs.Slots.{slots_of, passes_of, vmfuncs_of}
 use Rattle.sb_rewrite.specs.RewrittenText.{RewrittenText, starts_of, text_bytes, area_bytes, edits_of, moves_of}
 use Rattle.sb_rewrite.specs.Rewriting.{HasBadTarget, IsUnmovable, EndsBehindArea, NoneOf, IsFirstAt, ArePlaces}
 use Rattle.sb_rewrite.specs.Turns.{IsFirstInsn, IsFar, jumps_to, started, with_start, with_place, Puts, IsAllPut}
@@ -31,6 +34,9 @@ pub record IsMade (draft : RewrittenText) (of_text : List Placement) : Type 0 wh
   pub area : draft.area ≡ flat_map area_bytes of_text
   pub edits : draft.edits ≡ flat_map edits_of of_text
   pub moves : draft.moves ≡ flat_map moves_of of_text
+  pub slots : draft.slots ≡ flat_map slots_of of_text
+  pub passes : draft.passes ≡ flat_map passes_of of_text
+  pub vmfuncs : draft.vmfuncs ≡ flat_map vmfuncs_of of_text
 
 -- it is made of the instructions that spell the text up to its rest, and these are their jumps
 pub record PutSoFar (text rest : List ℕ) (draft : RewrittenText) (jumps : List Jump) : Type 0 where
@@ -45,7 +51,15 @@ pub nothing_put : (text : List ℕ) (jumps : List Jump) → jumps ≡ [] → Put
 unfolding places_from starts_from
 nothing_put text jumps none = record {
   partway = record { insns = []; valid = tt; whole = refl; starts_are = refl };
-  made = record { text = refl; area = refl; edits = refl; moves = refl };
+  made = record {
+    text = refl;
+    area = refl;
+    edits = refl;
+    moves = refl;
+    slots = refl;
+    passes = refl;
+    vmfuncs = refl;
+  };
   jumps_are = none;
   near = tt;
   movable = tt;
@@ -108,6 +122,9 @@ made_more draft at of_text one made = record {
   area = ap (λ (bytes : List ℕ). bytes ++ area_bytes one) made.area ∙ flat_map_more area_bytes [] of_text one;
   edits = ap (λ (edits : List Edit). edits ++ edits_of one) made.edits ∙ flat_map_more edits_of [] of_text one;
   moves = ap (λ (moves : List Move). moves ++ moves_of one) made.moves ∙ flat_map_more moves_of [] of_text one;
+  slots = ap (λ (slots : List Slot). slots ++ slots_of one) made.slots ∙ flat_map_more slots_of [] of_text one;
+  passes = ap (λ (passes : List Pass). passes ++ passes_of one) made.passes ∙ flat_map_more passes_of [] of_text one;
+  vmfuncs = ap (λ (vmfuncs : List ℕ). vmfuncs ++ vmfuncs_of one) made.vmfuncs ∙ flat_map_more vmfuncs_of [] of_text one;
 }
 
 pub one_put : (text rest : List ℕ) (draft new : RewrittenText) (jumps more_jumps : List Jump) (text_insn : TextInsn)
@@ -193,5 +210,8 @@ module _ (text rest : List ℕ) (draft : RewrittenText) (jumps : List Jump) (so_
           starts = starts_are_placed i;
           edits = so_far.made.edits i;
           moves = so_far.made.moves i;
+          slots = so_far.made.slots i;
+          passes = so_far.made.passes i;
+          vmfuncs = so_far.made.vmfuncs i;
         }),
       )

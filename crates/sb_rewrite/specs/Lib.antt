@@ -1,8 +1,8 @@
-pub mod StartBits
 pub mod Listing
 pub mod Target
 pub mod Refusals
 pub mod Placing
+pub mod Slots
 pub mod RewrittenText
 pub mod Rewriting
 pub mod Turns

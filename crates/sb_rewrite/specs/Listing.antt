@@ -1,21 +1,18 @@
 -- The instructions of a text, one after another from its first byte to its last.
 use Rattle.std.specs.Prelude.{◌≡◌, ℕ, ◌+◌, ◌<◌, List, [], ◌∷◌, ◌++◌, length, Result, Ok, Err}
-use Rattle.std.specs.List.{AllByRecursion}
 use Rattle.std.specs.List.Sorted.{IsStrictlyIncreasing}
 use Rattle.sb_abi.specs.declared.space.TheConstants.{TEXT_ADDRESS}
 use Rattle.sb_insn.specs.declared.insn.Insn.{Insn}
 use Rattle.sb_insn.specs.Spelling.{spelling}
-use Rattle.sb_insn.specs.Grammar.{IsValid, BeginsWith}
+use Rattle.sb_insn.specs.Grammar.{BeginsWith}
 pub use Rattle.sb_forms.specs.Table.{spelled_bytes}
+pub use Rattle.sb_forms.specs.Valid.{AllValid}
 use Rattle.sb_rewrite.specs.declared.refusal.ListRefusal.{ListRefusal}
 use Rattle.sb_rewrite.specs.declared.refusal.ListRefusal.TheVariants.{Undecoded, Memory}
 
 -- where the text of a process stands
 abbrev pub text_address : ℕ
 text_address = TEXT_ADDRESS
-
-abbrev pub AllValid : List Insn → Type 0
-AllValid insns = AllByRecursion IsValid insns
 
 -- where instructions start that stand one after another from an address on
 unfoldable pub starts_from : ℕ → List Insn → List ℕ

@@ -14,7 +14,8 @@ use Rattle.sb_forms.specs.Places.{text_end, IsPermitted, text_end}
 use Rattle.sb_forms.specs.declared.answer.Form.{Form}
 use Rattle.sb_forms.specs.declared.answer.Form.TheVariants as form
 use Rattle.sb_rewrite.specs.Placing.{Placement, area_address, place}
-use Rattle.sb_rewrite.specs.RewrittenText.{RewrittenText, rewritten_text, starts_of, text_bytes, area_bytes, edits_of, moves_of}
+use Rattle.sb_rewrite.specs.RewrittenText.{RewrittenText, rewritten_text, starts_of, text_bytes, area_bytes, edits_of, moves_of, text_from_parts}
+use Rattle.sb_rewrite.specs.Slots.{slots_of, passes_of, vmfuncs_of}
 use Rattle.sb_rewrite.specs.Rewriting.{HasBadTarget, IsUnmovable, EndsBehindArea, NoneOf, IsFirstAt, ArePlaces, LeadsWell, FitsArea}
 
 -- ---- an instruction
@@ -50,7 +51,7 @@ moved pre main post = form.Moved pre main post
 
 -- nothing is put yet
 abbrev pub started : RewrittenText
-started = record { text = []; area = []; starts = []; edits = []; moves = [] }
+started = text_from_parts [] [] [] [] [] [] [] []
 
 -- an instruction with this in its place, and the slot that comes next
 abbrev pub next_place : RewrittenText → Insn → ℕ → Form → Placement
@@ -62,8 +63,7 @@ place_by_table text old text_insn = place text text_insn.at (area_address + leng
 
 -- one more instruction starts
 abbrev pub with_start : RewrittenText → ℕ → RewrittenText
-with_start old at =
-    record { text = old.text; area = old.area; starts = old.starts ++ at ∷ []; edits = old.edits; moves = old.moves }
+with_start old at = record old { starts = old.starts ++ at ∷ [] }
 
 -- what stands in its place is put
 abbrev pub with_place : RewrittenText → Placement → RewrittenText
@@ -73,6 +73,9 @@ with_place old place = record {
   starts = old.starts;
   edits = old.edits ++ edits_of place;
   moves = old.moves ++ moves_of place;
+  slots = old.slots ++ slots_of place;
+  passes = old.passes ++ passes_of place;
+  vmfuncs = old.vmfuncs ++ vmfuncs_of place;
 }
 
 abbrev pub Puts : RewrittenText → RewrittenText → Placement → Result (Unit {0}) RewriteRefusal → Type 0

@@ -18,10 +18,10 @@
 mod draft;
 mod edit;
 mod listing;
+mod passes;
 mod refusal;
 mod rewriting;
 mod rewritten;
-mod starts;
 mod target;
 mod text_insn;
 
@@ -34,4 +34,4 @@ pub use rewriting::{
 };
 pub use rewritten::Rewritten;
 pub use sb_abi::{AREA_ADDRESS, TEXT_ADDRESS};
-pub use starts::Starts;
+pub use sb_slots::{Mark, Pass, Slot, Starts, TextMap};

@@ -4,9 +4,9 @@ ghost use Rattle.std.specs.Prelude.{◌≡◌, ◌↔◌, IsTrue, IfOk, Contains
 ghost use Rattle.sb_rewrite.specs.Listing.{Lists, OneListing, OnePlace, ListedApart, StartsRise};
 
 use crate::refusal::ListRefusal;
-use crate::starts::Starts;
 use sb_abi::TEXT_ADDRESS;
 use sb_decode::decode;
+use sb_slots::Starts;
 use std::alloc::{AllocError, Global};
 use std::marker::Model;
 
@@ -64,8 +64,7 @@ impl Listing {
 /// # Errors
 ///
 /// `Undecoded` exactly where whole instructions spell a beginning of the text, and behind it something is left with which
-/// no whole instruction begins; `Memory` where memory ran out, in place of any answer, and where the text goes on behind the
-/// addresses of 32 bits.
+/// no whole instruction begins; `Memory` where memory ran out, in place of any answer.
 pub fn list(alloc: Global, text: &[u8]) -> Result<Listing, ListRefusal>
     ensures { Lists text.now result }
 {

@@ -1,6 +1,7 @@
 //! The rewriting of a text.
 
 ghost use Rattle.std.specs.Prelude.{◌≡◌, ◌+◌, ◌<◌, ◌≤◌, IfOk, Err, length};
+ghost use Rattle.std.specs.List.{AllByRecursion};
 ghost use Rattle.sb_forms.specs.Answers.{IsClean};
 ghost use Rattle.sb_forms.specs.Places.{HasForm};
 ghost use Rattle.sb_rewrite.specs.Listing.{text_address, IsListing};
@@ -87,6 +88,7 @@ fn put_text_insn(draft: &mut Draft, text: &[u8], text_insn: &TextInsn) -> Result
     requires text_insn { IsTextInsn text_insn.now }
     requires form { HasForm text_insn.now.insn }
     requires within { (text_address ≤ text_insn.now.at) × (text_insn.now.at < text_address + length text.now) }
+    requires above { AllByRecursion (λ start. start < text_insn.now.at) draft.old.starts }
     ensures { Puts (with_start draft.old text_insn.now.at) draft.new (place_by_table text.now draft.old text_insn.now) result }
 {
     draft.start(text_insn.at)?;

@@ -1,10 +1,11 @@
 //! A text that was rewritten.
 
-ghost use Rattle.std.specs.Prelude.{◌≡◌, ◌↔◌, IsTrue, Contains, List, ℕ};
-ghost use Rattle.sb_rewrite.specs.RewrittenText.{IsOrdered, IsMoved, IsInPlace, IsMovedTo, IsOriginal, text_from_parts};
+ghost use Rattle.std.specs.Prelude.{◌≡◌, ◌↔◌, IsTrue, Contains, List, ℕ, length};
+ghost use Rattle.sb_rewrite.specs.RewrittenText.{IsOrdered, IsMoved, IsInPlace, IsMovedTo, IsOriginal, text_from_parts, map_of};
+ghost use Rattle.sb_slots.specs.Marks.{mark};
 
 use crate::edit::{Edit, Edits, Move};
-use crate::starts::Starts;
+use sb_slots::{Mark, Slot, Starts, TextMap};
 use std::marker::Model;
 
 /// A text that was rewritten, and its rewrite area: to contracts, bytes and lists.
@@ -12,12 +13,13 @@ use std::marker::Model;
 pub struct Rewritten {
     text: Vec<u8>,
     area: Vec<u8>,
-    starts: Starts,
     edits: Edits,
     moves: Vec<Move>,
+    map: TextMap,
 }
 
 impl Model for Rewritten {
+    ghost use Rattle.std.specs.Prelude.{◌≡◌, length};
     ghost use Rattle.sb_rewrite.specs.RewrittenText.{RewrittenText, IsOrdered};
 
     ghost Value = { RewrittenText };
@@ -25,18 +27,25 @@ impl Model for Rewritten {
     ghost view = { λ made. record {
       text = made.text.items;
       area = made.area.items;
-      starts = made.starts;
+      starts = made.map.starts;
       edits = made.edits;
       moves = made.moves.items;
+      slots = made.map.slots;
+      passes = made.map.passes;
+      vmfuncs = made.map.vmfuncs;
     } };
 
     ghost invariant = { λ made. IsOrdered (record {
       text = made.text.items;
       area = made.area.items;
-      starts = made.starts;
+      starts = made.map.starts;
       edits = made.edits;
       moves = made.moves.items;
-    }) };
+      slots = made.map.slots;
+      passes = made.map.passes;
+      vmfuncs = made.map.vmfuncs;
+    })
+        × (made.map.size ≡ length made.text.items) × (made.map.area_size ≡ length made.area.items) };
 }
 
 impl Rewritten {
@@ -44,19 +53,23 @@ impl Rewritten {
     pub(crate) fn new(
         text: Vec<u8>,
         area: Vec<u8>,
-        starts: Starts,
         edits: Vec<Edit>,
         moves: Vec<Move>,
+        map: TextMap,
     ) -> Rewritten
-        requires { IsOrdered (text_from_parts text.items area.items starts edits.items moves.items) }
-        ensures { result ≡ text_from_parts text.items area.items starts edits.items moves.items }
+        requires ordered { IsOrdered (text_from_parts text.items area.items map.starts edits.items moves.items map.slots map.passes
+            map.vmfuncs) }
+        requires text { map.size ≡ length text.items }
+        requires area { map.area_size ≡ length area.items }
+        ensures { result ≡ text_from_parts text.items area.items map.starts edits.items moves.items map.slots map.passes
+            map.vmfuncs }
     {
         Rewritten {
             text,
             area,
-            starts,
             edits: Edits::new(edits),
             moves,
+            map,
         }
     }
 
@@ -78,7 +91,7 @@ impl Rewritten {
     pub fn starts(&self) -> &Starts
         ensures { result.now ≡ self.now.starts }
     {
-        &self.starts
+        self.map.starts()
     }
 
     /// The starts at which the text has other bytes than before, in order.
@@ -88,11 +101,33 @@ impl Rewritten {
         &self.edits
     }
 
+    /// Where the instructions of the old text start, and what stands in place of those that were replaced.
+    pub fn map(&self) -> &TextMap
+        ensures { result.now ≡ map_of self.now }
+    {
+        &self.map
+    }
+
+    /// The slots of the moved instructions, in the order of these.
+    pub fn slots(&self) -> &[Slot]
+        ensures { result.now ≡ self.now.slots }
+    {
+        self.map.slots()
+    }
+
+    /// What the step of an instruction at the address is to the old text, where RIP is `next` after it, and `scratch` says
+    /// whether it accessed the scratch page (docs/MARKS.md).
+    pub fn mark(&self, at: u64, next: u64, scratch: bool) -> Mark
+        ensures { result ≡ mark (map_of self.now) at next scratch }
+    {
+        self.map().mark(at, next, scratch)
+    }
+
     /// Whether an instruction of the old text starts at the address.
     pub fn is_start(&self, at: u64) -> bool
         ensures { IsTrue result ↔ Contains self.now.starts at }
     {
-        self.starts.contains(at)
+        self.starts().contains(at)
     }
 
     /// Whether the instruction that starts at the address was moved.

@@ -7,10 +7,10 @@ ghost use Rattle.sb_rewrite.specs.Turns.{is_in_text, Remembers, ChecksJumps};
 
 use crate::listing::Listing;
 use crate::refusal::RewriteRefusal;
-use crate::starts::Starts;
 use crate::text_insn::TextInsn;
 use sb_abi::{TEXT_ADDRESS, TRAMPOLINE_ADDRESS, WINDOW_PAGES};
 use sb_memory::PAGE_SIZE;
+use sb_slots::Starts;
 
 /// A direct jump or call that leads to an address that a text can have.
 #[derive(Clone, Copy, Debug)]

@@ -10,6 +10,7 @@ use Rattle.sb_memory.specs.Physical.{Physical, HasSize, frame_count}
 use Rattle.sb_memory.specs.Words.{word_at, put_word, zeros as so_many_zeros}
 use Rattle.sb_memory.specs.declared.address.Frame.{Frame}
 use Rattle.sb_memory.proofs.Words.{word_read_back, byte_in_word, word_of_same_bytes, zero_in_zeros}
+use Rattle.sb_slots.specs.TextMap.{no_map}
 use Rattle.sb_exec.proofs.RowWords.{either_number}
 use Rattle.sb_walks.specs.Entry.{entry_in}
 use Rattle.sb_pagewalk.specs.declared.table_set.TableSet.{TableSet}
@@ -326,7 +327,7 @@ home_thread : Thread
 home_thread = start_thread 0 (record { home = 0; address = 0x400000 })
 
 one_process : Process
-one_process = record { starts = []; heap_pages = 0; registration = None }
+one_process = record { map = no_map; heap_pages = 0; registration = None }
 
 abbrev state : State
 state =

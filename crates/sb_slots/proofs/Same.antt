@@ -15,3 +15,9 @@ same_as_listed test addresses at tells =
     (λ no. no ∙ sym (false_from_ne_true (is_listed addresses at) (λ listed.
     false≢true (sym no ∙ tells.1 (listed_contained addresses at listed)))))
     (cases_Bool test)
+
+-- and whether the list contains it, where it is whether it is listed
+pub listed_tells : (test : Bool) (addresses : List ℕ) (at : ℕ) → test ≡ is_listed addresses at
+    → IsTrue test ↔ Contains addresses at
+listed_tells test addresses at is =
+    (λ yes. listed_contained addresses at (sym is ∙ yes), λ held. is ∙ contained_listed addresses at held)

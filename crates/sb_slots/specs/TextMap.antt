@@ -1,5 +1,5 @@
 -- Where the instructions of a rewritten text and its slots stand.
-use Rattle.std.specs.Prelude.{ℕ, List}
+use Rattle.std.specs.Prelude.{ℕ, List, []}
 use Rattle.sb_slots.specs.declared.slot.Slot.{Slot}
 use Rattle.sb_slots.specs.declared.slot.Pass.{Pass}
 
@@ -12,6 +12,10 @@ pub record TextMap : Type 0 where
   pub slots : List Slot
   pub passes : List Pass
   pub vmfuncs : List ℕ
+
+-- the map of no text
+abbrev pub no_map : TextMap
+no_map = record { starts = []; size = 0; area_size = 0; slots = []; passes = []; vmfuncs = [] }
 
 abbrev pub map_from_parts : List ℕ → ℕ → ℕ → List Slot → List Pass → List ℕ → TextMap
 map_from_parts starts size area_size slots passes vmfuncs = record {

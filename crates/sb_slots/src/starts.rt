@@ -1,6 +1,6 @@
 //! The addresses at which the instructions of a text start.
 
-ghost use Rattle.std.specs.Prelude.{◌≡◌, ◌<◌, ◌≤◌, [], ◌∷◌, ◌++◌, IfOk, length};
+ghost use Rattle.std.specs.Prelude.{◌≡◌, ◌↔◌, ◌<◌, ◌≤◌, [], ◌∷◌, ◌++◌, IfOk, IsTrue, Contains, length};
 ghost use Rattle.std.specs.List.{AllByRecursion};
 ghost use Rattle.sb_abi.specs.declared.space.TheConstants.{TEXT_ADDRESS};
 ghost use Rattle.sb_list.specs.Lists.{is_listed};
@@ -91,7 +91,8 @@ impl Starts {
     /// Whether the address is one of them.
     #[inline(always)]
     pub fn contains(&self, at: u64) -> bool
-        ensures { result ≡ is_listed self.now at }
+        ensures listed { result ≡ is_listed self.now at }
+        ensures held { IsTrue result ↔ Contains self.now at }
     {
         has_bit(&self.bits, at)
     }

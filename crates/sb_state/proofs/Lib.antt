@@ -5,7 +5,6 @@ pub use Rattle.sb_pages.proofs.PageLists
 pub use Rattle.sb_pages.proofs.Modes
 pub use Rattle.sb_pages.proofs.Places
 pub mod Contents
-pub mod Listed
 pub mod NameForAccess
 pub mod InPage
 pub mod PagePlaces

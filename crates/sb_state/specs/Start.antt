@@ -14,16 +14,17 @@ unfoldable pub use Rattle.sb_tramp.specs.Record.{record_bytes}
 use Rattle.sb_tramp.specs.Home.{home_page}
 use Rattle.sb_tramp.specs.Server.{server_page}
 pub use Rattle.sb_pages.specs.PageLists.{page_with}
+use Rattle.sb_slots.specs.TextMap.{TextMap}
 use Rattle.sb_state.specs.State.{State, Process}
 use Rattle.sb_pages.specs.PageWords.{zeros}
 use Rattle.sb_state.specs.Registers.{no_flags}
 
--- what a process is made of: its rewritten text and its rewrite area, the starts of its text's instructions, its initial
--- data, and its number of heap pages
+-- what a process is made of: its rewritten text and its rewrite area, where its text's instructions stand, its initial data,
+-- and its number of heap pages
 pub record ProcessImage : Type 0 where
   pub text : List ℕ
   pub area : List ℕ
-  pub starts : List ℕ
+  pub map : TextMap
   pub initial : List ℕ
   pub heap_pages : ℕ
 
@@ -125,7 +126,7 @@ start_threads thread (entry ∷ entries) = start_thread thread entry ∷ start_t
 
 -- a process that is no server yet
 abbrev pub start_process : ProcessImage → Process
-start_process image = record { starts = image.starts; heap_pages = image.heap_pages; registration = None }
+start_process image = record { map = image.map; heap_pages = image.heap_pages; registration = None }
 
 abbrev pub start_state : List ProcessImage → List ThreadEntry → ℕ → List ℕ → State
 start_state images entries free keys = record {

@@ -6,15 +6,17 @@ pub use Rattle.sb_list.specs.Lists.{is_listed}
 use Rattle.sb_pages.specs.declared.page.PageName.{PageName}
 use Rattle.sb_pages.specs.declared.page.Page.{Page}
 pub use Rattle.sb_pages.specs.PageLists.{page_with, find_page, with_page_bytes, with_mode, bytes_of}
+use Rattle.sb_slots.specs.TextMap.{TextMap}
 use Rattle.sb_state.specs.declared.end_kind.EndKind.{EndKind}
+use Rattle.sb_slots.specs.TextMap.{TextMap}
 use Rattle.sb_state.specs.declared.end_kind.EndKind.TheVariants.{Ended}
 use Rattle.sb_state.specs.declared.state.Registration.{Registration}
 use Rattle.sb_state.specs.declared.state.Flight.{Flight}
 use Rattle.sb_state.specs.declared.state.Thread.{Thread}
 
--- a process: the starts of its text's instructions, the number of its heap pages, and what it told as a server
+-- a process: where its text's instructions stand, the number of its heap pages, and what it told as a server
 pub record Process : Type 0 where
-  pub starts : List ℕ
+  pub map : TextMap
   pub heap_pages : ℕ
   pub registration : Option Registration
 

@@ -1,7 +1,6 @@
 //! A Subkernel at the start of a loaded bundle.
 
 ghost use Rattle.std.specs.Prelude.{ℕ, ◌≡◌, ◌-◌, ◌*◌, ◌+◌, ◌<◌, ◌≤◌, [], ◌∷◌, IfErr, IfOk, length, map};
-ghost use Rattle.std.specs.List.Sorted.{IsStrictlyIncreasing};
 ghost use Rattle.sb_abi.specs.declared.frames.TheConstants.{KEPT_FRAMES, THREAD_FRAMES};
 ghost use Rattle.sb_abi.specs.declared.layout.TheConstants.{HOME_TRAMPOLINE_FRAME, SERVER_TRAMPOLINE_FRAME};
 ghost use Rattle.sb_memory.specs.Physical.{HasSize, HoldsBytes, frame_count};
@@ -26,7 +25,6 @@ use crate::process::Process;
 use crate::sub_kernel::{Seat, SubKernel};
 use sb_bundle::{CoreStart, Image};
 use sb_frames::FrameBook;
-use sb_list::Listed;
 use sb_load::Loaded;
 use sb_mapping::{add_process, add_thread, put_trampolines};
 use sb_memory::{Frame, Memory};
@@ -41,12 +39,10 @@ use std::alloc::{AllocError, Global};
 
 /// A process that is no server yet, and as yet without tables.
 fn bare_process(alloc: Global, image: &Image, made: &Rewritten) -> Result<Process, AllocError>
-    requires { IsStrictlyIncreasing made.now.starts }
     ensures { IfOk result (λ process. process.process ≡ start_process (image_of image.now made.now)) }
 {
-    let starts = Listed::new(Vec::from_slice(alloc, made.starts().items())?);
     Ok(Process {
-        plain: sb_state::Process::new(starts, image.heap_pages),
+        plain: sb_state::Process::new(made.map().copied(alloc)?, image.heap_pages),
         set: TableSet {
             root: Frame(0),
             tables: [Frame(0); 11],

@@ -81,7 +81,7 @@ pub record IsRegistering (state : State) (view process handler stacks : ℕ) : T
   pub found : Process
   pub there : process_at state process ≡ Some found
   pub none : found.registration ≡ None
-  pub listed : is_listed found.starts handler ≡ true
+  pub listed : is_listed found.map.starts handler ≡ true
   pub some : 1 ≤ stacks
   pub few : stacks ≤ 16
   pub room : STACK_PAGES * stacks ≤ state.free

@@ -96,7 +96,7 @@ line_adds old core _ new only = inl (pages_alike old old.pages new only)
 abbrev pub registered_as : Process → ℕ → ℕ → Process
 registered_as found handler stacks = record found { registration = Some (record { handler = handler; stacks = stacks }) }
 
-registered_sound : (found : Process) (handler stacks : ℕ) → IsProcessSound found → is_listed found.starts handler ≡ true
+registered_sound : (found : Process) (handler stacks : ℕ) → IsProcessSound found → is_listed found.map.starts handler ≡ true
     → 1 ≤ stacks → stacks ≤ 16 → IsProcessSound (registered_as found handler stacks)
 registered_sound found handler stacks sound listed some few = record {
   starts = sound.starts;

@@ -245,12 +245,12 @@ unfolding entry_regs
 entry_words regs stack handler are few word =
     let top : 0x4003FF8 + stack * 0x4000 < 2 ^ 64 = omega (arith, few) in four_set regs handler zero_flags 4 _ are word top
 
-told_word : (process : Process) (told : Option Registration) → AllByRecursion (λ start. start < 2 ^ 64) process.starts
+told_word : (process : Process) (told : Option Registration) → AllByRecursion (λ start. start < 2 ^ 64) process.map.starts
     → ((registration : Registration) → told ≡ Some registration → IsRegistrationSound process registration)
     → handler_in told < 2 ^ 64
 told_word process None starts sound = omega arith
 told_word process (Some registration) starts sound =
-    listed_word process.starts registration.handler starts (sound registration refl).listed
+    listed_word process.map.starts registration.handler starts (sound registration refl).listed
 
 handler_by : (found : Option Process) → ((process : Process) → found ≡ Some process → IsProcessSound process)
     → handler_in (registration_of found) < 2 ^ 64

@@ -128,7 +128,7 @@ pub record AddsStacks (old : State) (process : ℕ) (new : State) : Type 0 where
   pub there : process_at old process ≡ Some found
   pub none : found.registration ≡ None
   pub handler : ℕ
-  pub listed : is_listed found.starts handler ≡ true
+  pub listed : is_listed found.map.starts handler ≡ true
   pub stacks : ℕ
   pub some : 1 ≤ stacks
   pub few : stacks ≤ MAX_STACKS

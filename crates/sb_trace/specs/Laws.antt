@@ -36,7 +36,7 @@ use Rattle.sb_trace.specs.Changes.{StepChanges}
 pub record IsImageSound (image : ProcessImage) : Type 0 where
   pub text : HasNoPattern image.text
   pub area : HasNoPattern image.area
-  pub starts : AllByRecursion (λ start. start < 2 ^ 64) image.starts
+  pub starts : AllByRecursion (λ start. start < 2 ^ 64) image.map.starts
   pub initial : AllByRecursion (λ byte. byte < 256) image.initial
   pub text_length : length image.text ≤ WINDOW_BYTES
   pub area_length : length image.area ≤ AREA_PAGES * PAGE_SIZE

@@ -78,13 +78,13 @@ HaveRecords state =
 
 -- what a process told as a server: a handler, where an instruction of its text starts, and one to sixteen stacks
 pub record IsRegistrationSound (process : Process) (registration : Registration) : Type 0 where
-  pub listed : is_listed process.starts registration.handler ≡ true
+  pub listed : is_listed process.map.starts registration.handler ≡ true
   pub some : 1 ≤ registration.stacks
   pub few : registration.stacks ≤ MAX_STACKS
 
 -- the starts of instructions are words, and the heap is within its window
 pub record IsProcessSound (process : Process) : Type 0 where
-  pub starts : AllByRecursion (λ start. start < 2 ^ 64) process.starts
+  pub starts : AllByRecursion (λ start. start < 2 ^ 64) process.map.starts
   pub heap : process.heap_pages ≤ WINDOW_PAGES
   pub registration : (registration : Registration) → process.registration ≡ Some registration
       → IsRegistrationSound process registration

@@ -23,7 +23,7 @@ use Rattle.sb_trace.specs.SyscallAnswer.{syscall_refusal, syscall_acceptance}
 -- whether an instruction of the process's text starts at an address
 abbrev pub is_start : Option Process → ℕ → Bool
 is_start None address = false
-is_start (Some process) address = is_listed process.starts address
+is_start (Some process) address = is_listed process.map.starts address
 
 -- whether a process is a server, by what it told
 abbrev pub is_registered : Option Registration → Bool

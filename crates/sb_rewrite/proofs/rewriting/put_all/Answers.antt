@@ -1,10 +1,12 @@
 -- Each turn puts what stands in place of one more instruction, and remembers its jump.
-use Rattle.std.proofs.Common.{◌≡◌, ◌<◌, Err, length, subst, rules}
+use Rattle.std.proofs.Common.{◌≡◌, ◌<◌, Err, ℕ, length, sym, subst, rules}
 use Rattle.std.proofs.lemmas.Result.{err_from_is_err_and}
+use Rattle.std.specs.List.{AllByRecursion}
 use Rattle.sb_forms.proofs.Where.{not_in_jumps}
 use Rattle.sb_rewrite.specs.Turns.{ChecksJumps}
 use Rattle.sb_rewrite.proofs.Putting.{nothing_put, form_asks_here, one_put, all_put}
 use Rattle.sb_rewrite.proofs.Refused.{front_refused, jump_refused, put_refused, check_refused}
+use Rattle.sb_rewrite.proofs.Above.{starts_before}
 use Rattle.sb_rewrite.proofs.rewriting.put_all.Goals as goal
 
 pub loop-rest-init : goal.loop-rest-init
@@ -30,6 +32,11 @@ pub put_text_insn-requires-clause-form : goal.put_text_insn-requires-clause-form
 put_text_insn-requires-clause-form c =
     let some : 0 < length c.loop-rest.rest.now = search rules in
     form_asks_here not_in_jumps _ _ _ c.requires c.in_ok-text_insn.ensures some c.in_ok-remember_jump.ensures.0
+
+pub put_text_insn-requires-clause-above : goal.put_text_insn-requires-clause-above
+put_text_insn-requires-clause-above c =
+    subst (λ (at : ℕ). AllByRecursion (λ start. start < at) c.loop-rest.draft.starts) (sym c.in_ok-text_insn.ensures.here)
+    (starts_before _ _ _ c.loop-rest.invariant.partway)
 
 pub returns-in_err-put_text_insn : goal.returns-in_err-put_text_insn
 returns-in_err-put_text_insn c =

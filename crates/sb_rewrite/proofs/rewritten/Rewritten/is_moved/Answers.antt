@@ -9,7 +9,7 @@ returns c =
     let facts = c.binary_search_by_key.ensures in
     let by_start = facts.position start_of (answers_always _ _ _ (λ f a r g called. search rules)) in
     let found =
-    searched start_of c.self.inside.moves.items c.self.invariant.moved c.args.at c.binary_search_by_key.result
+    searched start_of c.self.inside.moves.items c.self.invariant.0.moved c.args.at c.binary_search_by_key.result
     (rw c.deref.ensures.value at facts.bound) (rw c.deref.ensures.value at by_start) in
     rw (
       c.is_ok.ensures.value,

@@ -23,7 +23,7 @@ use Rattle.sb_forms.specs.Pieces.{is_sib_0f, sib_exchanged, without_sib_0f}
 use Rattle.sb_forms.specs.Mains.{at_helper, with_displacement, with_helper}
 use Rattle.sb_forms.proofs.Leads.{IsRex, with_r_b_rex, exchanged_rex, r_1, b_1}
 use Rattle.sb_forms.proofs.QuietPieces.{number_7}
-use Rattle.sb_original.proofs.Fields.{with_w, exchanged_w, helper_not_4, at_mod, at_reg, at_rm}
+use Rattle.sb_forms.proofs.Fields.{with_w, exchanged_w, helper_not_4, at_mod, at_reg, at_rm}
 use Rattle.sb_forms.proofs.Operands.{no_sib_7}
 
 -- ---- REX

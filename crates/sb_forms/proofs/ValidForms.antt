@@ -25,11 +25,11 @@ use Rattle.sb_forms.proofs.CleanForms.{low_fits, high_fits}
 use Rattle.sb_forms.proofs.Lowered.{lowered_fits}
 use Rattle.sb_forms.proofs.Operands.{modrm_is}
 use Rattle.sb_forms.proofs.Small.{address_small, constant_small, both_small, wide_small, displaced_small, quiet_memory}
-use Rattle.sb_rewrite.specs.Listing.{AllValid}
-use Rattle.sb_origin_text.specs.Valid.{AreValid, ReplacementsValid}
-use Rattle.sb_origin_text.proofs.ValidPieces.{save_valid, restore_valid, half_valid, through_valid, number_valid, sum_valid, target_valid, jump_valid, nop_valid, add_valid}
-use Rattle.sb_origin_text.proofs.ValidMains.{helper_valid, displaced_valid, exchanged_valid, without_valid}
-use Rattle.sb_origin_text.proofs.ValidConstants.{locked, unlocked, on_memory_valid, on_register_valid, behind_valid, word_valid, lea_valid}
+use Rattle.sb_forms.specs.Valid.{AllValid}
+use Rattle.sb_forms.specs.Valid.{AreValid, ReplacementsValid}
+use Rattle.sb_forms.proofs.ValidPieces.{save_valid, restore_valid, half_valid, through_valid, number_valid, sum_valid, target_valid, jump_valid, nop_valid, add_valid}
+use Rattle.sb_forms.proofs.ValidMains.{helper_valid, displaced_valid, exchanged_valid, without_valid}
+use Rattle.sb_forms.proofs.ValidConstants.{locked, unlocked, on_memory_valid, on_register_valid, behind_valid, word_valid, lea_valid}
 
 -- ---- lists
 

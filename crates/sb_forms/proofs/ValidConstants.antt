@@ -36,9 +36,9 @@ use Rattle.sb_forms.specs.Mains.{at_helper, own_register, register_op, with_cons
 use Rattle.sb_forms.proofs.Leads.{with_r_b_rex, r_1, x_1, b_1}
 use Rattle.sb_forms.proofs.Maps.{of_cell, of_operand}
 use Rattle.sb_forms.proofs.QuietPieces.{number_7}
-use Rattle.sb_original.proofs.Fields.{helper_not_4, at_mod, at_rm}
-use Rattle.sb_rewrite.specs.Listing.{AllValid}
-use Rattle.sb_origin_text.proofs.ValidMains.{rex_field}
+use Rattle.sb_forms.proofs.Fields.{helper_not_4, at_mod, at_rm}
+use Rattle.sb_forms.specs.Valid.{AllValid}
+use Rattle.sb_forms.proofs.ValidMains.{rex_field}
 
 -- ---- where LOCK stands
 

@@ -1,11 +1,14 @@
 -- The instructions that the table of forms gives are valid ones.
-use Rattle.std.specs.Prelude.{Bool}
+use Rattle.std.specs.Prelude.{Bool, List}
+use Rattle.std.specs.List.{AllByRecursion}
 use Rattle.sb_insn.specs.declared.insn.Insn.{Insn}
 use Rattle.sb_insn.specs.Grammar.{IsValid}
 use Rattle.sb_forms.specs.declared.slots.Site.{Site}
 use Rattle.sb_forms.specs.Answers.{IsSite}
 use Rattle.sb_forms.specs.Table.{Replacement, Keep, InPlace, Moved, Unmovable, replacement}
-use Rattle.sb_rewrite.specs.Listing.{AllValid}
+
+abbrev pub AllValid : List Insn → Type 0
+AllValid insns = AllByRecursion IsValid insns
 
 -- each instruction of a replacement is valid
 abbrev pub AreValid : Replacement → Type 0
