@@ -1,0 +1,3 @@
+pub mod SameReads
+pub mod Again
+pub mod Stores
