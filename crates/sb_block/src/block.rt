@@ -107,6 +107,7 @@ pub fn run_block(
         × IsBlock (frame_count part.old.given) core start.now events block.after block.reads block.writes) }
     ensures holds { IfOk result (λ block. (events : List Event) × (block.lines ≡ lines_of_core core events)
         × BlockHolds (frame_count part.old.given) core start.now events block.after block.reads block.writes) }
+    ensures walks { IfOk result (λ block. HasWalks (frame_count part.old.given) block.after) }
     ensures reads { IfOk result (λ block. AreReadsIn (frame_count part.old.given) core block.reads) }
     ensures writes { IfOk result (λ block. AreWritesIn (frame_count part.old.given) block.writes) }
     ensures refused { IfErr result (λ stop. Refuses start.now part.old.given stop) }

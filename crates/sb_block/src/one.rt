@@ -1,9 +1,10 @@
-//! One step of a core over any physical memory.
+//! One step of a core over copies of frames.
 
-ghost use Rattle.std.specs.Prelude.{◌≡◌, nat_lt};
+ghost use Rattle.std.specs.Prelude.{◌≡◌, Ok, nat_lt};
 ghost use Rattle.sb_memory.specs.Physical.{frame_count};
 ghost use Rattle.sb_insn.specs.Grammar.{IsValid};
 ghost use Rattle.sb_walks.specs.Entry.{frame_in};
+ghost use Rattle.sb_agree.specs.Noted.{noted_rule};
 ghost use Rattle.sb_machine.specs.OwnSteps.{HasWalks};
 ghost use Rattle.sb_machine.specs.Outcomes.{home_line, home_state, line_by, regs_behind};
 ghost use Rattle.sb_block.specs.Answers.{ComesTo, Stepped, stop_of};
@@ -12,11 +13,12 @@ ghost use Rattle.sb_block.specs.Step.{fetch_outcome, state_behind, state_in_flig
 
 use sb_abi::{COMPARE_KEY, VMFUNC_PHASE};
 use sb_bus::BusStop;
-use sb_exec::{Effect, execute, fetch_insn};
+use sb_copy_bus::{CopyBus, fetch_next};
+use sb_exec::{Effect, execute};
 use sb_insn::{Insn, Regs};
 use sb_machine::{CoreState, home_line, home_state, line_by, phase_behind, regs_behind};
 use sb_memory::{Frame, Phys};
-use sb_nested::NestedBus;
+use sb_partial::Partial;
 use sb_root::{Switch, switch};
 use sb_state::{eax, ecx};
 use sb_trace::Event;
@@ -122,50 +124,48 @@ fn switch_view<P: Phys>(phys: &mut P, core: &mut CoreState, insn: &Insn) -> Resu
 
 /// The instruction that was fetched.
 #[tactic(auto, using(crate::proofs::Frames::frames_kept))]
-fn execute_next<P: Phys>(phys: &mut P, core: &mut CoreState, insn: &Insn) -> Result<Event, StepStop>
-    requires walks { HasWalks (frame_count (P.meaning phys.old)) core.old }
+fn execute_next(part: &mut Partial, core: &mut CoreState, insn: &Insn) -> Result<Event, StepStop>
+    requires walks { HasWalks (frame_count part.old.memory) core.old }
     requires valid { IsValid insn.now }
-    ensures outcome { ComesTo (fetch_outcome P.rule core.old (P.meaning phys.old) (P.account phys.old) (Ok insn.now))
-        (at core.old (P.meaning phys.old) (P.account phys.old))
-        (at core.new (P.meaning phys.new) (P.account phys.new)) result }
-    ensures walks { HasWalks (frame_count (P.meaning phys.new)) core.new }
-    ensures frames { frame_count (P.meaning phys.new) ≡ frame_count (P.meaning phys.old) }
-    ensures kept { P.kept phys.new ≡ P.kept phys.old }
+    ensures outcome { ComesTo (fetch_outcome noted_rule core.old part.old.memory part.old.noted (Ok insn.now))
+        (at core.old part.old.memory part.old.noted) (at core.new part.new.memory part.new.noted) result }
+    ensures walks { HasWalks (frame_count part.new.memory) core.new }
+    ensures frames { frame_count part.new.memory ≡ frame_count part.old.memory }
+    ensures given { part.new.given ≡ part.old.given }
+    ensures began { part.new.began ≡ part.old.began }
 {
     let mut regs = core.regs;
     match execute(
         insn,
         &mut regs,
-        &mut NestedBus::new(phys, core.eptp, core.cr3),
+        &mut CopyBus::new(part, core.eptp, core.cr3),
     ) {
         Ok(Effect::Next) => Ok(go_on(core, regs)),
-        Ok(Effect::Switch) => switch_view(phys, core, insn),
+        Ok(Effect::Switch) => switch_view(part, core, insn),
         Ok(Effect::Syscall | Effect::Undefined) => Err(StepStop::Kernel),
         Err(stop) => Err(stop_of(stop)),
     }
 }
 
-/// Makes a step of a core, and answers its line. The core counts it.
+/// Makes a step of a core over copies, and answers its line. The core counts it.
 ///
 /// # Errors
 ///
 /// `NeedFrame` comes exactly where the fetch, the instruction or the entry of the list for a VMFUNC meets a frame that is not
 /// there, and names the frame of the first byte or word that is. `Kernel` comes exactly where none is met and the step is the
-/// kernels'. The core and the memory are as they were; what the memory notes of its calls may have grown.
+/// kernels'. The core and the memory are as they were; what is noted may have grown.
 #[tactic(auto, using(crate::proofs::Stops::fetch_stops))]
-pub fn step<P: Phys>(phys: &mut P, core: &mut CoreState) -> Result<Event, StepStop>
-    requires walks { HasWalks (frame_count (P.meaning phys.old)) core.old }
-    ensures step { Stepped P.rule (at core.old (P.meaning phys.old) (P.account phys.old))
-        (at core.new (P.meaning phys.new) (P.account phys.new)) result }
-    ensures walks { HasWalks (frame_count (P.meaning phys.new)) core.new }
-    ensures frames { frame_count (P.meaning phys.new) ≡ frame_count (P.meaning phys.old) }
-    ensures kept { P.kept phys.new ≡ P.kept phys.old }
+pub fn step(part: &mut Partial, core: &mut CoreState) -> Result<Event, StepStop>
+    requires walks { HasWalks (frame_count part.old.memory) core.old }
+    ensures step { Stepped noted_rule (at core.old part.old.memory part.old.noted)
+        (at core.new part.new.memory part.new.noted) result }
+    ensures walks { HasWalks (frame_count part.new.memory) core.new }
+    ensures frames { frame_count part.new.memory ≡ frame_count part.old.memory }
+    ensures given { part.new.given ≡ part.old.given }
+    ensures began { part.new.began ≡ part.old.began }
 {
-    match fetch_insn(
-        &mut NestedBus::new(phys, core.eptp, core.cr3),
-        core.regs.rip,
-    ) {
-        Ok(insn) => execute_next(phys, core, &insn),
+    match fetch_next(part, core.eptp, core.cr3, core.regs.rip) {
+        Ok(insn) => execute_next(part, core, &insn),
         Err(stop) => Err(stop_of(stop)),
     }
 }

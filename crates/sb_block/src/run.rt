@@ -31,6 +31,7 @@ fn next(
     ensures began { part.new.began ≡ part.old.noted }
     ensures given { part.new.given ≡ part.old.given }
     ensures walks { HasWalks (frame_count part.new.memory) core.new }
+    ensures frames { frame_count part.new.memory ≡ frame_count part.old.memory }
 {
     part.begin();
     let event = step(part, core)?;
@@ -59,6 +60,7 @@ pub fn steps(
         (at core.new part.new.memory part.new.began) }
     ensures ends { EndsRun limit (length lines.new.items) (at core.new part.new.memory part.new.began) result }
     ensures given { part.new.given ≡ part.old.given }
+    ensures walks { HasWalks (frame_count part.old.given) core.new }
 {
     for _ in 0..limit {
         next(part, number, core, lines)?;

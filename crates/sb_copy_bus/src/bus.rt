@@ -8,11 +8,11 @@ ghost use Rattle.sb_nested.specs.View.{view};
 ghost use Rattle.sb_copy_bus.specs.MadeWalk.{LastIsMade};
 
 use crate::byte::byte_at;
-use crate::store::store_word;
+use crate::store_bytes::store_bytes;
+use crate::store_word::store_word;
 use crate::walk::MadeWalk;
 use sb_bus::{Bus, BusStop, ByteSource, load_bytes};
 use sb_memory::{Access, Linear};
-use sb_nested::NestedBus;
 use sb_partial::Partial;
 
 /// Copies of frames, as an instruction sees them through an EPT pointer and a CR3, with the last walk that was made.
@@ -110,13 +110,20 @@ impl<'a> Bus for CopyBus<'a> {
         load_bytes(self, at, size, Access::Write)
     }
 
-    #[tactic(auto, using(crate::proofs::Again::none_made), unfolding(sb_nested::specs::Store::view_rule))]
+    #[tactic(auto, unfolding(sb_nested::specs::Store::view_rule, sb_nested::specs::Store::store_rule, sb_nested::specs::Store::memory_stored))]
     fn store(&mut self, at: Linear, size: u8, value: u64) -> Result<(), BusStop> {
         if size == 8 && at.0 % 8 == 0 {
             store_word(self.part, self.eptp, self.cr3, &mut self.made, at, value)
         } else {
-            self.made = None;
-            NestedBus::new(self.part, self.eptp, self.cr3).store(at, size, value)
+            store_bytes(
+                self.part,
+                self.eptp,
+                self.cr3,
+                &mut self.made,
+                at,
+                size,
+                value,
+            )
         }
     }
 }

@@ -29,7 +29,8 @@ pub fn byte_at(
     requires root { frame_in eptp < frame_count part.old.memory }
     requires made { LastIsMade (view part.old.memory eptp cr3) part.old.noted made.old }
     ensures answer { result ≡ view_byte (view part.old.memory eptp cr3) at.0 access }
-    ensures account { part.new.noted ≡ account_after_byte noted_rule (view part.old.memory eptp cr3) access at.0 part.old.noted }
+    ensures account { part.new.noted
+        ≡ account_after_byte noted_rule (view part.old.memory eptp cr3) access at.0 part.old.noted }
     ensures made { LastIsMade (view part.new.memory eptp cr3) part.new.noted made.new }
     ensures same { part.new.memory ≡ part.old.memory }
     ensures given { part.new.given ≡ part.old.given }

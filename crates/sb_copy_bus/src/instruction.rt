@@ -24,7 +24,8 @@ use sb_partial::Partial;
 pub fn fetch_next(part: &mut Partial, eptp: u64, cr3: u64, rip: u64) -> Result<Insn, BusStop>
     requires eptp { IsTrue (is_eptp eptp) }
     requires root { frame_in eptp < frame_count part.old.memory }
-    ensures fetched { FetchesOn (view_interface noted_rule) (view part.old.memory eptp cr3) rip part.old.noted part.new.noted result }
+    ensures fetched { FetchesOn (view_interface noted_rule) (view part.old.memory eptp cr3) rip
+        part.old.noted part.new.noted result }
     ensures valid { IfOk result IsValid }
     ensures same { part.new.memory ≡ part.old.memory }
     ensures given { part.new.given ≡ part.old.given }

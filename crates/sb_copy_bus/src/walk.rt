@@ -1,8 +1,9 @@
 //! Walks that were made.
 
-ghost use Rattle.std.specs.Prelude.{◌≡◌, ◌*◌, ◌%◌, ◌<◌, ◌^◌, None, Ok, IfSome, IsTrue, true};
+ghost use Rattle.std.specs.Prelude.{◌≡◌, ◌*◌, ◌%◌, ◌<◌, ◌^◌, None, Ok, Err, IfSome, IsTrue, true};
 ghost use Rattle.sb_memory.specs.declared.page.TheConstants.{PAGE_SIZE};
 ghost use Rattle.sb_memory.specs.Physical.{frame_count};
+ghost use Rattle.sb_walks.specs.declared.stop.NestedStop.{NestedStop};
 ghost use Rattle.sb_walks.specs.Entry.{frame_in};
 ghost use Rattle.sb_walks.specs.Ept.{is_eptp};
 ghost use Rattle.sb_agree.specs.Noted.{noted_rule};
@@ -69,8 +70,11 @@ pub fn place(
     ensures inside { IfSome result (λ place. place.0 < PAGE_SIZE * frame_count part.old.memory) }
     ensures offset { IfSome result (λ place. place.0 % PAGE_SIZE ≡ at.0 % PAGE_SIZE) }
     ensures made { LastIsMade (view part.old.memory eptp cr3) part.new.noted made.new }
+    ensures stopped { result ≡ None → (stop : NestedStop)
+        × (place_of (view part.old.memory eptp cr3) access at.0 ≡ Err stop) }
     ensures refused { result ≡ None → made.new ≡ None }
-    ensures account { part.new.noted ≡ account_after_walk noted_rule (view part.old.memory eptp cr3) access at.0 part.old.noted }
+    ensures account { part.new.noted
+        ≡ account_after_walk noted_rule (view part.old.memory eptp cr3) access at.0 part.old.noted }
     ensures same { part.new.memory ≡ part.old.memory }
     ensures given { part.new.given ≡ part.old.given }
     ensures began { part.new.began ≡ part.old.began }
@@ -86,7 +90,7 @@ pub fn place(
             *made = Some(MadeWalk { at, access, place });
             Some(place)
         }
-        Err(_) => {
+        Err(_stop) => {
             *made = None;
             None
         }

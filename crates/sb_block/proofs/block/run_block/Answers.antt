@@ -1,4 +1,7 @@
-use Rattle.std.proofs.Common.{ap, ◌∙◌, rules}
+use Rattle.std.proofs.Common.{ap, sym, subst, ◌∙◌, rules}
+use Rattle.sb_memory.specs.Physical.{frame_count}
+use Rattle.sb_machine.specs.declared.processor.CoreState.{CoreState}
+use Rattle.sb_machine.specs.OwnSteps.{HasWalks}
 use Rattle.sb_partial.specs.Copies.{untouched}
 use Rattle.sb_block.proofs.Ended.{refused_by, run_by, reads_by, writes_by}
 use Rattle.sb_block.proofs.Lawful.{given_sound, block_by, holds_by}
@@ -19,6 +22,8 @@ returns-in-Ok-block c =
       made = made;
       block = block_by sound made;
       holds = holds_by sound made;
+      walks = subst (λ (state : CoreState). HasWalks (frame_count c.args.part.now.given) state) (sym got.to)
+          c.steps-made.ensures.walks;
       reads = reads_by got given;
       writes = writes_by got given;
       refused = tt;

@@ -16,6 +16,7 @@ loop-preserved c =
           c.loop.lines.items c.next.new.lines.items _ now.runs made.step made.line;
       given = c.next.ensures.given ∙ now.given;
       walks = c.next.ensures.walks;
+      frames = c.next.ensures.frames ∙ now.frames;
       count = pushed_length c.loop.lines.items c.next.new.lines.items _ c.loop.counter made.line now.count;
       room = omega arith;
     }

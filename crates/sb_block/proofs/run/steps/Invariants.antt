@@ -13,6 +13,7 @@ invariant-loop l = record {
       (at l.core l.part.memory l.part.noted);
   given : l.part.given ≡ l.fn.part.given;
   walks : HasWalks (frame_count l.part.memory) l.core;
+  frames : frame_count l.part.memory ≡ frame_count l.fn.part.given;
   count : length l.lines.items ≡ l.counter;
   room : l.fn.limit ≤ vec_capacity l.lines;
 }

@@ -3,7 +3,7 @@ use Rattle.sb_memory.specs.Physical.{Physical}
 use Rattle.sb_memory.specs.Reading.{write_answer}
 use Rattle.sb_nested.specs.View.{view, word_answer}
 use Rattle.sb_copy_bus.proofs.Stores.{word_told}
-use Rattle.sb_copy_bus.proofs.store.store_word.Goals as goal
+use Rattle.sb_copy_bus.proofs.store_word.store_word.Goals as goal
 
 pub returns-in-Ok-clause-answer : goal.returns-in-Ok-clause-answer
 returns-in-Ok-clause-answer c =
