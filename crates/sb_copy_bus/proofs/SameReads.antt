@@ -131,5 +131,6 @@ reads_on memory cr3 at k access place within e =
     let offset = place_offset memory cr3 at access place e in
     let page = page_reads_on memory at k access place (guest_walk (guest_entry memory) cr3 at access)
     (guest_walk (guest_entry memory) cr3 (at + k) access) within e offset
-    (λ page led. walked-page (guest_entry memory) cr3 at k access page within canonical (canonical_on at k within canonical) led) in
+    (λ page led.
+    walked-page (guest_entry memory) cr3 at k access page within canonical (canonical_on at k within canonical) led) in
     rw (entries, page) refl

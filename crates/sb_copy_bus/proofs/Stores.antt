@@ -92,7 +92,8 @@ looked_by : (core : View) (at size : ℕ) (account : Noted) (answer : Result Phy
     → account_after_look noted_rule core at (suc size) (account_after_walk noted_rule core Write at account)
     ≡ account_after_look noted_rule core at (suc size) account
 looked_by core at size account (Ok place) is =
-    look_account_more noted_rule core at (suc size) size place (account_after_walk noted_rule core Write at account) (omega arith) is
+    look_account_more noted_rule core at (suc size) size place (account_after_walk noted_rule core Write at account) (omega arith)
+    is
     ∙ ap (account_after_look noted_rule core ((at + 1) % 2 ^ 64) size)
     (made_again core.physical (walk_calls core Write at) account (walk_read core Write at))
     ∙ sym (look_account_more noted_rule core at (suc size) size place account (omega arith) is)

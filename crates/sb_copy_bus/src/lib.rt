@@ -1,8 +1,8 @@
 //! The bus of a core over copies of frames: one nested walk a page.
 //!
 //! To instructions it is the `NestedBus` of `sb_nested` over a `Partial`: its clauses are the same, and say the same answers,
-//! the same memory after a store and the same words noted. `NestedBus` makes a walk for each byte. But copies note each word once,
-//! so a walk that was made notes no more when it is made again, and the other bytes of its page lie beside the first
+//! the same memory after a store and the same words noted. `NestedBus` makes a walk for each byte. But copies note each word
+//! once, so a walk that was made notes no more when it is made again, and the other bytes of its page lie beside the first
 //! (`specs/MadeWalk.antt`). So this bus keeps the last walk that it made, and makes another where the access or the page is
 //! another one.
 //!

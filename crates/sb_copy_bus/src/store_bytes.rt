@@ -82,7 +82,8 @@ fn store_places(
     requires root { frame_in eptp < frame_count part.old.memory }
     requires made { LastIsMade (view part.old.memory eptp cr3) part.old.noted made.old }
     ensures ok { OnOk result (bytes_from (store_place (view part.old.memory eptp cr3)) at.0 (length into.old) ≡ Ok into.new) }
-    ensures err { IfErr result (λ stop. bytes_from (store_place (view part.old.memory eptp cr3)) at.0 (length into.old) ≡ Err stop) }
+    ensures err { IfErr result (λ stop.
+        bytes_from (store_place (view part.old.memory eptp cr3)) at.0 (length into.old) ≡ Err stop) }
     ensures held { OnOk result (AllHeld part.old.memory into.new) }
     ensures same { part.new.memory ≡ part.old.memory }
     ensures account { part.new.noted
@@ -116,7 +117,8 @@ pub fn store_bytes(
     ensures answer { result ≡ store_answer (byte_for (view_byte (view part.old.memory eptp cr3)) Write) at.0 size }
     ensures stored { part.new.memory ≡ bytes_stored (view part.old.memory eptp cr3) at.0 size value }
     ensures stopped { IfErr result (λ stop. part.new.memory ≡ part.old.memory) }
-    ensures account { part.new.noted ≡ after_bytes_stored noted_rule (view part.old.memory eptp cr3) at.0 size value part.old.noted }
+    ensures account { part.new.noted
+        ≡ after_bytes_stored noted_rule (view part.old.memory eptp cr3) at.0 size value part.old.noted }
     ensures root { frame_in eptp < frame_count part.new.memory }
     ensures made { LastIsMade (view part.new.memory eptp cr3) part.new.noted made.new }
     ensures given { part.new.given ≡ part.old.given }

@@ -79,7 +79,8 @@ pub fn place(
     ensures given { part.new.given ≡ part.old.given }
     ensures began { part.new.began ≡ part.old.began }
 {
-    let _frames = part.frames();
+    // a memory has less than 2^32 frames
+    part.frames();
     if let Some(walk) = made
         && let Some(place) = place_behind(walk, at, access)
     {
@@ -90,7 +91,7 @@ pub fn place(
             *made = Some(MadeWalk { at, access, place });
             Some(place)
         }
-        Err(_stop) => {
+        Err(_) => {
             *made = None;
             None
         }

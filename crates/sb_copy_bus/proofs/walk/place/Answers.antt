@@ -37,7 +37,7 @@ place_behind-requires c =
     let made : IsMade (view c.args.part.now.memory c.args.eptp c.args.cr3) c.args.part.now.noted c.in-Some.walk =
     c.requires.made c.in-Some.walk (search rules) in
     let inside = made.inside in
-    let few = c.frames-frames.ensures.sound.size.count in
+    let few = c.frames.ensures.sound.size.count in
     omega (arith, inside, few)
 
 pub returns-clause-made : goal.returns-clause-made
