@@ -2,7 +2,8 @@
 //!
 //! Inside: `Line` and `Event`, one line for each entry of a schedule; `EndState`, what each thread is at the end;
 //! `report_text`, the bytes of the report; and the definitions of a run over any machine (`specs/Run.antt`) and of the
-//! plain machine over the states of `sb_state` (`specs/`): its step (Step), its runs and the texts that are written of them
+//! plain machine over the states of `sb_state` (`specs/`): its step (Step)
+//! and the mark that the line of an instruction gets (Marks), its runs and the texts that are written of them
 //! (Runs), and what the kernel does in a step: calls and returns in one step (KernelCall), the landing that stands for them
 //! (Flight), and system calls (Syscall, and SyscallRegister, SyscallBind and SyscallProtect); what a step may change (Changes),
 //! which pages there are (Table), and what holds in each state of a run (Sound); and the laws of its runs, each the contract of
@@ -16,6 +17,7 @@
 mod end;
 mod event;
 mod laws;
+mod mark;
 mod report;
 
 pub use end::{EndState, ThreadEnd, ThreadEnds};
@@ -24,6 +26,7 @@ pub use laws::{
     added_pages_are_new, flights_decide, landings_can_be_dropped, one_pattern, runs_have_one_text,
     start_is_sound, steps_change, steps_keep_sound,
 };
+pub use mark::{line_of_mark, touches_scratch};
 pub use report::{push_end, push_line, report_head, report_text};
 pub use sb_abi::VMFUNC_PHASE;
 pub use sb_state::{
