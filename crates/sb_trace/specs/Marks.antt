@@ -35,6 +35,12 @@ touches_scratch insn regs = touches SCRATCH_ADDRESS (row_of insn regs)
 abbrev pub line_with_mark : TextMap → Insn → Regs → ℕ → Event
 line_with_mark map insn regs next = line_of_mark (mark map regs.rip next (touches_scratch insn regs)) regs.rip
 
+-- a line with its mark, where RIP is `next` behind the step, and this says whether its instruction accessed the scratch page: that
+-- of an instruction that went on is marked, and each other stays
+abbrev pub event_with_mark : TextMap → ℕ → Bool → Event → Event
+event_with_mark map next scratch (StepLine rip) = line_of_mark (mark map rip next scratch) rip
+event_with_mark map next scratch event = event
+
 -- ---- a step
 
 -- the record of the text of a process that is there

@@ -6,8 +6,8 @@ use Rattle.sb_trace.specs.Flight.{vmfunc_outcome}
 use Rattle.sb_trace.specs.Step.{Performs}
 use Rattle.sb_plain.proofs.step.run_from.Goals as goal
 
-pub returns-in-Ok : goal.returns-in-Ok
-returns-in-Ok c = (
+pub returns-in-Ok-clause-runs : goal.returns-in-Ok-clause-runs
+returns-in-Ok-clause-runs c = (
   Ok c.in-Ok.insn,
   subst (λ (thread : ℕ). FetchesOn (plain thread c.args.view) c.args.state.now c.args.regs.now.rip tt tt (Ok c.in-Ok.insn))
       c.from.ensures c.in-Ok.ensures.fetched,
