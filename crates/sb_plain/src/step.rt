@@ -26,6 +26,7 @@ use sb_state::{EndKind, PlainState, process_now};
 use sb_trace::{Event, Line, line_of_mark, mark_without_text, touches_scratch};
 
 /// What a step did: its line before its mark, and whether its instruction accessed the scratch page.
+#[derive(Clone, Copy)]
 struct Unmarked {
     event: Event,
     scratch: bool,
@@ -128,9 +129,9 @@ fn mark_in(state: &PlainState, process: u32, rip: u64, next: u64, scratch: bool)
 }
 
 /// The line of a step of a core with its mark, where the view of its thread showed this process.
-fn with_mark(state: &PlainState, core: u8, process: u32, step: &Unmarked) -> Event
+fn with_mark(state: &PlainState, core: u8, process: u32, step: Unmarked) -> Event
     ensures { result ≡ event_with_mark (map_in (process_at state.now process)) (thread_at state.now core).regs.rip
-        step.now.scratch step.now.event }
+        step.scratch step.event }
 {
     match step.event {
         Event::Step { rip } => {
@@ -160,7 +161,7 @@ impl Plain {
     {
         let process = process_now(self.state.thread(core));
         let step = next_event(&mut self.state, core);
-        let event = with_mark(&self.state, core, process, &step);
+        let event = with_mark(&self.state, core, process, step);
         Line { core, event }
     }
 }
