@@ -1,13 +1,13 @@
 -- Steps of the machine with marks: the line of an instruction says what its step is to the text from which the process was
 -- rewritten (docs/MARKS.md).
-use Rattle.std.specs.Prelude.{◌≡◌, ℕ, IsTrue, List, [], ◌∷◌, Ok}
+use Rattle.std.specs.Prelude.{◌≡◌, ℕ, Bool, IsTrue, List, [], ◌∷◌, Ok}
 use Rattle.sb_insn.specs.declared.insn.Insn.{Insn}
 use Rattle.sb_slots.specs.TextMap.{TextMap}
 use Rattle.sb_sub.specs.Kernel.{shown_in}
 use Rattle.sb_sub.specs.Refusals.{process_in}
 use Rattle.sb_trace.specs.declared.event.Event.{Event}
 use Rattle.sb_trace.specs.declared.event.Event.TheVariants as event
-use Rattle.sb_trace.specs.Marks.{line_with_mark, map_in}
+use Rattle.sb_trace.specs.Marks.{line_with_mark, map_in, touches_scratch}
 use Rattle.sb_machine.specs.Machine.{Machine, state_at}
 use Rattle.sb_machine.specs.OwnSteps.{is_own}
 use Rattle.sb_machine.specs.Written.{FetchesNext, Steps}
@@ -25,6 +25,11 @@ HasMark old number (event.Step rip) marked new =
     ≡ line_with_mark (map_shown old number (state_at old number).view) insn (state_at old number).regs
     (state_at new number).regs.rip)
 HasMark old number unmarked marked new = marked ≡ unmarked
+
+-- whether the instruction at RIP of a core, if one can be fetched there, accesses the scratch page
+abbrev pub TellsScratch : Machine → ℕ → Bool → Type 0
+TellsScratch machine number scratch =
+    (insn : Insn) → FetchesNext machine number (Ok insn) → scratch ≡ touches_scratch insn (state_at machine number).regs
 
 -- a step of a core, with its mark
 abbrev pub StepsWithMark : Machine → ℕ → Event → Machine → Type 0

@@ -24,6 +24,7 @@ use Rattle.sb_trace.specs.Flight.{called_binding, landing_step, phase_outcome, v
 use Rattle.sb_trace.specs.Home.{Outcome, fault_outcome}
 use Rattle.sb_trace.specs.Step.{FollowsFetch, GoesOn, PerformsBy, Steps, StepsBy, StopsWith, execution_in_view}
 use Rattle.sb_trace.specs.Syscall.{syscall_outcome}
+use Rattle.sb_trace.proofs.Steps.{did_next, instruction_claims}
 use Rattle.sb_trace.proofs.KernelLines.{IsOther, fault_other, phase_other, syscall_other, vmfunc_other}
 
 -- the thread runs out of flight, and fetched this instruction, which stood at the address
@@ -101,8 +102,33 @@ module _ (old : State) (core rip : ℕ) (outcome : Outcome) (line : outcome.0 �
   by_end (Ended status) ended is = absurd (not_other rip outcome (Idle, old) line is tt)
   by_end (Faulted kind address) ended is = absurd (not_other rip outcome (Idle, old) line is tt)
 
+  -- ---- flights
+
+  abbrev Stays : Outcome → Type 0
+  Stays one = (IsOther one.0 → ⊥) → one.1.flights ≡ old.flights
+
+  stay_by_flight : (flight : Option Flight) → GoesOn old core (thread_at old core) flight outcome → Stays outcome
+  unfolding landing_step vmfunc_outcome
+  stay_by_flight None runs =
+      let view = (thread_at old core).view in
+      let regs = (thread_at old core).regs in
+      instruction_claims Stays vmfunc_outcome old core view regs
+      (λ insn regs' apart. (did_next old core view insn regs regs' refl).flights) (λ one did apart. did.flights)
+      (λ stands apart. absurd (apart (vmfunc_other old core (called_binding (thread_at old core))))) outcome runs
+  stay_by_flight (Some flight) is = λ apart. absurd (by_decision _ _ is)
+
+  stay_by_end : (end : EndKind) → StepsBy old core (thread_at old core) end outcome → Stays outcome
+  stay_by_end Running runs = stay_by_flight (flight_at old core) runs
+  stay_by_end (Ended status) is = λ apart. absurd (not_other rip outcome (Idle, old) line is tt)
+  stay_by_end (Faulted kind address) is = λ apart. absurd (not_other rip outcome (Idle, old) line is tt)
+
 -- a step with the line of an instruction is one of an instruction
 pub line_of_instruction : (old : State) (core rip : ℕ) (new : State) → Steps old core (StepLine rip) new
     → IsOfInstruction old core rip
 line_of_instruction old core rip new steps =
     by_end old core rip (StepLine rip, new) refl (thread_at old core).state refl steps
+
+-- and leaves all flights
+pub flights_stay : (old : State) (core rip : ℕ) (new : State) → Steps old core (StepLine rip) new → new.flights ≡ old.flights
+flights_stay old core rip new steps =
+    stay_by_end old core rip (StepLine rip, new) refl (thread_at old core).state steps (λ other. other)
