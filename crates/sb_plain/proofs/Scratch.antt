@@ -84,15 +84,17 @@ refused_unmarked old core unmarked event new is refused = subst IsRefusedCall is
 
 -- ---- from a state that equals it
 
--- a step, of which this was told, and which got the mark that it gives
-pub steps_with_mark : (old same : State) (core : ℕ) (unmarked event : Event) (scratch : Bool) (new : State) → old ≡ same
-    → Steps old core unmarked new
+-- a step, of which this was told, and which got the mark that it gives in this process
+pub steps_with_mark : (old same : State) (core process : ℕ) (unmarked event : Event) (scratch : Bool) (new : State) → old ≡ same
+    → process ≡ process_now (thread_at old core) → Steps old core unmarked new
     → ((thread_at old core).state ≡ Running → flight_at old core ≡ None
     → TellsScratch old core (thread_at old core).view (thread_at old core).regs scratch)
-    → event
-    ≡ event_with_mark (map_in (process_at new (process_now (thread_at old core)))) (thread_at new core).regs.rip scratch unmarked
+    → event ≡ event_with_mark (map_in (process_at new process)) (thread_at new core).regs.rip scratch unmarked
     → StepsWithMark same core event new
-steps_with_mark old same core unmarked event scratch new is steps tells marked =
+steps_with_mark old same core process unmarked event scratch new is shown steps tells marked =
     let mark = has_mark old core unmarked scratch new steps tells in
+    let line : event
+    ≡ event_with_mark (map_in (process_at new (process_now (thread_at old core)))) (thread_at new core).regs.rip scratch unmarked =
+    marked ∙ ap (λ (one : ℕ). event_with_mark (map_in (process_at new one)) (thread_at new core).regs.rip scratch unmarked) shown in
     subst (λ (state : State). StepsWithMark state core event new) is
-    (unmarked, steps, subst (λ (one : Event). HasMark old core unmarked one new) (sym marked) mark)
+    (unmarked, steps, subst (λ (one : Event). HasMark old core unmarked one new) (sym line) mark)

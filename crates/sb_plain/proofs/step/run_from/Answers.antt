@@ -12,6 +12,6 @@ returns-in-Ok-clause-runs c = (
   subst (λ (thread : ℕ). FetchesOn (plain thread c.args.view) c.args.state.now c.args.regs.now.rip tt tt (Ok c.in-Ok.insn))
       c.from.ensures c.in-Ok.ensures.fetched,
   subst (λ (state : State). Performs vmfunc_outcome state c.args.core c.args.view c.in-Ok.insn c.args.regs.now
-      (c.execute_next.result, c.execute_next.new.state))
-      c.in-Ok.ensures.same c.execute_next.ensures,
+      (c.execute_next-event.result, c.execute_next-event.new.state))
+      c.in-Ok.ensures.same c.execute_next-event.ensures,
 )

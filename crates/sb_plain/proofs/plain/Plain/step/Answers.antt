@@ -1,3 +1,5 @@
+use Rattle.std.proofs.Common.{◌∙◌, ap}
+use Rattle.sb_state.specs.Windows.{process_now}
 use Rattle.sb_trace.proofs.Marks.{alike_with_mark, changes_with_mark}
 use Rattle.sb_trace.proofs.Landings.{steps_drop}
 use Rattle.sb_trace.proofs.Steps.{steps_change}
@@ -9,8 +11,9 @@ use Rattle.sb_plain.proofs.plain.Plain.step.Goals as goal
 
 pub returns-clause-step : goal.returns-clause-step
 returns-clause-step c =
-    steps_with_mark _ _ _ _ _ _ _ c.self.view_is c.next_event.ensures.step c.next_event.ensures.scratch
-    (rw c.process_now.ensures c.with_mark.ensures)
+    steps_with_mark _ _ _ c.process_now-process.result _ _ _ _ c.self.view_is
+    (c.process_now-process.ensures ∙ ap process_now c.thread.ensures) c.next_event-step.ensures.step
+    c.next_event-step.ensures.scratch c.with_mark-event.ensures
 
 pub returns-clause-at_once : goal.returns-clause-at_once
 returns-clause-at_once c sound =
