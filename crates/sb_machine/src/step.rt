@@ -75,7 +75,6 @@ fn execute_next(parts: &mut Parts, number: u8, insn: &Insn) -> Event
 }
 
 /// The step of a core whose thread runs.
-#[tactic(auto, using(crate::proofs::Marks::fetched, crate::proofs::Marks::not_fetched))]
 fn run(parts: &mut Parts, number: u8) -> Unmarked
     requires there { number < length parts.old.cores }
     requires stands { (state : State) × IsMachineOf parts.old state }

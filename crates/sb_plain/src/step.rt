@@ -74,7 +74,6 @@ fn execute_next(state: &mut PlainState, core: u8, view: u16, insn: &Insn, regs: 
 }
 
 /// The instruction at RIP of a thread with these registers in this view.
-#[tactic(auto, using(crate::proofs::Scratch::not_fetched, crate::proofs::Scratch::fetched))]
 fn run_from(state: &mut PlainState, core: u8, view: u16, regs: &mut Regs) -> Unmarked
     ensures runs { RunsOn vmfunc_outcome state.old core view regs.old (result.event, state.new) }
     ensures scratch { TellsScratch state.old core view regs.old result.scratch }
@@ -119,6 +118,7 @@ fn next_event(state: &mut PlainState, core: u8) -> Unmarked
 // ---- marks
 
 /// The mark of an instruction that stood at `rip`, of a process by its number, where RIP is `next` behind it.
+#[tactic(auto, unfolding(sb_state::specs::State::process_at))]
 fn mark_in(state: &PlainState, process: u32, rip: u64, next: u64, scratch: bool) -> Mark
     ensures { result ≡ mark (map_in (process_at state.now process)) rip next scratch }
 {
