@@ -1,6 +1,7 @@
 -- Whether the instruction of a step accessed the scratch page, and the mark that this gives.
-use Rattle.std.proofs.Common.{◌≡◌, ◌∙◌, sym, ap, subst, ℕ, Bool, refl, Result, Ok, Err}
-use Rattle.std.specs.Prelude.{List, None, slice_get}
+use Rattle.std.proofs.Common.{◌≡◌, ◌≤◌, ◌∙◌, sym, ap, subst, ℕ, Bool, refl, Result, Ok, Err}
+use Rattle.std.specs.Prelude.{List, None, Option, length, slice_get}
+use Rattle.std.proofs.lemmas.Option.{slice_get_past}
 use Rattle.sb_insn.specs.declared.insn.Insn.{Insn}
 use Rattle.sb_insn.specs.declared.registers.Regs.{Regs}
 use Rattle.sb_bus.specs.declared.stop.BusStop.{BusStop}
@@ -9,6 +10,7 @@ use Rattle.sb_exec.proofs.OneFetch.{one_fetch_on}
 use Rattle.sb_slots.specs.declared.mark.Mark.{Mark}
 use Rattle.sb_slots.specs.declared.mark.Mark.TheVariants as mark_of
 use Rattle.sb_slots.specs.Marks.{mark}
+use Rattle.sb_slots.specs.TextMap.{no_map}
 use Rattle.sb_state.specs.declared.end_kind.EndKind.TheVariants.{Running}
 use Rattle.sb_state.specs.PlainMemory.{plain}
 use Rattle.sb_state.specs.State.{State, Process, thread_at, flight_at, process_at}
@@ -81,6 +83,13 @@ pub refused_unmarked : (old : State) (core : ℕ) (unmarked event : Event) (new 
 refused_unmarked old core (StepLine rip) event new (insn, fetches, is) refused =
     absurd (mark_not_refused _ _ (subst IsRefusedCall is refused))
 refused_unmarked old core unmarked event new is refused = subst IsRefusedCall is refused
+
+-- where no process is shown, the mark is that of no text
+pub none_shown : (processes : List Process) (process rip next : ℕ) (scratch : Bool) (one : Mark) → length processes ≤ process
+    → one ≡ mark no_map rip next scratch → one ≡ mark (map_in (slice_get processes process)) rip next scratch
+none_shown processes process rip next scratch one past is =
+    is
+    ∙ ap (λ (found : Option Process). mark (map_in found) rip next scratch) (sym (slice_get_past processes process past))
 
 -- ---- from a state that equals it
 
