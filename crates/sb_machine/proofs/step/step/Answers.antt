@@ -51,5 +51,5 @@ returns c =
     let line =
     c.with_mark.ensures
     ∙ ap (λ (core : Core). event_with_mark (map_shown new c.args.number core.state.view) (state_at new c.args.number).regs.rip
-    made.scratch made.event) c.core.ensures in
+    made.scratch made.event) c.core-view.ensures in
     (made.event, steps, subst (λ (one : Event). HasMark old c.args.number made.event one new) (sym line) mark)
