@@ -22,7 +22,8 @@ use Rattle.sb_machine.specs.Outcomes.{Outcome, line_by, core_behind, home_line, 
 use Rattle.sb_machine.specs.OwnSteps.{is_own, OwnSteps, HasRunningCore}
 use Rattle.sb_machine.specs.Written.{FetchesNext, PerformsBy, RunsOn, StepsBy, Steps}
 use Rattle.sb_block.specs.Step.{At, CoreOutcome, Made, CoreSteps, core_execution, fetch_outcome}
-use Rattle.sb_block.specs.Run.{CoreRuns}
+use Rattle.sb_block.specs.declared.fact.MadeStep.{MadeStep}
+use Rattle.sb_block.specs.Run.{CoreRuns, events_of}
 use Rattle.sb_block.specs.Block.{BlocksHold}
 use Rattle.sb_block.proofs.Made.{view_line, GoesOn, Switches, IsMade, made_by, not_stopped}
 use Rattle.sb_block.proofs.Puts.{machine_with, core_with, put_back, core_put, put_over, line_counted}
@@ -178,26 +179,26 @@ module _ (machine : Machine) (number : ℕ) (running : HasRunningCore machine nu
 -- ---- steps one after another
 
 -- the machine makes the steps
-pub record LiftsRun (machine : Machine) (number : ℕ) (events : List Event) (after : At (Unit {0})) : Type 0 where
+pub record LiftsRun (machine : Machine) (number : ℕ) (steps : List MadeStep) (after : At (Unit {0})) : Type 0 where
   pub origin : Option Origin
-  pub steps : OwnSteps machine number events
+  pub own : OwnSteps machine number (events_of steps)
       (machine_with machine number (core_with (core_at machine number) after.core origin) after.memory)
 
 -- steps of the core are steps of the machine
-pub runs_lift : (number : ℕ) (events : List Event) (machine : Machine) (after : At (Unit {0})) → HasRunningCore machine number
-    → CoreRuns no_account (alone (state_at machine number) machine.memory) events after → LiftsRun machine number events after
+pub runs_lift : (number : ℕ) (steps : List MadeStep) (machine : Machine) (after : At (Unit {0})) → HasRunningCore machine number
+    → CoreRuns no_account (alone (state_at machine number) machine.memory) steps after → LiftsRun machine number steps after
 unfolding CoreRuns OwnSteps
 runs_lift number [] machine after running runs =
     let origin = (core_at machine number).origin in
     record {
       origin = origin;
-      steps = ap (λ (one : At (Unit {0})). machine_with machine number (core_with (core_at machine number) one.core origin)
+      own = ap (λ (one : At (Unit {0})). machine_with machine number (core_with (core_at machine number) one.core origin)
           one.memory) runs
           ∙ put_back machine number running.there;
     }
-runs_lift number (line ∷ events) machine after running runs =
+runs_lift number (made ∷ steps) machine after running runs =
     let next = runs.0 in
-    let step = step_lifts machine number running line next runs.1 in
+    let step = step_lifts machine number running made.event next runs.1.0 in
     let core = core_with (core_at machine number) next.core step.origin in
     let mid : Machine = machine_with machine number core next.memory in
     let is : core_at mid number ≡ core = core_put machine number running.there core next.memory in
@@ -207,9 +208,9 @@ runs_lift number (line ∷ events) machine after running runs =
       running = ap (λ (one : Core). one.end) is ∙ running.running;
     } in
     let onward =
-    subst (λ (state : CoreState). CoreRuns no_account (alone state next.memory) events after)
+    subst (λ (state : CoreState). CoreRuns no_account (alone state next.memory) steps after)
     (sym (ap (λ (one : Core). one.state) is)) runs.2 in
-    let rest = runs_lift number events mid after still onward in
+    let rest = runs_lift number steps mid after still onward in
     let same : machine_with mid number (core_with (core_at mid number) after.core rest.origin) after.memory
     ≡ machine_with machine number (core_with (core_at machine number) after.core rest.origin) after.memory =
     ap (λ (one : Core). machine_with mid number (core_with one after.core rest.origin) after.memory) is
@@ -217,18 +218,18 @@ runs_lift number (line ∷ events) machine after running runs =
     after.memory in
     record {
       origin = rest.origin;
-      steps = (mid, step.own, step.steps, subst (λ (end : Machine). OwnSteps mid number events end) same rest.steps);
+      own = (mid, step.own, step.steps, subst (λ (end : Machine). OwnSteps mid number (events_of steps) end) same rest.own);
     }
 
 -- a block is so many steps of each machine in which it may be made
 pub block_holds : BlocksHold
-block_holds frames number before events after reads writes block machine whole running is held =
-    let run = block_runs frames number before events after reads writes block machine.memory whole held in
+block_holds frames number before steps after reads writes block machine whole running is held =
+    let run = block_runs frames number before steps after reads writes block machine.memory whole held in
     let runs =
-    subst (λ (state : CoreState). CoreRuns no_account (alone state machine.memory) events (alone after run.last)) (sym is)
+    subst (λ (state : CoreState). CoreRuns no_account (alone state machine.memory) steps (alone after run.last)) (sym is)
     run.runs in
-    let lifted = runs_lift number events machine (alone after run.last) running runs in (
+    let lifted = runs_lift number steps machine (alone after run.last) running runs in (
       machine_with machine number (core_with (core_at machine number) after lifted.origin) run.last,
-      lifted.steps,
+      lifted.own,
       record { memory = run.changes; origin = lifted.origin; rest = refl },
     )

@@ -1,4 +1,5 @@
 pub mod Step
+pub mod Facts
 pub mod Run
 pub mod Block
 pub mod Answers

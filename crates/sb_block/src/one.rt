@@ -10,9 +10,10 @@ ghost use Rattle.sb_block.specs.Answers.{ComesTo, Stepped, stop_of};
 ghost use Rattle.sb_block.specs.Run.{at};
 ghost use Rattle.sb_block.specs.Step.{fetch_outcome, state_behind, state_in_flight, switch_outcome, with_made};
 
-use sb_abi::{COMPARE_KEY, VMFUNC_PHASE};
+use crate::fact::{Fact, MadeStep};
+use sb_abi::{COMPARE_KEY, SCRATCH_ADDRESS, VMFUNC_PHASE};
 use sb_bus::BusStop;
-use sb_exec::{Effect, execute, fetch_insn};
+use sb_exec::{Effect, execute, fetch_insn, touches};
 use sb_insn::{Insn, Regs};
 use sb_machine::{CoreState, home_line, home_state, line_by, phase_behind, regs_behind};
 use sb_memory::{Frame, Phys};
@@ -145,7 +146,7 @@ fn execute_next<P: Phys>(phys: &mut P, core: &mut CoreState, insn: &Insn) -> Res
     }
 }
 
-/// Makes a step of a core, and answers its line. The core counts it.
+/// Makes a step of a core, and answers its line and its fact. The core counts it.
 ///
 /// # Errors
 ///
@@ -153,7 +154,7 @@ fn execute_next<P: Phys>(phys: &mut P, core: &mut CoreState, insn: &Insn) -> Res
 /// there, and names the frame of the first byte or word that is. `Kernel` comes exactly where none is met and the step is the
 /// kernels'. The core and the memory are as they were; what the memory notes of its calls may have grown.
 #[tactic(auto, using(crate::proofs::Stops::fetch_stops))]
-pub fn step<P: Phys>(phys: &mut P, core: &mut CoreState) -> Result<Event, StepStop>
+pub fn step<P: Phys>(phys: &mut P, core: &mut CoreState) -> Result<MadeStep, StepStop>
     requires walks { HasWalks (frame_count (P.meaning phys.old)) core.old }
     ensures step { Stepped P.rule (at core.old (P.meaning phys.old) (P.account phys.old))
         (at core.new (P.meaning phys.new) (P.account phys.new)) result }
@@ -165,7 +166,20 @@ pub fn step<P: Phys>(phys: &mut P, core: &mut CoreState) -> Result<Event, StepSt
         &mut NestedBus::new(phys, core.eptp, core.cr3),
         core.regs.rip,
     ) {
-        Ok(insn) => execute_next(phys, core, &insn),
+        Ok(insn) => {
+            let view = core.view;
+            let scratch = touches(&insn, &core.regs, SCRATCH_ADDRESS);
+            let event = execute_next(phys, core, &insn)?;
+            let next = core.regs.rip;
+            Ok(MadeStep {
+                event,
+                fact: Fact {
+                    view,
+                    next,
+                    scratch,
+                },
+            })
+        }
         Err(stop) => Err(stop_of(stop)),
     }
 }
