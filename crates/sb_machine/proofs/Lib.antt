@@ -6,6 +6,7 @@ pub mod Places
 pub mod Frames
 pub mod Seats
 pub mod Following
+pub mod Marks
 pub mod Moved
 pub mod Grounded
 pub mod Faulted

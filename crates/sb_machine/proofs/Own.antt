@@ -1,4 +1,4 @@
--- A step that a core makes by itself leaves the tables of the root kernel, and with them each list and each translation; and it
+-- A step that a core makes by itself leaves the tables of the kernels, and with them each list and each translation; and it
 -- leaves bytes in memory.
 use Rattle.std.proofs.Common.{◌≡◌, ◌≢◌, ◌∙◌, sym, ap, subst, ℕ, ◌<◌, ◌==◌, length, refl, Result, Ok, Err}
 use Rattle.std.specs.Prelude.{IsTrue}
@@ -39,9 +39,10 @@ use Rattle.sb_machine.proofs.BytesKept.{bytes_kept}
 use Rattle.sb_machine.proofs.Counting.{step_cores}
 use Rattle.sb_machine.proofs.Seeing.{entry_is}
 
--- the tables of the root kernel stay, and memory of bytes has bytes
+-- the tables of both kernels stay, and memory of bytes has bytes
 pub record KeepsTables (old new : Machine) : Type 0 where
   pub root : new.root ≡ old.root
+  pub kernel : new.kernel ≡ old.kernel
   pub bytes : AreBytes old.memory.bytes → AreBytes new.memory.bytes
 
 abbrev KeepsBy : Machine → Outcome → Type 0
@@ -62,19 +63,19 @@ module _ (machine : Machine) (number : ℕ) where
   fault_keeps : (kind : FaultKind) (address : ℕ) → KeepsBy machine (fault_outcome machine number kind address)
   fault_keeps kind address =
       claim_if (KeepsBy machine) ((state_at machine number).view == 0) _ _
-      (λ home own. record { root = refl; bytes = λ are. are }) (λ away own. record { root = refl; bytes = λ are. are })
+      (λ home own. record { root = refl; kernel = refl; bytes = λ are. are }) (λ away own. record { root = refl; kernel = refl; bytes = λ are. are })
 
   refusal_keeps : (line : Event) (told : ℕ) → KeepsBy machine (refusal_outcome machine number line told)
   refusal_keeps line told =
       claim_if (KeepsBy machine) ((state_at machine number).view == 0) _ _
-      (λ home own. record { root = refl; bytes = λ are. are })
+      (λ home own. record { root = refl; kernel = refl; bytes = λ are. are })
       (λ away. fault_keeps kind.Switch (state_at machine number).regs.rip)
 
   switch_keeps : (insn : Insn) (index : ℕ) (answer : Result Switch Missing)
       → KeepsBy machine (switch_outcome_by machine number insn index answer)
   switch_keeps insn index (Ok (switch.To eptp)) =
       claim_if (KeepsBy machine) (index == 0) _ _
-      (λ home own. record { root = refl; bytes = λ are. are }) (λ away own. record { root = refl; bytes = λ are. are })
+      (λ home own. record { root = refl; kernel = refl; bytes = λ are. are }) (λ away own. record { root = refl; kernel = refl; bytes = λ are. are })
   switch_keeps insn index (Ok switch.Unbound) = refusal_keeps _ _
   switch_keeps insn index (Ok switch.BadLeaf) = refusal_keeps _ _
   switch_keeps insn index (Err gap) = refusal_keeps _ _
@@ -87,7 +88,7 @@ module _ (machine : Machine) (number : ℕ) where
       → (AreBytes machine.memory.bytes → AreBytes memory.bytes) → PerformsBy machine number insn answer regs memory outcome
       → KeepsBy machine outcome
   performs_keep insn (Ok effect.Next) regs memory outcome bytes is =
-      subst (KeepsBy machine) (sym is) (λ own. record { root = refl; bytes = bytes })
+      subst (KeepsBy machine) (sym is) (λ own. record { root = refl; kernel = refl; bytes = bytes })
   performs_keep insn (Ok effect.Syscall) regs memory outcome bytes calls =
       λ own. absurd (call_apart calls.answer (subst (λ (line : Event). IsTrue (is_own line)) calls.line own))
   performs_keep insn (Ok effect.Switch) regs memory outcome bytes is =
@@ -107,17 +108,17 @@ module _ (machine : Machine) (number : ℕ) where
   ends_keep : (end : EndKind) (outcome : Outcome) → StepsBy machine number end outcome → KeepsBy machine outcome
   ends_keep Running outcome runs = fetch_keeps runs.0 outcome runs.2
   ends_keep (Ended status) outcome is =
-      subst (KeepsBy machine) (sym is) (λ own. record { root = refl; bytes = λ are. are })
+      subst (KeepsBy machine) (sym is) (λ own. record { root = refl; kernel = refl; bytes = λ are. are })
   ends_keep (Faulted kind address) outcome is =
-      subst (KeepsBy machine) (sym is) (λ own. record { root = refl; bytes = λ are. are })
+      subst (KeepsBy machine) (sym is) (λ own. record { root = refl; kernel = refl; bytes = λ are. are })
 
 module _ (old : Machine) (number : ℕ) (line : Event) (new : Machine) (own : IsTrue (is_own line))
     (steps : Steps old number line new) where
-  -- a step that a core makes by itself keeps both
+  -- a step that a core makes by itself keeps them
   pub own_keeps : KeepsTables old new
   own_keeps =
       let kept = ends_keep old number (core_at old number).end (line, steps.0) steps.1 own in
-      subst (KeepsTables old) (sym steps.2) (record { root = kept.root; bytes = kept.bytes })
+      subst (KeepsTables old) (sym steps.2) (record { root = kept.root; kernel = kept.kernel; bytes = kept.bytes })
 
   -- so an entry that was a pointer is one
   pub pointer_stays : (state next : State) → IsMachineOf old state → IsMachineOf new next → (core index : ℕ)

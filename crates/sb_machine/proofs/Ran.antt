@@ -13,12 +13,12 @@ use Rattle.sb_load.specs.Loading.{Load}
 use Rattle.sb_trace.specs.declared.event.Line.{Line}
 use Rattle.sb_trace.specs.Run.{RunBy}
 use Rattle.sb_trace.specs.State.{State}
-use Rattle.sb_trace.specs.Step.{Steps}
+use Rattle.sb_trace.specs.Marks.{StepsWithMark}
 use Rattle.sb_load.proofs.FirstState.{first_threads}
 use Rattle.sb_trace.proofs.Runs.{run_push}
 use Rattle.sb_trace.proofs.Steps.{steps_change}
 use Rattle.sb_machine.specs.Counts.{CountsLine, made_by, entries_of}
-use Rattle.sb_machine.specs.Laws.{Follows}
+use Rattle.sb_machine.specs.Laws.{FollowsWithMark}
 use Rattle.sb_machine.specs.Machine.{Machine}
 use Rattle.sb_machine.specs.Ran.{HasRun}
 
@@ -69,13 +69,13 @@ made_more machine new schedule core counts made few one = elim (cases_eq one cor
 -- A machine that has made the run of a schedule, and steps a core, has then made the run of the schedule with that core behind.
 pub run_goes_on : (machine new : Machine) (load : Load) (schedule : List ℕ) (lines : List Line) (end : State) (core : ℕ)
     (line : Line) → length schedule < 2 ^ 64 - 1 → line.core ≡ core → HasRun machine load schedule lines end
-    → (follows : Follows new end core line.event) → CountsLine machine core new
+    → (follows : FollowsWithMark new end core line.event) → CountsLine machine core new
     → frame_count new.memory ≡ frame_count machine.memory
     → HasRun new load (schedule ++ core ∷ []) (lines ++ line ∷ []) follows.next
 run_goes_on machine new load schedule lines end core line few same run follows counts frames = record {
-  runs = subst (λ (one : ℕ). RunBy Steps (first_state load) (schedule ++ one ∷ []) (lines ++ line ∷ []) follows.next) same
-      (run_push State Steps (first_state load) end follows.next schedule lines line run.runs
-      (subst (λ (one : ℕ). Steps end one line.event follows.next) (sym same) follows.steps));
+  runs = subst (λ (one : ℕ). RunBy StepsWithMark (first_state load) (schedule ++ one ∷ []) (lines ++ line ∷ []) follows.next) same
+      (run_push State StepsWithMark (first_state load) end follows.next schedule lines line run.runs
+      (subst (λ (one : ℕ). StepsWithMark end one line.event follows.next) (sym same) follows.steps));
   stands = follows.stands;
   made = made_more machine new schedule core counts run.made few;
   frames = frames ∙ run.frames;
@@ -85,7 +85,7 @@ run_goes_on machine new load schedule lines end core line few same run follows c
 pub run_goes_on_at : (machine new : Machine) (load : Load) (schedule : List ℕ) (index : ℕ) (lines : List Line) (end : State)
     (line : Line) → index < length schedule → length schedule < 2 ^ 64 → line.core ≡ get_or schedule index 0
     → HasRun machine load (take index schedule) lines end
-    → (follows : Follows new end (get_or schedule index 0) line.event) → CountsLine machine (get_or schedule index 0) new
+    → (follows : FollowsWithMark new end (get_or schedule index 0) line.event) → CountsLine machine (get_or schedule index 0) new
     → frame_count new.memory ≡ frame_count machine.memory
     → HasRun new load (take (index + 1) schedule) (lines ++ line ∷ []) follows.next
 run_goes_on_at machine new load schedule index lines end line inside few same run follows counts frames =
@@ -96,11 +96,11 @@ run_goes_on_at machine new load schedule index lines end line inside few same ru
 
 -- ---- cores
 
-threads_stay : (first : State) (schedule : List ℕ) (lines : List Line) (end : State) → RunBy Steps first schedule lines end
+threads_stay : (first : State) (schedule : List ℕ) (lines : List Line) (end : State) → RunBy StepsWithMark first schedule lines end
     → length end.threads ≡ length first.threads
 threads_stay first [] [] end same = ap (λ (state : State). length state.threads) same
 threads_stay first (core ∷ schedule) (line ∷ lines) end (at, (next, step, rest)) =
-    threads_stay next schedule lines end rest ∙ (steps_change first core line.event next step).thread.count
+    threads_stay next schedule lines end rest ∙ (steps_change first core step.0 next step.1).thread.count
 threads_stay first [] (line ∷ lines) end run = absurd run
 threads_stay first (core ∷ schedule) [] end run = absurd run
 

@@ -13,5 +13,6 @@ pub mod Translations
 pub mod Writing
 pub mod Seens
 pub mod OwnSteps
+pub mod Marks
 pub mod Applied
 pub mod Landing

@@ -3,21 +3,23 @@
 ghost use Rattle.std.specs.Prelude.{◌≡◌, ◌<◌, ◌↔◌, [], IfOk, IsFalse, length};
 ghost use Rattle.sb_load.specs.FirstState.{first_state};
 ghost use Rattle.sb_memory.specs.Physical.{frame_count};
+ghost use Rattle.sb_slots.specs.Marks.{mark};
 ghost use Rattle.sb_trace.specs.State.{State, thread_at};
 ghost use Rattle.sb_machine.specs.Counts.{CountsLine};
 ghost use Rattle.sb_machine.specs.Landing.{HaveLandingRegisters, LeavesCores};
-ghost use Rattle.sb_machine.specs.Laws.{Follows};
+ghost use Rattle.sb_machine.specs.Laws.{FollowsWithMark};
 ghost use Rattle.sb_machine.specs.Machine.{core_at};
+ghost use Rattle.sb_machine.specs.Marks.{StepsWithMark, map_shown};
 ghost use Rattle.sb_machine.specs.Ran.{HasRun};
 ghost use Rattle.sb_machine.specs.StandsFor.{IsMachineOf};
 ghost use Rattle.sb_machine.specs.Translations.{KeepsTranslations};
-ghost use Rattle.sb_machine.specs.Written.{Steps};
 
 use crate::laws::steps_are_plain;
 use crate::parts::Parts;
 use crate::start::first_parts;
 use crate::step::step;
 use sb_load::Loaded;
+use sb_slots::Mark;
 use sb_state::EndKind;
 use sb_trace::Line;
 use std::alloc::{AllocError, Global};
@@ -56,7 +58,7 @@ impl Machine {
         Ok(Machine { parts })
     }
 
-    /// One step of a core: its line. It takes no memory.
+    /// One step of a core: its line, with its mark (docs/MARKS.md). It takes no memory.
     ///
     /// The step is the written one, through the walks of the core's own words, and counts one line of its core. From each state
     /// for which the machine stands the plain machine has a step with this line, of which the laws hold (docs/LAWS.md), and the
@@ -71,8 +73,8 @@ impl Machine {
     pub fn step(&mut self, core: u8) -> Line
         requires { core < length self.old.cores }
         ensures core { result.core ≡ core }
-        ensures step { Steps self.old core result.event self.new }
-        ensures plain { (state : State) → IsMachineOf self.old state → Follows self.new state core result.event }
+        ensures step { StepsWithMark self.old core result.event self.new }
+        ensures plain { (state : State) → IsMachineOf self.old state → FollowsWithMark self.new state core result.event }
         ensures translations { KeepsTranslations result.event self.old self.new }
         ensures landing { HaveLandingRegisters self.new }
         ensures apart { LeavesCores result.event core self.old self.new }
@@ -84,6 +86,15 @@ impl Machine {
         steps_are_plain();
         let event = step(&mut self.parts, core);
         Line { core, event }
+    }
+
+    /// What the step of an instruction at `rip` is to the text of the process that a view of the core's thread shows, where RIP is
+    /// `next` behind it, and `scratch` says whether it accessed the scratch page (docs/MARKS.md). `step` marks its lines so.
+    pub fn mark(&self, core: u8, view: u16, rip: u64, next: u64, scratch: bool) -> Mark
+        requires { core < length self.now.cores }
+        ensures { result ≡ mark (map_shown self.now core view) rip next scratch }
+    {
+        self.parts.kernel.mark(core, view, rip, next, scratch)
     }
 
     /// Whether the thread of a core has ended, by itself or by a fault.

@@ -1,7 +1,8 @@
 //! Rows of turns on both machines.
 
 use crate::bundles::{
-    ADDS, ADDS_ON_ONE, BINDS_TWICE, CALLS, FAULTS, FORWARDS, GUESSES, LANDS, UNBOUND, bundle_of,
+    ADDS, ADDS_MOVED, ADDS_ON_ONE, BINDS_TWICE, CALLS, FAULTS, FORWARDS, GUESSES, LANDS, UNBOUND,
+    bundle_of,
 };
 use crate::pair::Pair;
 use crate::same::assert_same;
@@ -22,7 +23,7 @@ type Row = (
 );
 
 #[rattlefmt::skip]
-const ROWS: [Row; 7] = [
+const ROWS: [Row; 8] = [
     ("a call", &[&ADDS, &CALLS], &[(0, 7), (1, 72)], Event::Entered { index: 1, slot: 0 }),
     ("no free stack", &[&ADDS_ON_ONE, &CALLS, &CALLS], &[(0, 7), (1, 41), (2, 35), (1, 13), (2, 38)],
         Event::PoolEmpty { index: 1 }),
@@ -32,10 +33,12 @@ const ROWS: [Row; 7] = [
     ("a call in a call", &[&FORWARDS, &BINDS_TWICE], &[(0, 7), (1, 46)], Event::WrongKey { index: 2 }),
     ("a fault in a server", &[&FAULTS, &CALLS], &[(0, 7), (1, 41)],
         Event::ServerFault { kind: FaultKind::Memory, at: 0x40_0000 }),
+    ("an instruction of a server that was moved", &[&ADDS_MOVED, &CALLS], &[(0, 7), (1, 72)],
+        Event::Extra { rip: 0x40_0017 }),
 ];
 
 /// Both machines at the start of a bundle of these texts.
-fn start(alloc: Global, texts: &[&[u8]]) -> Result<Pair, Fail> {
+pub fn start(alloc: Global, texts: &[&[u8]]) -> Result<Pair, Fail> {
     let bundle = read_bundle(alloc, &bundle_of(alloc, texts)?)
         .ok()
         .ok_or("the bytes are a bundle")?;

@@ -6,3 +6,4 @@ pub mod Bits
 pub mod Lawful
 pub mod SoundStart
 pub mod FirstSound
+pub mod Scratch

@@ -8,7 +8,9 @@ ghost use Rattle.sb_memory.specs.Physical.{frame_count};
 ghost use Rattle.sb_trace.specs.State.{State, registration_of};
 ghost use Rattle.sb_trace.specs.Registers.{rax, rdi};
 ghost use Rattle.sb_trace.specs.Syscall.{syscall_outcome};
+ghost use Rattle.sb_trace.specs.Marks.{map_in};
 ghost use Rattle.sb_frames.specs.Book.{Book, free_count};
+ghost use Rattle.sb_slots.specs.Marks.{mark};
 ghost use Rattle.sb_sub.specs.Kernel.{seat_in, shown_in};
 ghost use Rattle.sb_sub.specs.StandsFor.{StandsFor};
 ghost use Rattle.sb_sub.specs.Serving.{IsRefused, KeepsLists, ServesBy, exit_answer, exit_regs};
@@ -29,8 +31,9 @@ use sb_insn::Regs;
 use sb_insn::registers::{RAX, RDI, RSI};
 use sb_memory::Memory;
 use sb_root::RootKernel;
+use sb_slots::Mark;
 use sb_state::Registration;
-use sb_trace::Bindings;
+use sb_trace::{Bindings, mark_without_text};
 use sb_tramp::KeyWords;
 use std::marker::Model;
 
@@ -141,6 +144,19 @@ impl SubKernel {
         }
         let binding = seat.bindings.find(u32::from(view));
         binding.map_or(seat.home, |binding| binding.server)
+    }
+
+    /// What the step of an instruction at `rip` is to the text of the process that a view of the thread shows, where RIP is `next`
+    /// behind it, and `scratch` says whether it accessed the scratch page (docs/MARKS.md).
+    pub fn mark(&self, thread: u8, view: u16, rip: u64, next: u64, scratch: bool) -> Mark
+        requires { thread < length self.now.seats }
+        ensures { result ≡ mark (map_in (process_in self.now (shown_in self.now thread view))) rip next scratch }
+    {
+        let process = self.shown(thread, view);
+        match self.processes.get(process as usize) {
+            Some(process) => process.plain.mark(rip, next, scratch),
+            None => mark_without_text(rip, next, scratch),
+        }
     }
 
     /// Whether there is a process of this number.

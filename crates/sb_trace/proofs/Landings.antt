@@ -227,7 +227,8 @@ executed_mapped state core view insn regs =
     ∙ byte_mapped core view first address how)
     (row_of insn regs) regs state (without_flights state) tt tt refl
 
-fetches_mapped : (state : State) (core view address : ℕ) (fetched : Result Insn BusStop)
+-- an instruction is fetched alike
+pub fetches_mapped : (state : State) (core view address : ℕ) (fetched : Result Insn BusStop)
     → FetchesOn (plain core view) state address tt tt fetched
     → FetchesOn (plain core view) (without_flights state) address tt tt fetched
 unfolding plain_byte page_for contents
@@ -448,26 +449,3 @@ by_alike state core (Faulted kind address) outcome ended sound is =
 
 pub steps_drop : StepsDrop
 steps_drop old core event new sound steps = by_alike old core (thread_at old core).state (event, new) refl sound steps
-
--- ---- a run
-
-abbrev line_of : ℕ → Event → Line
-line_of core event = record { core = core; event = event }
-
--- a step before a run
-step_before : (old next new : State) (core : ℕ) (event : Event) (lines : List Line) → StepsAlike old core event next
-    → RunBy StepsOnce (without_flights next) (map core_of lines) lines (without_flights new)
-    → RunBy StepsOnce (without_flights old) (map core_of (with_line (line_of core event) event lines))
-    (with_line (line_of core event) event lines) (without_flights new)
-step_before old next new core (Landing phase) lines alike run =
-    subst (λ (state : State). RunBy StepsOnce state (map core_of lines) lines (without_flights new)) alike run
-step_before old next new core _ lines alike run = (refl, (without_flights next, alike, run))
-
-pub landings_drop : LandingsDrop
-landings_drop old [] [] new sound run = ap without_flights run
-landings_drop old (core ∷ cores) (line ∷ lines) new sound (same, (next, step, rest)) =
-    step_before old next new line.core line.event (without_landings lines)
-    (subst (λ n. StepsAlike old n line.event next) (sym same) (steps_drop old core line.event next sound step))
-    (landings_drop next cores lines new (steps_keep_sound old core line.event next sound step) rest)
-landings_drop old [] (line ∷ lines) new sound run = absurd run
-landings_drop old (core ∷ cores) [] new sound run = absurd run

@@ -1,4 +1,4 @@
--- A step has one outcome, with landings and without, and so a run from a state has one end.
+-- A step has one outcome, with landings and without.
 use Rattle.std.proofs.Common.{◌≡◌, ◌∙◌, sym, ap, subst, ℕ, Result, Ok, Err}
 use Rattle.std.specs.Prelude.{Option, Some, None}
 use Rattle.sb_insn.specs.declared.insn.Insn.{Insn}
@@ -18,8 +18,7 @@ use Rattle.sb_trace.specs.KernelCall.{kernel_call}
 use Rattle.sb_trace.specs.Flight.{vmfunc_outcome}
 use Rattle.sb_trace.specs.Step.{StopsWith, PerformsBy, FollowsFetch, RunsOn, execution_in_view, GoesOn, StepsBy, Steps}
 use Rattle.sb_trace.specs.OneStep.{StepsOnceBy, StepsOnce}
-use Rattle.sb_trace.specs.Laws.{HasOneRun}
-use Rattle.sb_trace.proofs.Runs.{one_run}
+use Rattle.sb_trace.specs.declared.event.Event.{Event}
 
 stops_once : (state : State) (core : ℕ) (stop : BusStop) (one other : Outcome) → StopsWith state core stop one
     → StopsWith state core stop other → one ≡ other
@@ -76,24 +75,16 @@ one_steps_by_once state core thread (Faulted kind address) one other first secon
 both_parts : (one other : Outcome) → one ≡ other → (one.0 ≡ other.0) × (one.1 ≡ other.1)
 both_parts one other same = (ap (λ (outcome : Outcome). outcome.0) same, ap (λ (outcome : Outcome). outcome.1) same)
 
-pub steps_run_once : HasOneRun Steps
-steps_run_once =
-    one_run State Steps (λ old core event other new another first second.
-    both_parts (event, new) (
-      other,
-      another,
-    ) (steps_by_once old core (thread_at old core) (thread_at old core).state (event, new) (
-      other,
-      another,
-    ) first second))
+-- a step has one line and leads to one state
+pub steps_once : (old : State) (core : ℕ) (event other : Event) (new another : State) → Steps old core event new
+    → Steps old core other another → (event ≡ other) × (new ≡ another)
+steps_once old core event other new another first second =
+    both_parts (event, new) (other, another)
+    (steps_by_once old core (thread_at old core) (thread_at old core).state (event, new) (other, another) first second)
 
-pub one_steps_run_once : HasOneRun StepsOnce
-one_steps_run_once =
-    one_run State StepsOnce (λ old core event other new another first second.
-    both_parts (event, new) (
-      other,
-      another,
-    ) (one_steps_by_once old core (thread_at old core) (thread_at old core).state (event, new) (
-      other,
-      another,
-    ) first second))
+-- and so has one of the machine that calls in one step
+pub one_steps_once : (old : State) (core : ℕ) (event other : Event) (new another : State) → StepsOnce old core event new
+    → StepsOnce old core other another → (event ≡ other) × (new ≡ another)
+one_steps_once old core event other new another first second =
+    both_parts (event, new) (other, another)
+    (one_steps_by_once old core (thread_at old core) (thread_at old core).state (event, new) (other, another) first second)

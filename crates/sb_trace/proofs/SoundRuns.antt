@@ -70,6 +70,6 @@ steps_keep_sound old core event new sound steps =
 pub runs_keep_sound : RunsKeepSound
 runs_keep_sound old [] [] new sound run = subst IsSound (sym run) sound
 runs_keep_sound old (core ∷ cores) (line ∷ lines) new sound (same, (next, step, rest)) =
-    runs_keep_sound next cores lines new (steps_keep_sound old core line.event next sound step) rest
+    runs_keep_sound next cores lines new (steps_keep_sound old core step.0 next sound step.1) rest
 runs_keep_sound old [] (line ∷ lines) new sound run = absurd run
 runs_keep_sound old (core ∷ cores) [] new sound run = absurd run

@@ -4,10 +4,9 @@ use Rattle.sb_trace.specs.declared.event.Line.{Line}
 use Rattle.sb_state.specs.State.{State}
 use Rattle.sb_trace.specs.End.{end_of}
 use Rattle.sb_trace.specs.Laws.{RunsKeepOneSwitch, HasOneText, TextsAreOfLawfulRuns, ReportsAreOfLawfulRuns, ReportsAtOnce}
-use Rattle.sb_trace.proofs.OneOutcome.{steps_run_once}
+use Rattle.sb_trace.proofs.RunsWithMarks.{steps_run_once, landings_drop}
 use Rattle.sb_trace.proofs.SoundRuns.{runs_keep_sound}
 use Rattle.sb_trace.proofs.LandingTexts.{reports_drop}
-use Rattle.sb_trace.proofs.Landings.{landings_drop}
 use Rattle.sb_trace.proofs.Fetchable.{one_pattern}
 
 -- two runs have the same lines and the same last state, and so the same text

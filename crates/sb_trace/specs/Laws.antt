@@ -24,6 +24,7 @@ use Rattle.sb_trace.specs.Run.{RunBy}
 use Rattle.sb_trace.specs.Step.{Steps}
 use Rattle.sb_trace.specs.End.{end_of}
 use Rattle.sb_trace.specs.OneStep.{StepsAlike, without_flights, without_landings}
+use Rattle.sb_trace.specs.Marks.{StepsWithMark, StepsAlikeWithMark}
 use Rattle.sb_trace.specs.Runs.{Runs, RunsAtOnce, IsTextOfRun}
 use Rattle.sb_trace.specs.Report.{report_text}
 use Rattle.sb_trace.specs.LandingText.{without_landing_lines}
@@ -83,6 +84,11 @@ abbrev pub StepsDrop : Type 0
 StepsDrop = (old : State) (core : ℕ) (event : Event) (new : State) → IsSound old → Steps old core event new
     → StepsAlike old core event new
 
+-- and so it is with marks
+abbrev pub StepsWithMarkDrop : Type 0
+StepsWithMarkDrop = (old : State) (core : ℕ) (event : Event) (new : State) → IsSound old → StepsWithMark old core event new
+    → StepsAlikeWithMark old core event new
+
 -- Without the landing lines and their entries of the schedule, a run is one of the machine that calls in one step.
 abbrev pub LandingsDrop : Type 0
 LandingsDrop =
@@ -115,6 +121,11 @@ FlightLines =
 -- what a step may change
 abbrev pub StepsChange : Type 0
 StepsChange = (old : State) (core : ℕ) (event : Event) (new : State) → Steps old core event new → StepChanges old core event new
+
+-- with its mark a line permits what it permits without
+abbrev pub StepsWithMarkChange : Type 0
+StepsWithMarkChange = (old : State) (core : ℕ) (event : Event) (new : State) → StepsWithMark old core event new
+    → StepChanges old core event new
 
 -- VMFUNC's bytes stand at three consecutive addresses, each of which may be fetched, at one address only, in every view of
 -- every thread

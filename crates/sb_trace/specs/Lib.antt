@@ -26,6 +26,7 @@ pub mod SyscallProtect
 pub mod Syscall
 pub mod Step
 pub mod OneStep
+pub mod Marks
 pub mod Runs
 pub mod Code
 pub mod Table

@@ -5,12 +5,12 @@ use Rattle.sb_trace.specs.declared.end.EndState.{EndState}
 use Rattle.sb_trace.specs.declared.event.Line.{Line}
 use Rattle.sb_trace.specs.End.{end_of}
 use Rattle.sb_trace.specs.Run.{RunBy}
-use Rattle.sb_trace.specs.Step.{Steps}
-use Rattle.sb_trace.specs.OneStep.{StepsOnce, without_flights, without_landings, core_of}
+use Rattle.sb_trace.specs.OneStep.{without_flights, without_landings, core_of}
+use Rattle.sb_trace.specs.Marks.{StepsWithMark, StepsOnceWithMark}
 
--- From the first state the cores of the schedule step in order, with these lines, to the last state.
+-- From the first state the cores of the schedule step in order, with these lines and their marks, to the last state.
 abbrev pub Runs : State → List ℕ → List Line → State → Type 0
-Runs first schedule lines end = RunBy Steps first schedule lines end
+Runs first schedule lines end = RunBy StepsWithMark first schedule lines end
 
 -- and this is the last state as reports show it
 abbrev pub RunsTo : State → List ℕ → List Line → EndState → Type 0
@@ -24,4 +24,5 @@ IsTextOfRun text_of first schedule text =
 -- Without its landing lines and their entries of the schedule, the run is one of the machine that calls in one step.
 abbrev pub RunsAtOnce : State → List Line → State → Type 0
 RunsAtOnce first lines end =
-    RunBy StepsOnce (without_flights first) (map core_of (without_landings lines)) (without_landings lines) (without_flights end)
+    RunBy StepsOnceWithMark (without_flights first) (map core_of (without_landings lines)) (without_landings lines)
+    (without_flights end)

@@ -8,7 +8,7 @@ use Rattle.sb_trace.specs.declared.end.EndState.{EndState}
 use Rattle.sb_trace.specs.declared.event.Line.{Line}
 use Rattle.sb_trace.specs.Report.{report_text}
 use Rattle.sb_trace.specs.Runs.{Runs, IsTextOfRun}
-use Rattle.sb_trace.proofs.OneOutcome.{steps_run_once}
+use Rattle.sb_trace.proofs.RunsWithMarks.{steps_run_once}
 use Rattle.sb_trace.proofs.Texts.{one_text}
 use Rattle.skybridge.specs.declared.words.BundleCommand.{BundleCommand}
 use Rattle.skybridge.specs.declared.words.BundleCommand.TheVariants.{Replay, ReplayDump, Plain, Check, Rewrite}

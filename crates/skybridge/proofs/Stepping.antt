@@ -4,7 +4,7 @@ use Rattle.sb_bundle.specs.Limits.{AllBelow}
 use Rattle.sb_load.specs.Loading.{Load, IsLoadable}
 use Rattle.sb_machine.proofs.Ran.{run_goes_on_at, run_cores}
 use Rattle.sb_machine.specs.Counts.{CountsLine}
-use Rattle.sb_machine.specs.Laws.{Follows}
+use Rattle.sb_machine.specs.Laws.{FollowsWithMark}
 use Rattle.sb_machine.specs.Machine.{Machine}
 use Rattle.sb_machine.specs.Ran.{HasRun}
 use Rattle.sb_memory.specs.Physical.{frame_count}
@@ -33,7 +33,7 @@ entry_is_core machine load schedule index lines end loadable is run inside =
 pub one_more : (machine new : Machine) (load : Load) (schedule : List ℕ) (index : ℕ) (lines : List Line) (end : State) (line : Line)
     → IsLoadable load → schedule ≡ load.bundle.schedule → index < length schedule → line.core ≡ get_or schedule index 0
     → HasRun machine load (take index schedule) lines end
-    → (follows : Follows new end (get_or schedule index 0) line.event) → CountsLine machine (get_or schedule index 0) new
+    → (follows : FollowsWithMark new end (get_or schedule index 0) line.event) → CountsLine machine (get_or schedule index 0) new
     → frame_count new.memory ≡ frame_count machine.memory
     → HasRun new load (take (index + 1) schedule) (lines ++ line ∷ []) follows.next
 one_more machine new load schedule index lines end line loadable is inside same run follows counts frames =

@@ -15,7 +15,7 @@ behind c =
     let steps = subst (λ (machine : Machine). AreSteps machine c.args.core made.0 c.args.after.now c.args.writes.now made.1)
     (sym c.self.view_is) made.2 in
     subst (IsBehind parts c.args.core c.args.after.now) (sym c.apply.ensures.applied)
-    (is_behind c.own_steps_are_plain.ensures parts (c.self.invariant.0, c.self.invariant.1) c.apply.ensures.physical c.args.core
+    (is_behind c.own_steps_are_plain.ensures.steps parts (c.self.invariant.0, c.self.invariant.1) c.apply.ensures.physical c.args.core
     there c.args.after.now c.args.writes.now made.0 made.1 steps)
 
 pub invariant_of-self : goal.invariant_of-self
@@ -27,7 +27,7 @@ returns-clause-applied c =
     let there = subst (λ (machine : Machine). c.args.core < length machine.cores) (sym c.self.view_is) c.requires.there in
     λ events new made.
     c.apply.ensures.applied
-    ∙ behind_is c.own_steps_are_plain.ensures parts (c.self.invariant.0, c.self.invariant.1) c.apply.ensures.physical c.args.core
+    ∙ behind_is c.own_steps_are_plain.ensures.steps parts (c.self.invariant.0, c.self.invariant.1) c.apply.ensures.physical c.args.core
     there c.args.after.now c.args.writes.now events new
     (subst (λ (machine : Machine). AreSteps machine c.args.core events c.args.after.now c.args.writes.now new)
     (sym c.self.view_is) made)
