@@ -6,6 +6,7 @@ use Rattle.sb_bus.specs.declared.stop.BusStop.{BusStop}
 use Rattle.sb_exec.proofs.OneFetch.{one_fetch_on}
 use Rattle.sb_nested.specs.Store.{view_interface}
 use Rattle.sb_trace.specs.declared.event.Event.{Event}
+use Rattle.sb_trace.specs.Marks.{touches_scratch}
 use Rattle.sb_machine.specs.declared.place.Seen.{Seen}
 use Rattle.sb_machine.specs.Machine.{seen_by}
 use Rattle.sb_machine.specs.Seens.{Holds, seen_words}
@@ -14,7 +15,7 @@ use Rattle.sb_agree.proofs.Held.{writes_held}
 use Rattle.sb_block.specs.Step.{At, Rule, CoreOutcome, Made, CoreSteps, fetch_outcome}
 use Rattle.sb_block.specs.declared.fact.Fact.{Fact}
 use Rattle.sb_block.specs.declared.fact.MadeStep.{MadeStep}
-use Rattle.sb_block.specs.Facts.{IsFact, touches_scratch}
+use Rattle.sb_block.specs.Facts.{IsFact}
 use Rattle.sb_block.specs.Run.{at, CoreRuns}
 use Rattle.sb_block.specs.Block.{OneBlock}
 use Rattle.sb_block.proofs.Made.{made_same}

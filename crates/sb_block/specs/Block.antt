@@ -6,10 +6,12 @@ use Rattle.sb_trace.specs.declared.event.Event.{Event}
 use Rattle.sb_machine.specs.declared.processor.CoreState.{CoreState}
 use Rattle.sb_machine.specs.declared.place.Seen.{Seen}
 use Rattle.sb_machine.specs.Machine.{Machine, state_at}
+use Rattle.sb_machine.specs.Marks.{OwnStepsWithMarks}
 use Rattle.sb_machine.specs.OwnSteps.{HasRunningCore, Leaves, OwnSteps, is_own}
 use Rattle.sb_machine.specs.Seens.{Holds, seen_core, seen_words}
 use Rattle.sb_machine.specs.Written.{Steps}
 use Rattle.sb_block.specs.declared.fact.MadeStep.{MadeStep}
+use Rattle.sb_block.specs.Marked.{events_marked}
 use Rattle.sb_block.specs.Run.{at, CoreRuns, events_of}
 use Rattle.sb_block.specs.Step.{At, CoreOutcome, CoreSteps}
 
@@ -34,12 +36,14 @@ pub record IsBlock (frames number : ℕ) (before : CoreState) (steps : List Made
 
 -- A block is so many steps of each machine in which it may be made, whatever else its memory holds: where a machine has as many
 -- frames, the core's thread runs and is as the block begins, and the places that were read hold the values that were seen, these
--- steps lead to the block's core and words, and change nothing else but what is kept from the VMFUNC on.
+-- steps, with the marks that they have on the machine before them, lead to the block's core and words, and change nothing else but
+-- what is kept from the VMFUNC on.
 abbrev pub BlockHolds : ℕ → ℕ → CoreState → List MadeStep → CoreState → List Seen → List Seen → Type 0
 BlockHolds frames number before steps after reads writes =
     (machine : Machine) → IsWhole frames machine.memory → HasRunningCore machine number → state_at machine number ≡ before
     → Holds number before machine.memory reads
-    → (new : Machine) × OwnSteps machine number (events_of steps) new × Leaves machine number after writes new
+    → (new : Machine) × OwnSteps machine number (events_of steps) new
+    × OwnStepsWithMarks machine number (events_marked machine number steps) new × Leaves machine number after writes new
 
 -- THE LAW: each block is a run of the present machine
 abbrev pub BlocksHold : Type 0

@@ -1,20 +1,13 @@
 -- What is kept of a step beside its line: what its mark will need of it (docs/MARKS.md). The text by which it is marked is known
 -- only where the steps are put into a machine.
-use Rattle.std.specs.Prelude.{◌≡◌, Bool, Ok}
-use Rattle.sb_abi.specs.declared.trampoline.TheConstants.{SCRATCH_ADDRESS}
+use Rattle.std.specs.Prelude.{◌≡◌, Ok}
 use Rattle.sb_insn.specs.declared.insn.Insn.{Insn}
-use Rattle.sb_insn.specs.declared.registers.Regs.{Regs}
 use Rattle.sb_exec.specs.Fetching.{FetchesOn}
-use Rattle.sb_exec.specs.Rows.{row_of}
-use Rattle.sb_exec.specs.Touching.{touches}
 use Rattle.sb_nested.specs.Store.{view_interface}
+use Rattle.sb_trace.specs.Marks.{touches_scratch}
 use Rattle.sb_machine.specs.Machine.{seen_by}
 use Rattle.sb_block.specs.declared.fact.Fact.{Fact}
 use Rattle.sb_block.specs.Step.{At, Rule}
-
--- whether an instruction, with these registers, accesses the scratch page
-abbrev pub touches_scratch : Insn → Regs → Bool
-touches_scratch insn regs = touches SCRATCH_ADDRESS (row_of insn regs)
 
 -- The fact of a step: the view before it, RIP behind it, and whether the instruction that was fetched for it accesses the scratch
 -- page.

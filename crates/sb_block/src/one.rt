@@ -11,16 +11,16 @@ ghost use Rattle.sb_block.specs.Run.{at};
 ghost use Rattle.sb_block.specs.Step.{fetch_outcome, state_behind, state_in_flight, switch_outcome, with_made};
 
 use crate::fact::{Fact, MadeStep};
-use sb_abi::{COMPARE_KEY, SCRATCH_ADDRESS, VMFUNC_PHASE};
+use sb_abi::{COMPARE_KEY, VMFUNC_PHASE};
 use sb_bus::BusStop;
-use sb_exec::{Effect, execute, fetch_insn, touches};
+use sb_exec::{Effect, execute, fetch_insn};
 use sb_insn::{Insn, Regs};
 use sb_machine::{CoreState, home_line, home_state, line_by, phase_behind, regs_behind};
 use sb_memory::{Frame, Phys};
 use sb_nested::NestedBus;
 use sb_root::{Switch, switch};
 use sb_state::{eax, ecx};
-use sb_trace::Event;
+use sb_trace::{Event, touches_scratch};
 use sb_walks::frame_number;
 
 /// Why a core makes no step by itself.
@@ -168,7 +168,7 @@ pub fn step<P: Phys>(phys: &mut P, core: &mut CoreState) -> Result<MadeStep, Ste
     ) {
         Ok(insn) => {
             let view = core.view;
-            let scratch = touches(&insn, &core.regs, SCRATCH_ADDRESS);
+            let scratch = touches_scratch(&insn, &core.regs);
             let event = execute_next(phys, core, &insn)?;
             let next = core.regs.rip;
             Ok(MadeStep {
