@@ -95,8 +95,8 @@ module _ (machine : Machine) (number : ℕ) (running : HasRunningCore machine nu
 
     -- an outcome that puts a core and a memory, after which the line is counted
     lifts_by : (core : Core) (origin : Option Origin) (memory : Physical) → Performed execution.answer (told line core memory)
-        → IsOwn (state_at machine number).regs.rip line → count_made core ≡ core_with (core_at machine number) next.core origin → memory ≡ next.memory
-        → Lifts machine number line next
+        → IsOwn (state_at machine number).regs.rip line → count_made core ≡ core_with (core_at machine number) next.core origin
+        → memory ≡ next.memory → Lifts machine number line next
     lifts_by core origin memory performed own counted same =
         let runs : RunsOn machine number (told line core memory) = (Ok insn, fetches, performed) in
         record {

@@ -25,7 +25,8 @@ pub run_pushed : {Account : Type 0} (rule : Rule Account) (before mid after : At
     (step : MadeStep) → CoreRuns rule before steps mid → MakesStep rule mid step after → more ≡ steps ++ step ∷ []
     → CoreRuns rule before more after
 run_pushed rule before mid after steps more step runs makes same =
-    subst (λ (list : List MadeStep). CoreRuns rule before list after) (sym same) (run_on rule steps before mid after step runs makes)
+    subst (λ (list : List MadeStep). CoreRuns rule before list after) (sym same)
+    (run_on rule steps before mid after step runs makes)
 
 -- there is one more of them
 pub pushed_length : (steps more : List MadeStep) (step : MadeStep) (count : ℕ) → more ≡ steps ++ step ∷ []

@@ -36,8 +36,8 @@ pub record IsBlock (frames number : ℕ) (before : CoreState) (steps : List Made
 
 -- A block is so many steps of each machine in which it may be made, whatever else its memory holds: where a machine has as many
 -- frames, the core's thread runs and is as the block begins, and the places that were read hold the values that were seen, these
--- steps, with the marks that they have on the machine before them, lead to the block's core and words, and change nothing else but
--- what is kept from the VMFUNC on.
+-- steps, with the marks that they have on the machine before them, lead to the block's core and words. They change nothing else
+-- but what is kept from the VMFUNC on.
 abbrev pub BlockHolds : ℕ → ℕ → CoreState → List MadeStep → CoreState → List Seen → List Seen → Type 0
 BlockHolds frames number before steps after reads writes =
     (machine : Machine) → IsWhole frames machine.memory → HasRunningCore machine number → state_at machine number ≡ before

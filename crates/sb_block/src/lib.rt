@@ -4,14 +4,14 @@
 //! back what is written. `run_block` makes steps of a core over it, up to a limit, until one of them meets a frame of which there
 //! is no copy or is the kernels' to do. What comes out is a `Block`: the lines of the steps, the core behind them, the words that
 //! were read with the values that they had, and the words that were written. By the law `blocks_hold` it is a run of each machine
-//! in which those words hold these values, whatever else has changed there since the copies were made, and the copies may come from
-//! different moments.
+//! in which those words hold these values, whatever else has changed there since the copies were made, and the copies may come
+//! from different moments.
 //!
 //! A block knows no process, and so no text: its lines have no marks. Beside each line stands a `Fact`, with what its mark needs.
 //!
-//! Inside: the step of a core over any physical memory (`one`), what is told of it (`fact`), steps one after another (`run`), what
-//! they read and wrote (`collect`), blocks (`block`), and the laws (`laws`). Not inside: the copies (`sb_partial`), the machine and
-//! how a block is applied to it (`sb_machine`), who decides that a block still holds, marks, and threads (`sb_book`).
+//! Inside: the step of a core over any physical memory (`one`), what is told of it (`fact`), steps one after another (`run`),
+//! what they read and wrote (`collect`), blocks (`block`), and the laws (`laws`). Not inside: the copies (`sb_partial`), the
+//! machine and how a block is applied to it (`sb_machine`), who decides that a block still holds, marks, and threads (`sb_book`).
 //!
 //! ```text
 //! let mut part = Partial::new(640);

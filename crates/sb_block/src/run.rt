@@ -37,7 +37,8 @@ fn next(
     Ok(made)
 }
 
-/// Makes steps up to a limit, or until one is not made, and adds them. What was noted until the last of them is what `began` says.
+/// Makes steps up to a limit, or until one is not made, and adds them. What was noted until the last of them is what `began`
+/// says.
 #[tactic(auto, using(crate::proofs::Pushing::runs_none, crate::proofs::Pushing::run_pushed))]
 pub fn make_steps(
     part: &mut Partial,
