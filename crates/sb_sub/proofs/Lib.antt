@@ -18,6 +18,7 @@ pub mod Binding
 pub mod Bound
 pub mod Telling
 pub mod Lists
+pub mod Marks
 pub mod Frames
 pub mod Begun
 pub mod StartImages
