@@ -4,6 +4,7 @@ use Rattle.sb_trace.specs.Marks.{event_with_mark}
 use Rattle.sb_machine.specs.declared.processor.Core.{Core}
 use Rattle.sb_machine.specs.Machine.{state_at}
 use Rattle.sb_machine.specs.Marks.{HasMark, map_shown}
+use Rattle.sb_machine.specs.Written.{Steps}
 use Rattle.sb_machine.proofs.Counting.{step_cores, works_keep}
 use Rattle.sb_machine.proofs.Ending.{seated}
 use Rattle.sb_machine.proofs.Marks.{has_mark}
@@ -39,7 +40,8 @@ returns c =
     let old = c.args.parts.now in
     let new = c.count_line.new.parts in
     let made = c.work-made.result in
-    let steps = (c.work-made.new.parts, c.work-made.ensures.works, c.count_line.ensures) in
+    let steps : Steps old c.args.number made.event new =
+    (c.work-made.new.parts, c.work-made.ensures.works, c.count_line.ensures) in
     let follows =
     c.steps_are_plain.ensures.steps old c.args.number made.event new c.requires.stands.0 c.requires.there c.requires.stands.1
     steps in
