@@ -3,7 +3,6 @@ use Rattle.std.proofs.Common.{◌≡◌, ap, sym, subst, ◌∙◌, ℕ, ◌*◌
 use Rattle.std.proofs.lemmas.Bool.Decides.{nat_tests}
 use Rattle.sb_memory.specs.Physical.{Physical, IsPhysical, HasAllFrames, frame_count}
 use Rattle.sb_memory.specs.declared.page.TheConstants.{PAGE_SIZE}
-use Rattle.sb_trace.specs.declared.event.Event.{Event}
 use Rattle.sb_machine.specs.declared.processor.CoreState.{CoreState}
 use Rattle.sb_machine.specs.declared.place.Place.TheVariants.{Word}
 use Rattle.sb_machine.specs.declared.place.Seen.{Seen}
@@ -12,6 +11,7 @@ use Rattle.sb_machine.specs.Seens.{Holds, HoldsWords as HoldsSeens, ChangesWords
 use Rattle.sb_agree.specs.Noted.{Noted, nothing, noted_rule, has_word, word_of}
 use Rattle.sb_agree.specs.Held.{Agrees, HoldsWords}
 use Rattle.sb_agree.proofs.Held.{starts, writes_held, with_all_frames, count_of_all, physical_with_all, has_all_frames}
+use Rattle.sb_block.specs.declared.fact.MadeStep.{MadeStep}
 use Rattle.sb_block.specs.Run.{at, CoreRuns}
 use Rattle.sb_block.specs.Block.{IsBlock, IsWhole}
 use Rattle.sb_block.proofs.Steps.{RunAlike, runs_alike}
@@ -73,25 +73,25 @@ changes all start writes memory changed agree size =
 -- ---- a block
 
 -- a run over a memory is one over each memory that has all frames and holds what was read
-pub runs_over : (number : ℕ) (before : CoreState) (events : List Event) (after : CoreState) (memory ended : Physical)
+pub runs_over : (number : ℕ) (before : CoreState) (steps : List MadeStep) (after : CoreState) (memory ended : Physical)
     (noted : Noted) (other : Physical) → frame_count other ≡ frame_count memory → IsPhysical memory → IsPhysical other
     → HasAllFrames other → Holds number before other (seen_words memory noted.reads)
-    → CoreRuns noted_rule (at before memory nothing) events (at after ended noted)
-    → RunAlike noted.reads other (at before memory nothing) events (at after ended noted) other
-runs_over number before events after memory ended noted other frames sound also all held runs =
-    runs_alike noted.reads other events (at before memory nothing) (at after ended noted) other
+    → CoreRuns noted_rule (at before memory nothing) steps (at after ended noted)
+    → RunAlike noted.reads other (at before memory nothing) steps (at after ended noted) other
+runs_over number before steps after memory ended noted other frames sound also all held runs =
+    runs_alike noted.reads other steps (at before memory nothing) (at after ended noted) other
     (starts noted.reads memory other frames sound also all (words_held memory other number before noted.reads held)) runs
     (λ word e. e)
 
 -- so many steps over copies are a block
-pub copies_give : (number : ℕ) (before : CoreState) (events : List Event) (after : CoreState) (memory ended : Physical)
-    (noted : Noted) → IsPhysical memory → CoreRuns noted_rule (at before memory nothing) events (at after ended noted)
-    → IsBlock (frame_count memory) number before events after (seen_core number before ∷ seen_words memory noted.reads)
+pub copies_give : (number : ℕ) (before : CoreState) (steps : List MadeStep) (after : CoreState) (memory ended : Physical)
+    (noted : Noted) → IsPhysical memory → CoreRuns noted_rule (at before memory nothing) steps (at after ended noted)
+    → IsBlock (frame_count memory) number before steps after (seen_core number before ∷ seen_words memory noted.reads)
     (seen_words ended noted.writes)
-copies_give number before events after memory ended noted sound runs =
+copies_give number before steps after memory ended noted sound runs =
     let whole : Physical = with_all_frames memory in
     let run =
-    runs_over number before events after memory ended noted whole (count_of_all memory) sound (physical_with_all memory sound)
+    runs_over number before steps after memory ended noted whole (count_of_all memory) sound (physical_with_all memory sound)
     (has_all_frames memory) (holds_own number before memory noted.reads) runs in
     record {
       memory = whole;
@@ -105,25 +105,25 @@ copies_give number before events after memory ended noted sound runs =
     }
 
 -- a block over another memory, with no account
-pub record RunsOver (before : CoreState) (events : List Event) (after : CoreState) (writes : List Seen) (other : Physical)
+pub record RunsOver (before : CoreState) (steps : List MadeStep) (after : CoreState) (writes : List Seen) (other : Physical)
     : Type 0 where
   pub last : Physical
-  pub runs : CoreRuns no_account (alone before other) events (alone after last)
+  pub runs : CoreRuns no_account (alone before other) steps (alone after last)
   pub changes : ChangesWords writes other last
 
 -- a block is a run of each memory that holds what it read
-pub block_runs : (frames number : ℕ) (before : CoreState) (events : List Event) (after : CoreState) (reads writes : List Seen)
-    → IsBlock frames number before events after reads writes → (other : Physical) → IsWhole frames other
-    → Holds number before other reads → RunsOver before events after writes other
-block_runs frames number before events after reads writes block other whole held =
+pub block_runs : (frames number : ℕ) (before : CoreState) (steps : List MadeStep) (after : CoreState) (reads writes : List Seen)
+    → IsBlock frames number before steps after reads writes → (other : Physical) → IsWhole frames other
+    → Holds number before other reads → RunsOver before steps after writes other
+block_runs frames number before steps after reads writes block other whole held =
     let noted = block.noted in
     let standing = (subst (λ (seens : List Seen). Holds number before other seens) block.saw held).1 in
     let run =
-    runs_over number before events after block.memory block.ended noted other (whole.count ∙ sym block.whole.count)
+    runs_over number before steps after block.memory block.ended noted other (whole.count ∙ sym block.whole.count)
     block.whole.sound whole.sound whole.all standing block.runs in
     record {
       last = run.ended;
-      runs = runs_unnoted events (at before other nothing) (at after run.ended noted) run.runs;
+      runs = runs_unnoted steps (at before other nothing) (at after run.ended noted) run.runs;
       changes = subst (λ (seens : List Seen). ChangesWords seens other run.ended) (sym block.wrote)
           (changes noted.reads other noted.writes block.ended run.ended run.agrees whole.sound.size.bytes);
     }

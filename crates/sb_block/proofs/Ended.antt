@@ -1,14 +1,11 @@
 -- What steps over copies say of a block.
 use Rattle.std.proofs.Common.{◌≡◌, refl, ◌+◌, ◌*◌, ◌≤◌, ap, sym, subst, ◌∙◌, inl, inr, ℕ, ◌<◌, List, [], ◌∷◌, length, arith}
-use Rattle.std.proofs.lemmas.List.{length-map}
 use Rattle.std.proofs.lemmas.List.Elements.{All-cons, All-map}
 use Rattle.std.specs.Prelude.{Result, Ok, Err, IfErr}
 use Rattle.sb_memory.specs.Physical.{Physical, frame_count}
 use Rattle.sb_memory.specs.declared.page.TheConstants.{PAGE_SIZE}
 use Rattle.sb_agree.specs.Noted.{Noted, nothing, noted_rule}
 use Rattle.sb_partial.specs.Copies.{AllInside, Copied}
-use Rattle.sb_trace.specs.declared.event.Event.{Event}
-use Rattle.sb_trace.specs.declared.event.Line.{Line}
 use Rattle.sb_machine.specs.declared.processor.CoreState.{CoreState}
 use Rattle.sb_machine.specs.declared.place.Place.{Place}
 use Rattle.sb_machine.specs.declared.place.Place.TheVariants.{Word, Core}
@@ -17,25 +14,20 @@ use Rattle.sb_machine.specs.Seens.{seen_core, seen_word, seen_words}
 use Rattle.sb_block.specs.declared.one.StepStop.{StepStop}
 use Rattle.sb_block.specs.declared.one.StepStop.TheVariants as why
 use Rattle.sb_block.specs.declared.block.Stop.{Stop}
-use Rattle.sb_block.specs.Answers.{outcome_of, IsToldRun, EndsRun, EndsAt, IsRunOf, told, IsGathered, Refuses}
+use Rattle.sb_block.specs.Answers.{outcome_of, EndsRun, EndsAt, IsRunOf, told, IsGathered, Refuses}
 use Rattle.sb_block.specs.Places.{IsWordIn, IsPlaceIn, AreReadsIn, AreWritesIn}
-use Rattle.sb_block.specs.Run.{at, CoreRuns, lines_of_core}
+use Rattle.sb_block.specs.declared.fact.MadeStep.{MadeStep}
+use Rattle.sb_block.specs.Run.{at, CoreRuns}
 use Rattle.sb_block.specs.Step.{Rule, At, CoreSteps}
 
 -- ---- no step is made
 
--- no line: no step
-events_none : {Account : Type 0} (rule : Rule Account) (before after : At Account) (events : List Event) → length events ≡ 0
-    → CoreRuns rule before events after → after ≡ before
+-- none: the end is the start
+steps_none : {Account : Type 0} (rule : Rule Account) (before after : At Account) (steps : List MadeStep) → length steps ≡ 0
+    → CoreRuns rule before steps after → after ≡ before
 unfolding CoreRuns
-events_none rule before after [] none runs = runs
-events_none rule before after (event ∷ events) none runs = absurd (omega arith)
-
--- there are as many lines as steps
-length-lines : (number : ℕ) (events : List Event) (lines : List Line) → lines ≡ lines_of_core number events
-    → length events ≡ length lines
-length-lines number events lines same =
-    sym (ap length same ∙ length-map events (λ (event : Event). record { core = number; event = event }))
+steps_none rule before after [] none runs = runs
+steps_none rule before after (step ∷ steps) none runs = absurd (omega arith)
 
 -- why the first step is not made, as an answer
 refuses_by : (start : CoreState) (copies : Physical) (stopped : StepStop)
@@ -43,15 +35,14 @@ refuses_by : (start : CoreState) (copies : Physical) (stopped : StepStop)
 refuses_by start copies (why.NeedFrame frame) step = step
 refuses_by start copies why.Kernel step = step
 
--- no line: it is the first step that is not made
-pub refused_by : {number limit : ℕ} {start : CoreState} {copies : Physical} {lines : List Line} {last : At Noted}
-    (made : Result (Unit {0}) StepStop) (answer : Stop) → IsToldRun noted_rule number (at start copies nothing) lines last
-    → EndsRun limit (length lines) last made → IfErr made (λ stopped. answer ≡ told stopped) → 1 ≤ limit
-    → length lines ≡ 0 → Refuses start copies answer
-refused_by (Ok done) answer run ends told_by some none = absurd (omega (arith, ends, none, some))
-refused_by {number} {start} {copies} {lines} {last} (Err stopped) answer run ends told_by some none =
-    let first = events_none noted_rule (at start copies nothing) last run.events
-    (length-lines number run.events lines run.told ∙ none) run.runs in
+-- no step: it is the first one that is not made
+pub refused_by : {limit : ℕ} (start : CoreState) (copies : Physical) (steps : List MadeStep) (last : At Noted)
+    (made : Result (Unit {0}) StepStop) (answer : Stop) → CoreRuns noted_rule (at start copies nothing) steps last
+    → EndsRun limit (length steps) last made → IfErr made (λ stopped. answer ≡ told stopped) → 1 ≤ limit
+    → length steps ≡ 0 → Refuses start copies answer
+refused_by start copies steps last (Ok done) answer runs ends told_by some none = absurd (omega (arith, ends, none, some))
+refused_by start copies steps last (Err stopped) answer runs ends told_by some none =
+    let first = steps_none noted_rule (at start copies nothing) last steps none runs in
     rw told_by (refuses_by start copies stopped
     (subst (λ (one : At Noted). CoreSteps noted_rule one (outcome_of stopped)) first ends.1))
 
@@ -64,24 +55,21 @@ ends_by limit count last (Ok done) ends = inl ends
 ends_by limit count last (Err stopped) ends = inr (ends.0, (stopped, ends.1))
 
 -- what was gathered after the steps
-pub run_by : {number limit core : ℕ} {start after before last : CoreState} {copies : Physical} {lines all : List Line}
+pub run_by : {number limit core : ℕ} {start after before last : CoreState} {copies : Physical} {steps all : List MadeStep}
     {part : Copied} {reads writes : List Seen} (made : Result (Unit {0}) StepStop)
-    → IsToldRun noted_rule number (at start copies nothing) lines (at after part.memory part.began)
-    → EndsRun limit (length lines) (at after part.memory part.began) made → 0 < length lines
-    → IsGathered number start after lines part core before last all reads writes → part.given ≡ copies
+    → CoreRuns noted_rule (at start copies nothing) steps (at after part.memory part.began)
+    → EndsRun limit (length steps) (at after part.memory part.began) made → 0 < length steps
+    → IsGathered number start after steps part core before last all reads writes → part.given ≡ copies
     → IsRunOf number start limit copies core before last all reads writes
-run_by {number} {limit} {after} {lines} {part} made run ends some got given =
-    let count = length-lines number run.events lines run.told in
+run_by {number} {limit} {after} {steps} {part} made runs ends some got given =
     rw (got.all, got.to, ← given) (record {
-      events = run.events;
       ended = part.memory;
       noted = part.began;
-      runs = rw given run.runs;
-      ends = rw count (ends_by limit (length lines) (at after part.memory part.began) made ends);
-      some = rw count some;
+      runs = rw given runs;
+      ends = ends_by limit (length steps) (at after part.memory part.began) made ends;
+      some = some;
       of = got.of;
       from = got.from;
-      told = run.told;
       saw = got.saw;
       wrote = got.wrote;
     })
@@ -109,8 +97,8 @@ places_in : (frames number : ℕ) (seens : List Seen) → AreWritesIn frames see
 places_in frames number seens inside = λ index other below. place_in frames number _ (inside index other below)
 
 -- what was read of the copies, behind how many lines the core had made
-pub reads_by : {number core : ℕ} {start after before last : CoreState} {copies : Physical} {lines all : List Line}
-    {part : Copied} {reads writes : List Seen} → IsGathered number start after lines part core before last all reads writes
+pub reads_by : {number core : ℕ} {start after before last : CoreState} {copies : Physical} {steps all : List MadeStep}
+    {part : Copied} {reads writes : List Seen} → IsGathered number start after steps part core before last all reads writes
     → part.given ≡ copies → AreReadsIn (frame_count copies) number reads
 reads_by {number} {start} {part} got given =
     rw (got.saw, ← given)
@@ -120,8 +108,8 @@ reads_by {number} {start} {part} got given =
     (words_in part.given part.given part.began.reads got.reads_inside)))
 
 -- what was written
-pub writes_by : {number core : ℕ} {start after before last : CoreState} {copies : Physical} {lines all : List Line}
-    {part : Copied} {reads writes : List Seen} → IsGathered number start after lines part core before last all reads writes
+pub writes_by : {number core : ℕ} {start after before last : CoreState} {copies : Physical} {steps all : List MadeStep}
+    {part : Copied} {reads writes : List Seen} → IsGathered number start after steps part core before last all reads writes
     → part.given ≡ copies → AreWritesIn (frame_count copies) writes
 writes_by {part} got given =
     rw (got.wrote, ← given) (words_in part.given part.memory part.began.writes got.writes_inside)

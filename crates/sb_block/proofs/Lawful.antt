@@ -2,13 +2,11 @@
 use Rattle.std.proofs.Common.{◌≡◌, ap, subst, ℕ, List}
 use Rattle.sb_memory.specs.Physical.{Physical, IsPhysical, frame_count}
 use Rattle.sb_partial.specs.Copies.{Copied, untouched}
-use Rattle.sb_trace.specs.declared.event.Event.{Event}
-use Rattle.sb_trace.specs.declared.event.Line.{Line}
 use Rattle.sb_machine.specs.declared.processor.CoreState.{CoreState}
 use Rattle.sb_machine.specs.declared.place.Seen.{Seen}
 use Rattle.sb_block.specs.Answers.{IsRunOf}
 use Rattle.sb_block.specs.Block.{BlockHolds, IsBlock}
-use Rattle.sb_block.specs.Run.{lines_of_core}
+use Rattle.sb_block.specs.declared.fact.MadeStep.{MadeStep}
 use Rattle.sb_block.proofs.Blocks.{copies_give}
 use Rattle.sb_block.proofs.Machines.{block_holds}
 
@@ -16,27 +14,16 @@ use Rattle.sb_block.proofs.Machines.{block_holds}
 pub given_sound : (part : Copied) → part ≡ untouched part.given → IsPhysical part.memory → IsPhysical part.given
 given_sound part same sound = subst IsPhysical (ap (λ (one : Copied). one.memory) same) sound
 
--- steps over copies are the block of their lines
-block_of : {number limit core : ℕ} {start before last : CoreState} {copies : Physical} {lines : List Line}
-    {reads writes : List Seen} → IsPhysical copies → (run : IsRunOf number start limit copies core before last lines reads writes)
-    → IsBlock (frame_count copies) number start run.events last reads writes
-block_of {number} {start} {last} {copies} sound run =
-    rw (run.saw, run.wrote) (copies_give number start run.events last copies run.ended run.noted sound run.runs)
-
--- so there is a list of lines whose block it is
-pub block_by : {number limit core : ℕ} {start before last : CoreState} {copies : Physical} {lines : List Line}
-    {reads writes : List Seen} → IsPhysical copies → IsRunOf number start limit copies core before last lines reads writes
-    → (events : List Event) × (lines ≡ lines_of_core number events)
-    × IsBlock (frame_count copies) number start events last reads writes
-block_by sound run = (run.events, run.told, block_of sound run)
+-- steps over copies are a block
+pub block_by : {number limit core : ℕ} {start before last : CoreState} {copies : Physical} {steps : List MadeStep}
+    {reads writes : List Seen} → IsPhysical copies → IsRunOf number start limit copies core before last steps reads writes
+    → IsBlock (frame_count copies) number start steps last reads writes
+block_by {number} {start} {last} {copies} {steps} sound run =
+    rw (run.saw, run.wrote) (copies_give number start steps last copies run.ended run.noted sound run.runs)
 
 -- and by the law it is a run of each machine that holds what was read
-pub holds_by : {number limit core : ℕ} {start before last : CoreState} {copies : Physical} {lines : List Line}
-    {reads writes : List Seen} → IsPhysical copies → IsRunOf number start limit copies core before last lines reads writes
-    → (events : List Event) × (lines ≡ lines_of_core number events)
-    × BlockHolds (frame_count copies) number start events last reads writes
-holds_by {number} {start} {last} {copies} {reads} {writes} sound run = (
-  run.events,
-  run.told,
-  block_holds (frame_count copies) number start run.events last reads writes (block_of sound run),
-)
+pub holds_by : {number limit core : ℕ} {start before last : CoreState} {copies : Physical} {steps : List MadeStep}
+    {reads writes : List Seen} → IsPhysical copies → IsRunOf number start limit copies core before last steps reads writes
+    → BlockHolds (frame_count copies) number start steps last reads writes
+holds_by {number} {start} {last} {copies} {steps} {reads} {writes} sound run =
+    block_holds (frame_count copies) number start steps last reads writes (block_by sound run)

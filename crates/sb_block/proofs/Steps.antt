@@ -9,6 +9,7 @@ use Rattle.sb_exec.specs.declared.action.Effect.TheVariants as effect
 use Rattle.sb_exec.specs.Execution.{Execution}
 use Rattle.sb_exec.specs.Rows.{row_of}
 use Rattle.sb_exec.proofs.Left.{rows_left}
+use Rattle.sb_exec.proofs.OneFetch.{one_fetch_on}
 use Rattle.sb_nested.specs.View.{View}
 use Rattle.sb_nested.specs.Store.{view_interface}
 use Rattle.sb_root.specs.declared.switch_answer.Switch.TheVariants as switch
@@ -20,7 +21,10 @@ use Rattle.sb_agree.specs.Held.{Agrees, Covers}
 use Rattle.sb_agree.specs.Laws.{EndAlike}
 use Rattle.sb_agree.proofs.Alike.{fetch_alike_on, execution_alike, fetch_more}
 use Rattle.sb_agree.proofs.Rows.{row_more}
-use Rattle.sb_block.specs.Run.{at, CoreRuns}
+use Rattle.sb_block.specs.declared.fact.Fact.{Fact}
+use Rattle.sb_block.specs.declared.fact.MadeStep.{MadeStep}
+use Rattle.sb_block.specs.Facts.{IsFact}
+use Rattle.sb_block.specs.Run.{at, CoreRuns, MakesStep}
 use Rattle.sb_block.specs.Step.{At, CoreOutcome, Made, CoreSteps, core_execution, answer_outcome, fetch_outcome}
 use Rattle.sb_block.proofs.Made.{FetchesAt, list_account, GoesOn, Switches, IsMade, made_by, not_stopped, goes_on_comes, switch_comes}
 use Rattle.sb_block.proofs.Lists.{list_more, list_alike}
@@ -57,20 +61,22 @@ module _ (all : List ℕ) (before : At Noted) (event : Event) (next : At Noted) 
   step_more step covers = more_by step.fetched step.account step.fetches step.comes covers
 
 -- what was noted before steps is noted behind them
-pub runs_more : (all : List ℕ) (events : List Event) (before after : At Noted) → CoreRuns noted_rule before events after
+pub runs_more : (all : List ℕ) (steps : List MadeStep) (before after : At Noted) → CoreRuns noted_rule before steps after
     → CoversReads all after → CoversReads all before
 unfolding CoreRuns
 runs_more all [] before after runs covers = subst (CoversReads all) runs covers
-runs_more all (event ∷ events) before after runs covers =
-    step_more all before event runs.0 runs.1 (runs_more all events runs.0 after runs.2 covers)
+runs_more all (step ∷ steps) before after runs covers =
+    step_more all before step.event runs.0 runs.1.0 (runs_more all steps runs.0 after runs.2 covers)
 
 -- ---- one step
 
--- a step with the same line, core and account over another memory, and the memories agree again
-pub record StepAlike (all : List ℕ) (start : Physical) (before : At Noted) (event : Event) (next : At Noted) (changed : Physical)
+-- a step with the same instruction, line, core and account over another memory, and the memories agree again
+pub record StepAlike (all : List ℕ) (start : Physical) (before : At Noted) (fetched : Result Insn BusStop) (event : Event)
+    (next : At Noted) (changed : Physical)
     : Type 0 where
   pub ended : Physical
   pub step : CoreSteps noted_rule (at before.core changed before.account) (Made event (at next.core ended next.account))
+  pub fetch : step.fetched ≡ fetched
   pub agrees : Agrees all start next.account.writes next.memory ended
 
 -- VMFUNC leaves the memory as it is
@@ -120,7 +126,7 @@ module _ (all : List ℕ) (start : Physical) (before : At Noted) (event : Event)
         }
 
     -- an instruction that goes on
-    goes_alike : GoesOn before.core here event next → StepAlike all start before event next changed
+    goes_alike : GoesOn before.core here event next → StepAlike all start before (Ok insn) event next changed
     goes_alike goes =
         let both = is_alike effect.Next goes.answer (subst (CoversReads all) goes.next_is covers) in
         let answer : there.answer ≡ here.answer = both.end.answer ∙ sym goes.answer in
@@ -135,6 +141,7 @@ module _ (all : List ℕ) (start : Physical) (before : At Noted) (event : Event)
             comes = subst (ComesThere there.meaning.physical) noted
                 (goes_on_comes before.core insn event next here noted_rule changed there goes answer both.end.registers);
           };
+          fetch = refl;
           agrees = subst (AgreeAt there.meaning.physical) (sym goes.next_is) both.end.agrees;
         }
 
@@ -149,7 +156,7 @@ module _ (all : List ℕ) (start : Physical) (before : At Noted) (event : Event)
 
     -- a VMFUNC into a view
     switches_alike : Switches noted_rule before.core insn before.memory here event next
-        → StepAlike all start before event next changed
+        → StepAlike all start before (Ok insn) event next changed
     switches_alike switches =
         let core = before.core in
         let covered = subst (CoversReads all) switches.next_is covers in
@@ -171,17 +178,19 @@ module _ (all : List ℕ) (start : Physical) (before : At Noted) (event : Event)
                 (switch_comes core insn event next here noted_rule changed there noted_rule before.memory switches answer
                 list.answer agree.frames);
           };
+          fetch = refl;
           agrees = subst (AgreeAt changed) (sym switches.next_is) list.agrees;
         }
 
-    made_alike : IsMade noted_rule before.core insn before.memory here event next → StepAlike all start before event next changed
+    made_alike : IsMade noted_rule before.core insn before.memory here event next
+        → StepAlike all start before (Ok insn) event next changed
     made_alike (inl goes) = goes_alike goes
     made_alike (inr switches) = switches_alike switches
 
   -- by what was fetched
   alike_by : (fetched : Result Insn BusStop) (account : Noted) → FetchesAt noted_rule before account fetched
       → Path (CoreOutcome Noted) (Made event next) (fetch_outcome noted_rule before.core before.memory account fetched)
-      → StepAlike all start before event next changed
+      → StepAlike all start before fetched event next changed
   alike_by (Ok insn) account fetches made =
       let execution = here insn account fetches in
       made_alike insn account fetches
@@ -189,35 +198,56 @@ module _ (all : List ℕ) (start : Physical) (before : At Noted) (event : Event)
   alike_by (Err why) account fetches made = absurd (not_stopped event next why made)
 
   -- a step that is made over one memory is made over one that agrees
-  pub step_alike : CoreSteps noted_rule before (Made event next) → StepAlike all start before event next changed
+  pub step_alike : (step : CoreSteps noted_rule before (Made event next))
+      → StepAlike all start before step.fetched event next changed
   step_alike step = alike_by step.fetched step.account step.fetches step.comes
+
+  -- and has the same fact
+  pub fact_alike : (step : CoreSteps noted_rule before (Made event next)) (fact : Fact) → IsFact noted_rule before next fact
+      → (alike : StepAlike all start before step.fetched event next changed)
+      → IsFact noted_rule other (at next.core alike.ended next.account) fact
+  fact_alike step fact is alike =
+      let same =
+      one_fetch_on (view_interface noted_rule) (seen_by before.memory before.core) before.core.regs.rip before.account
+      step.account is.account step.fetched (Ok is.insn) step.fetches is.fetches in
+      record {
+        view = is.view;
+        behind = is.behind;
+        insn = is.insn;
+        account = alike.step.account;
+        fetches = subst (λ (got : Result Insn BusStop). FetchesAt noted_rule other alike.step.account got) (alike.fetch ∙ same.0)
+            alike.step.fetches;
+        scratch = is.scratch;
+      }
 
 -- ---- steps one after another
 
--- steps with the same lines, core and account over another memory, and the memories agree again
-pub record RunAlike (all : List ℕ) (start : Physical) (before : At Noted) (events : List Event) (after : At Noted)
+-- the same steps, with the same core and account over another memory, and the memories agree again
+pub record RunAlike (all : List ℕ) (start : Physical) (before : At Noted) (steps : List MadeStep) (after : At Noted)
     (changed : Physical)
     : Type 0 where
   pub ended : Physical
-  pub runs : CoreRuns noted_rule (at before.core changed before.account) events (at after.core ended after.account)
+  pub runs : CoreRuns noted_rule (at before.core changed before.account) steps (at after.core ended after.account)
   pub agrees : Agrees all start after.account.writes after.memory ended
 
 -- steps that are made over one memory are made over one that agrees
-pub runs_alike : (all : List ℕ) (start : Physical) (events : List Event) (before after : At Noted) (changed : Physical)
-    → Agrees all start before.account.writes before.memory changed → CoreRuns noted_rule before events after
-    → CoversReads all after → RunAlike all start before events after changed
+pub runs_alike : (all : List ℕ) (start : Physical) (steps : List MadeStep) (before after : At Noted) (changed : Physical)
+    → Agrees all start before.account.writes before.memory changed → CoreRuns noted_rule before steps after
+    → CoversReads all after → RunAlike all start before steps after changed
 unfolding CoreRuns
 runs_alike all start [] before after changed agree runs covers = record {
   ended = changed;
   runs = ap (λ (one : At Noted). at one.core changed one.account) runs;
   agrees = subst (λ (one : At Noted). Agrees all start one.account.writes one.memory changed) (sym runs) agree;
 }
-runs_alike all start (event ∷ events) before after changed agree runs covers =
+runs_alike all start (step ∷ steps) before after changed agree runs covers =
     let next = runs.0 in
-    let step = step_alike all start before event next changed agree (runs_more all events next after runs.2 covers) runs.1 in
-    let rest = runs_alike all start events next after step.ended step.agrees runs.2 covers in
+    let covered = runs_more all steps next after runs.2 covers in
+    let alike = step_alike all start before step.event next changed agree covered runs.1.0 in
+    let fact = fact_alike all start before step.event next changed agree covered runs.1.0 step.fact runs.1.1 alike in
+    let rest = runs_alike all start steps next after alike.ended alike.agrees runs.2 covers in
     record {
       ended = rest.ended;
-      runs = (at next.core step.ended next.account, step.step, rest.runs);
+      runs = (at next.core alike.ended next.account, (alike.step, fact), rest.runs);
       agrees = rest.agrees;
     }

@@ -13,6 +13,9 @@ use Rattle.sb_machine.specs.Machine.{seen_by, no_account}
 use Rattle.sb_agree.specs.Noted.{Noted, noted_rule}
 use Rattle.sb_agree.specs.Laws.{SameButAccount}
 use Rattle.sb_agree.proofs.Alike.{fetch_unnoted, execution_unnoted}
+use Rattle.sb_block.specs.declared.fact.Fact.{Fact}
+use Rattle.sb_block.specs.declared.fact.MadeStep.{MadeStep}
+use Rattle.sb_block.specs.Facts.{IsFact}
 use Rattle.sb_block.specs.Run.{at, CoreRuns}
 use Rattle.sb_block.specs.Step.{At, CoreOutcome, Made, CoreSteps, core_execution, answer_outcome, fetch_outcome}
 use Rattle.sb_block.proofs.Made.{FetchesAt, IsMade, made_by, not_stopped, goes_on_comes, switch_comes}
@@ -72,13 +75,26 @@ module _ (before : At Noted) (event : Event) (next : At Noted) where
       → CoreSteps no_account (alone before.core before.memory) (Made event (alone next.core next.memory))
   step_unnoted step = unnoted_by step.fetched step.account step.fetches step.comes
 
+-- it has the same fact
+fact_unnoted : (before next : At Noted) (fact : Fact) → IsFact noted_rule before next fact
+    → IsFact no_account (alone before.core before.memory) (alone next.core next.memory) fact
+fact_unnoted before next fact is = record {
+  view = is.view;
+  behind = is.behind;
+  insn = is.insn;
+  account = tt;
+  fetches = fetch_unnoted no_account (seen_by before.memory before.core) before.core.regs.rip before.account is.account
+      (Ok is.insn) is.fetches;
+  scratch = is.scratch;
+}
+
 -- so are steps one after another
-pub runs_unnoted : (events : List Event) (before after : At Noted) → CoreRuns noted_rule before events after
-    → CoreRuns no_account (alone before.core before.memory) events (alone after.core after.memory)
+pub runs_unnoted : (steps : List MadeStep) (before after : At Noted) → CoreRuns noted_rule before steps after
+    → CoreRuns no_account (alone before.core before.memory) steps (alone after.core after.memory)
 unfolding CoreRuns
 runs_unnoted [] before after runs = ap (λ (one : At Noted). alone one.core one.memory) runs
-runs_unnoted (event ∷ events) before after runs = (
+runs_unnoted (step ∷ steps) before after runs = (
   alone runs.0.core runs.0.memory,
-  step_unnoted before event runs.0 runs.1,
-  runs_unnoted events runs.0 after runs.2,
+  (step_unnoted before step.event runs.0 runs.1.0, fact_unnoted before runs.0 step.fact runs.1.1),
+  runs_unnoted steps runs.0 after runs.2,
 )

@@ -5,16 +5,16 @@ use Rattle.sb_bus.specs.declared.stop.BusStop.{BusStop}
 use Rattle.sb_bus.specs.declared.stop.BusStop.TheVariants as bus
 use Rattle.sb_agree.specs.Noted.{Noted, nothing, noted_rule}
 use Rattle.sb_trace.specs.declared.event.Event.{Event}
-use Rattle.sb_trace.specs.declared.event.Line.{Line}
 use Rattle.sb_machine.specs.declared.processor.CoreState.{CoreState}
 use Rattle.sb_machine.specs.declared.place.Seen.{Seen}
 use Rattle.sb_machine.specs.Seens.{seen_core, seen_words}
+use Rattle.sb_block.specs.declared.fact.MadeStep.{MadeStep}
 use Rattle.sb_block.specs.declared.one.StepStop.{StepStop}
 use Rattle.sb_block.specs.declared.one.StepStop.TheVariants as why
 use Rattle.sb_block.specs.declared.block.Stop.{Stop}
 use Rattle.sb_block.specs.declared.block.Stop.TheVariants as stop
 use Rattle.sb_partial.specs.Copies.{AllInside, Copied}
-use Rattle.sb_block.specs.Run.{at, CoreRuns, lines_of_core}
+use Rattle.sb_block.specs.Run.{at, CoreRuns, MakesStep}
 use Rattle.sb_block.specs.Step.{At, Rule, CoreOutcome, Made, Needs, Kernel, CoreSteps}
 
 -- ---- a step
@@ -30,8 +30,8 @@ outcome_of (why.NeedFrame frame) = Needs frame.0
 outcome_of why.Kernel = Kernel
 
 -- a step that was made leads from old to new; one that was not leaves the core and the memory
-abbrev pub Stepped : {Account : Type 0} → Rule Account → At Account → At Account → Result Event StepStop → Type 0
-Stepped rule old new (Ok event) = CoreSteps rule old (Made event new)
+abbrev pub Stepped : {Account : Type 0} → Rule Account → At Account → At Account → Result MadeStep StepStop → Type 0
+Stepped rule old new (Ok step) = MakesStep rule old step new
 Stepped rule old new (Err why) = CoreSteps rule old (outcome_of why) × (new.core ≡ old.core) × (new.memory ≡ old.memory)
 
 -- what a part of a step comes to, told by its answer, with the core and the memory before and after it
@@ -40,14 +40,6 @@ ComesTo outcome old new (Ok event) = outcome ≡ Made event new
 ComesTo outcome old new (Err why) = (outcome ≡ outcome_of why) × (new.core ≡ old.core) × (new.memory ≡ old.memory)
 
 -- ---- steps one after another
-
--- steps of the core of this number, told by their lines
-pub record IsToldRun {Account : Type 0} (rule : Rule Account) (number : ℕ) (before : At Account) (lines : List Line)
-    (after : At Account)
-    : Type 0 where
-  pub events : List Event
-  pub told : lines ≡ lines_of_core number events
-  pub runs : CoreRuns rule before events after
 
 -- so many steps were made as were asked for, or the next one is not made
 abbrev pub EndsRun : ℕ → ℕ → At Noted → Result (Unit {0}) StepStop → Type 0
@@ -62,16 +54,14 @@ EndsAt limit count last = (count ≡ limit) ⊎ ((count < limit) × ((why : Step
 
 -- So many steps of the core over the copies, at least one, and what they read and wrote.
 pub record IsRunOf (number : ℕ) (start : CoreState) (limit : ℕ) (copies : Physical)
-    (core : ℕ) (before after : CoreState) (lines : List Line) (reads writes : List Seen) : Type 0 where
-  pub events : List Event
+    (core : ℕ) (before after : CoreState) (steps : List MadeStep) (reads writes : List Seen) : Type 0 where
   pub ended : Physical
   pub noted : Noted
-  pub runs : CoreRuns noted_rule (at start copies nothing) events (at after ended noted)
-  pub ends : EndsAt limit (length events) (at after ended noted)
-  pub some : 0 < length events
+  pub runs : CoreRuns noted_rule (at start copies nothing) steps (at after ended noted)
+  pub ends : EndsAt limit (length steps) (at after ended noted)
+  pub some : 0 < length steps
   pub of : core ≡ number
   pub from : before ≡ start
-  pub told : lines ≡ lines_of_core number events
   pub saw : reads ≡ seen_core number start ∷ seen_words copies noted.reads
   pub wrote : writes ≡ seen_words ended noted.writes
 
@@ -81,12 +71,12 @@ told (why.NeedFrame frame) = stop.NeedFrame frame
 told why.Kernel = stop.Kernel
 
 -- a block's fields, from the copies and the core before and after its steps
-pub record IsGathered (number : ℕ) (start last : CoreState) (made : List Line) (part : Copied)
-    (core : ℕ) (before after : CoreState) (lines : List Line) (reads writes : List Seen) : Type 0 where
+pub record IsGathered (number : ℕ) (start last : CoreState) (made : List MadeStep) (part : Copied)
+    (core : ℕ) (before after : CoreState) (steps : List MadeStep) (reads writes : List Seen) : Type 0 where
   pub of : core ≡ number
   pub from : before ≡ start
   pub to : after ≡ last
-  pub all : lines ≡ made
+  pub all : steps ≡ made
   pub saw : reads ≡ seen_core number start ∷ seen_words part.given part.began.reads
   pub wrote : writes ≡ seen_words part.memory part.began.writes
   pub reads_inside : AllInside part.given part.began.reads

@@ -1,22 +1,20 @@
 //! Blocks.
 
-ghost use Rattle.std.specs.Prelude.{◌≡◌, ◌<◌, ◌≤◌, ◌^◌, IfErr, IfOk, List};
+ghost use Rattle.std.specs.Prelude.{◌≡◌, ◌<◌, ◌≤◌, ◌^◌, IfErr, IfOk};
 ghost use Rattle.sb_memory.specs.Physical.{frame_count};
-ghost use Rattle.sb_trace.specs.declared.event.Event.{Event};
 ghost use Rattle.sb_machine.specs.OwnSteps.{HasWalks};
 ghost use Rattle.sb_block.specs.Answers.{IsGathered, IsRunOf, Refuses, told};
 ghost use Rattle.sb_block.specs.Block.{BlockHolds, IsBlock};
 ghost use Rattle.sb_block.specs.Places.{AreReadsIn, AreWritesIn};
-ghost use Rattle.sb_block.specs.Run.{lines_of_core};
 ghost use Rattle.sb_partial.specs.Copies.{untouched};
 
 use crate::collect::{reads_of, writes_of};
+use crate::fact::{MadeStep, MadeSteps};
 use crate::one::StepStop;
-use crate::run::steps;
+use crate::run::make_steps;
 use sb_machine::{CoreState, Place, Seen, Seens};
 use sb_memory::{Frame, Phys};
 use sb_partial::Partial;
-use sb_trace::{Line, Lines};
 use std::alloc::{AllocError, Global};
 
 /// Steps of a core, the words that they read with the values that they had, and the words that they wrote.
@@ -29,8 +27,8 @@ pub struct Block {
     pub reads: Seens,
     /// Each word that was written, with its last value.
     pub writes: Seens,
-    /// One for each step.
-    pub lines: Lines,
+    /// Each step, with its line.
+    pub steps: MadeSteps,
 }
 
 /// Why there is no block.
@@ -54,18 +52,18 @@ fn none_made(made: Result<(), StepStop>) -> Stop
     }
 }
 
-/// The block of these lines, by what the copies note.
+/// The block of these steps, by what the copies note.
 fn gather(
     alloc: Global,
     part: &Partial,
     core: u8,
     before: CoreState,
     after: CoreState,
-    lines: Vec<Line>,
+    steps: Vec<MadeStep>,
 ) -> Result<Block, AllocError>
     requires { frame_count part.now.given < 2 ^ 32 }
-    ensures { IfOk result (λ block. IsGathered core before after lines.items part.now
-        block.core block.before block.after block.lines block.reads block.writes) }
+    ensures { IfOk result (λ block. IsGathered core before after steps.items part.now
+        block.core block.before block.after block.steps block.reads block.writes) }
 {
     let own = Seen {
         place: Place::Core(core),
@@ -79,7 +77,7 @@ fn gather(
         after,
         reads,
         writes,
-        lines: Lines::new(lines),
+        steps: MadeSteps::new(steps),
     })
 }
 
@@ -102,11 +100,11 @@ pub fn run_block(
     requires untouched { part.old ≡ untouched part.old.given }
     requires walks { HasWalks (frame_count part.old.given) start.now }
     ensures made { IfOk result (λ block. IsRunOf core start.now limit part.old.given
-        block.core block.before block.after block.lines block.reads block.writes) }
-    ensures block { IfOk result (λ block. (events : List Event) × (block.lines ≡ lines_of_core core events)
-        × IsBlock (frame_count part.old.given) core start.now events block.after block.reads block.writes) }
-    ensures holds { IfOk result (λ block. (events : List Event) × (block.lines ≡ lines_of_core core events)
-        × BlockHolds (frame_count part.old.given) core start.now events block.after block.reads block.writes) }
+        block.core block.before block.after block.steps block.reads block.writes) }
+    ensures block { IfOk result (λ block. IsBlock (frame_count part.old.given) core start.now
+        block.steps block.after block.reads block.writes) }
+    ensures holds { IfOk result (λ block. BlockHolds (frame_count part.old.given) core start.now
+        block.steps block.after block.reads block.writes) }
     ensures walks { IfOk result (λ block. HasWalks (frame_count part.old.given) block.after) }
     ensures reads { IfOk result (λ block. AreReadsIn (frame_count part.old.given) core block.reads) }
     ensures writes { IfOk result (λ block. AreWritesIn (frame_count part.old.given) block.writes) }
@@ -115,17 +113,17 @@ pub fn run_block(
 {
     // a memory has less than 2^32 frames
     part.frames();
-    let mut lines = match Vec::with_capacity(alloc, limit as usize) {
-        Ok(lines) => lines,
+    let mut steps = match Vec::with_capacity(alloc, limit as usize) {
+        Ok(steps) => steps,
         Err(_) => return Err(Stop::Memory),
     };
     let mut after = *start;
-    let made = steps(part, core, &mut after, limit, &mut lines);
-    if lines.is_empty() {
+    let made = make_steps(part, &mut after, limit, &mut steps);
+    if steps.is_empty() {
         part.restore();
         return Err(none_made(made));
     }
-    let block = gather(alloc, part, core, *start, after, lines);
+    let block = gather(alloc, part, core, *start, after, steps);
     part.restore();
     match block {
         Ok(block) => Ok(block),

@@ -11,6 +11,7 @@ ghost use Rattle.sb_block.specs.Answers.{ComesTo, Stepped, stop_of};
 ghost use Rattle.sb_block.specs.Run.{at};
 ghost use Rattle.sb_block.specs.Step.{fetch_outcome, state_behind, state_in_flight, switch_outcome, with_made};
 
+use crate::fact::{Fact, MadeStep};
 use sb_abi::{COMPARE_KEY, VMFUNC_PHASE};
 use sb_bus::BusStop;
 use sb_copy_bus::{CopyBus, fetch_next};
@@ -21,7 +22,7 @@ use sb_memory::{Frame, Phys};
 use sb_partial::Partial;
 use sb_root::{Switch, switch};
 use sb_state::{eax, ecx};
-use sb_trace::Event;
+use sb_trace::{Event, touches_scratch};
 use sb_walks::frame_number;
 
 /// Why a core makes no step by itself.
@@ -147,7 +148,7 @@ fn execute_next(part: &mut Partial, core: &mut CoreState, insn: &Insn) -> Result
     }
 }
 
-/// Makes a step of a core over copies, and answers its line. The core counts it.
+/// Makes a step of a core over copies, and answers its line and its fact. The core counts it.
 ///
 /// # Errors
 ///
@@ -155,7 +156,7 @@ fn execute_next(part: &mut Partial, core: &mut CoreState, insn: &Insn) -> Result
 /// there, and names the frame of the first byte or word that is. `Kernel` comes exactly where none is met and the step is the
 /// kernels'. The core and the memory are as they were; what is noted may have grown.
 #[tactic(auto, using(crate::proofs::Stops::fetch_stops))]
-pub fn step(part: &mut Partial, core: &mut CoreState) -> Result<Event, StepStop>
+pub fn step(part: &mut Partial, core: &mut CoreState) -> Result<MadeStep, StepStop>
     requires walks { HasWalks (frame_count part.old.memory) core.old }
     ensures step { Stepped noted_rule (at core.old part.old.memory part.old.noted)
         (at core.new part.new.memory part.new.noted) result }
@@ -165,7 +166,20 @@ pub fn step(part: &mut Partial, core: &mut CoreState) -> Result<Event, StepStop>
     ensures began { part.new.began ≡ part.old.began }
 {
     match fetch_next(part, core.eptp, core.cr3, core.regs.rip) {
-        Ok(insn) => execute_next(part, core, &insn),
+        Ok(insn) => {
+            let view = core.view;
+            let scratch = touches_scratch(&insn, &core.regs);
+            let event = execute_next(part, core, &insn)?;
+            let next = core.regs.rip;
+            Ok(MadeStep {
+                event,
+                fact: Fact {
+                    view,
+                    next,
+                    scratch,
+                },
+            })
+        }
         Err(stop) => Err(stop_of(stop)),
     }
 }

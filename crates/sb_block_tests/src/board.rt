@@ -7,11 +7,11 @@ ghost use Rattle.sb_partial.specs.Copies.{untouched};
 ghost use Rattle.sb_block_tests.specs.declared.board.TheConstants.{CORES};
 
 use crate::bundle::loaded;
-use sb_block::{Block, Partial, Stop, run_block};
+use sb_block::{Block, MadeStep, Partial, Stop, run_block};
 use sb_load::Loaded;
 use sb_machine::{CoreState, Machine};
 use sb_memory::{Frame, PAGE_SIZE, PhysAddr};
-use sb_trace::Event;
+use sb_trace::{Event, line_of_mark};
 use std::alloc::{AllocError, Global};
 use std::test::Fail;
 
@@ -74,15 +74,19 @@ pub struct Board {
 }
 
 impl Board {
-    /// The machine at its start, and no copy.
+    /// The machine of the client and the server at its start, and no copy.
     pub fn new(alloc: Global) -> Result<Board, Fail> {
-        let loaded = loaded(alloc)?;
+        Board::of(alloc, &loaded(alloc)?)
+    }
+
+    /// The machine of what was loaded at its start, and no copy.
+    pub fn of(alloc: Global, loaded: &Loaded) -> Result<Board, Fail> {
         let frames = loaded.bundle().frames;
         if frames == 0 || frames > 8192 || loaded.bundle().cores.items().len() < CORES as usize {
             return Err("the bundle has two cores, and few frames".into());
         }
         Ok(Board {
-            machine: started(alloc, &loaded)?,
+            machine: started(alloc, loaded)?,
             part: no_copies(frames),
             frames,
         })
@@ -112,6 +116,20 @@ impl Board {
             Some(event_of(&mut self.machine, core))
         } else {
             None
+        }
+    }
+
+    /// The line of a step with its mark on the machine.
+    pub fn marked(&self, core: u8, step: &MadeStep) -> Option<Event> {
+        let fact = step.fact;
+        match step.event {
+            Event::Step { rip } if core < CORES => {
+                let mark = self
+                    .machine
+                    .mark(core, fact.view, rip, fact.next, fact.scratch);
+                Some(line_of_mark(mark, rip))
+            }
+            event => Some(event),
         }
     }
 

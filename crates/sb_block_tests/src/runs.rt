@@ -3,7 +3,7 @@
 use crate::board::{Board, fresh_block};
 use crate::bundle::{CLIENT, SERVER};
 use crate::same::assert_same;
-use sb_block::{Block, Place, Seen};
+use sb_block::{Block, MadeStep, Place, Seen};
 use sb_bus::FaultKind;
 use sb_trace::Event;
 use std::alloc::Global;
@@ -36,16 +36,25 @@ fn assert_holds(rt: &impl Abort, board: &Board, name: &str, seen: &Seen) {
     }
 }
 
+/// A step of the machine: the line that the block's step has with its mark, from the view of its fact to where RIP is behind it.
+fn assert_step(rt: &impl Abort, board: &mut Board, core: u8, step: &MadeStep) {
+    let view = board.core_state(core).map(|state| state.view);
+    assert_same(rt, "view", &view, &Some(step.fact.view));
+    let marked = board.marked(core, step);
+    assert_same(rt, "line", &board.step(core), &marked);
+    let next = board.core_state(core).map(|state| state.regs.rip);
+    assert_same(rt, "next", &next, &Some(step.fact.next));
+}
+
 /// As many steps of the machine as a block has: the same lines, the same core, and the words that it wrote. Before them the
 /// places that it read hold the values that it saw.
-fn assert_block(rt: &impl Abort, board: &mut Board, core: u8, block: &Block) {
+pub fn assert_block(rt: &impl Abort, board: &mut Board, core: u8, block: &Block) {
     assert_same(rt, "before", &board.core_state(core), &Some(block.before));
     for seen in block.reads.items() {
         assert_holds(rt, board, "read", seen);
     }
-    for line in block.lines.items() {
-        assert_same(rt, "core", &line.core, &core);
-        assert_same(rt, "line", &board.step(core), &Some(line.event));
+    for step in block.steps.items() {
+        assert_step(rt, board, core, step);
     }
     assert_same(rt, "after", &board.core_state(core), &Some(block.after));
     for seen in block.writes.items() {
@@ -67,8 +76,8 @@ fn run(alloc: Global, rt: &impl Abort, board: &mut Board, core: u8) -> Result<Sa
     for _ in 0..64 {
         if let Some(block) = fresh_block(alloc, board, core, LIMIT)? {
             assert_block(rt, board, core, &block);
-            for line in block.lines.items() {
-                own.push(line.event)?;
+            for step in block.steps.items() {
+                own.push(step.event)?;
             }
         } else {
             let event = board.step(core).ok_or("there is such a core")?;

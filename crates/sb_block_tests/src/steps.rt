@@ -98,7 +98,7 @@ fn vmfunc_needs_the_frame_of_the_list(rt: HostRuntime) -> Result<(), Fail> {
     let needed = frames_needed(alloc, &rt, &mut board, CLIENT)?;
     assert_same(&rt, "list", &needed.contains(&state.list.0), &true);
     let block = one_step(alloc, &mut board, CLIENT)?;
-    let line = block.lines.items().first().map(|line| line.event);
+    let line = block.steps.items().first().map(|step| step.event);
     let departed = Event::Landing {
         phase: VMFUNC_PHASE,
     };
@@ -119,7 +119,7 @@ fn a_landing_needs_frames_of_both_spaces(rt: HostRuntime) -> Result<(), Fail> {
     let mut board = client_at(alloc, RETURN_ADDRESS)?;
     frames_needed(alloc, &rt, &mut board, CLIENT)?;
     let block = one_step(alloc, &mut board, CLIENT)?;
-    let line = block.lines.items().first().map(|line| line.event);
+    let line = block.steps.items().first().map(|step| step.event);
     assert_same(
         &rt,
         "line",
@@ -197,7 +197,7 @@ fn a_block_ends_before_the_kernels_step(rt: HostRuntime) -> Result<(), Fail> {
     let alloc = rt.alloc();
     let mut board = client_at(alloc, 0x40_0000)?;
     let block = fresh_block(alloc, &mut board, CLIENT, 8)?.ok_or("the client goes on")?;
-    assert_same(&rt, "lines", &block.lines.items().len(), &2);
+    assert_same(&rt, "steps", &block.steps.items().len(), &2);
     step_to(&mut board, CLIENT, 0x40_000A)?;
     assert_same(
         &rt,

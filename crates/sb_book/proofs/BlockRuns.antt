@@ -15,11 +15,14 @@ use Rattle.sb_trace.specs.declared.event.Line.{Line}
 use Rattle.sb_trace.specs.Runs.{Runs}
 use Rattle.sb_trace.specs.State.{State}
 use Rattle.sb_machine.specs.Counts.{made_by, entries_of}
-use Rattle.sb_machine.specs.Laws.{FollowsRun, OwnStepsArePlain}
+use Rattle.sb_machine.specs.Laws.{FollowsRunWithMarks, OwnStepsWithMarksArePlain}
 use Rattle.sb_machine.specs.Machine.{Machine}
+use Rattle.sb_machine.specs.Marks.{OwnStepsWithMarks}
 use Rattle.sb_machine.specs.OwnSteps.{lines_of_core}
 use Rattle.sb_machine.specs.Ran.{HasRun}
-use Rattle.sb_book.specs.Commit.{HasOwnSteps}
+use Rattle.sb_block.specs.declared.fact.MadeStep.{MadeStep}
+use Rattle.sb_block.specs.Marked.{event_marked, events_marked}
+use Rattle.sb_book.specs.Commit.{line_marked, lines_marked}
 use Rattle.sb_book.specs.History.{History, IsRun}
 
 -- ---- entries of a core
@@ -62,7 +65,7 @@ runs_append first mid last (core ∷ cores) others [] more run rest = absurd run
 
 module _ (machine new : Machine) (load : Load) (schedule : List ℕ) (lines : List Line) (end : State) (core : ℕ)
     (events : List Event) (few : length schedule + length events < 2 ^ 64) (ran : HasRun machine load schedule lines end)
-    (follows : FollowsRun machine end core events new) where
+    (follows : FollowsRunWithMarks machine end core events new) where
   abbrev longer : List ℕ
   longer = schedule ++ replicate (length events) core
 
@@ -98,30 +101,38 @@ module _ (machine new : Machine) (load : Load) (schedule : List ℕ) (lines : Li
     frames = follows.frames ∙ ran.frames;
   }
 
-pub lines_count : (core : ℕ) (events : List Event) (lines : List Line) → lines ≡ lines_of_core core events
-    → length lines ≡ length events
-lines_count core events lines is =
-    ap (λ (list : List Line). length list) is ∙ length-map events (λ (event : Event). record { core = core; event = event })
+-- the lines of steps with their marks, one by one and by their events
+pub lines_of_marked : (machine : Machine) (core : ℕ) (steps : List MadeStep)
+    → lines_marked machine core steps ≡ lines_of_core core (events_marked machine core steps)
+lines_of_marked machine core [] = refl
+lines_of_marked machine core (step ∷ steps) =
+    ap (λ (lines : List Line). line_marked machine core step ∷ lines) (lines_of_marked machine core steps)
+
+-- there are as many as steps
+pub marked_count : (machine : Machine) (core : ℕ) (steps : List MadeStep)
+    → length (events_marked machine core steps) ≡ length steps
+marked_count machine core steps = length-map steps (event_marked machine core)
 
 -- a history of a run, with the steps of a block behind it, is that of the longer run
-pub run_by_steps : OwnStepsArePlain → (old new : History) (core : ℕ) (told : List Line) → IsRun old
-    → core < length old.machine.cores → length old.journal + length told < 2 ^ 64
-    → HasOwnSteps old.machine core told new.machine → new.load ≡ old.load
-    → new.journal ≡ old.journal ++ replicate (length told) core → new.lines ≡ old.lines ++ told → IsRun new
-run_by_steps law old new core told run there few made load journal lines =
-    let follows = law old.machine core made.events new.machine run.end there run.ran.stands made.steps in
-    let count = lines_count core made.events told made.lines_are in
-    let few' : length old.journal + length made.events < 2 ^ 64 = omega (arith, few, count) in
-    let ran =
-    run_behind old.machine new.machine old.load old.journal old.lines run.end core made.events few' run.ran follows in
-    let journal' : new.journal ≡ old.journal ++ replicate (length made.events) core =
-    journal ∙ ap (λ (n : ℕ). old.journal ++ replicate n core) count in
-    let lines' : new.lines ≡ old.lines ++ lines_of_core core made.events =
-    lines ∙ ap (λ (list : List Line). old.lines ++ list) made.lines_are in
+pub run_by_steps : OwnStepsWithMarksArePlain → (old new : History) (core : ℕ) (steps : List MadeStep) → IsRun old
+    → core < length old.machine.cores → length old.journal + length steps < 2 ^ 64
+    → OwnStepsWithMarks old.machine core (events_marked old.machine core steps) new.machine → new.load ≡ old.load
+    → new.journal ≡ old.journal ++ replicate (length steps) core → new.lines ≡ old.lines ++ lines_marked old.machine core steps
+    → IsRun new
+run_by_steps law old new core steps run there few made load journal lines =
+    let events = events_marked old.machine core steps in
+    let follows = law old.machine core events new.machine run.end there run.ran.stands made in
+    let count = marked_count old.machine core steps in
+    let few' : length old.journal + length events < 2 ^ 64 = omega (arith, few, count) in
+    let ran = run_behind old.machine new.machine old.load old.journal old.lines run.end core events few' run.ran follows in
+    let journal' : new.journal ≡ old.journal ++ replicate (length events) core =
+    journal ∙ ap (λ (n : ℕ). old.journal ++ replicate n core) (sym count) in
+    let lines' : new.lines ≡ old.lines ++ lines_of_core core events =
+    lines ∙ ap (λ (list : List Line). old.lines ++ list) (lines_of_marked old.machine core steps) in
     record {
       end = follows.end;
       ran = rw (load, journal', lines') ran;
       busy = rw lines'
-          (All-append (λ (one : Line). one.event ≢ Idle) old.lines (lines_of_core core made.events) run.busy follows.busy);
+          (All-append (λ (one : Line). one.event ≢ Idle) old.lines (lines_of_core core events) run.busy follows.busy);
       cores = follows.cores ∙ (run.cores ∙ ap (λ (one : Load). length one.bundle.cores) (sym load));
     }

@@ -11,6 +11,9 @@ use Rattle.sb_bus.specs.declared.stop.BusStop.TheVariants.{Fault as FaultStop, M
 use Rattle.sb_bus.specs.declared.stop.FaultKind.{FaultKind}
 use Rattle.sb_exec.specs.declared.action.Effect.{Effect}
 use Rattle.sb_exec.specs.declared.action.Effect.TheVariants.{Next, Syscall, Switch, Undefined}
+use Rattle.sb_slots.specs.declared.mark.Mark.{Mark}
+use Rattle.sb_slots.specs.declared.mark.Mark.TheVariants as mark_of
+use Rattle.sb_slots.specs.Marks.{mark}
 use Rattle.sb_state.specs.declared.end_kind.EndKind.{EndKind}
 use Rattle.sb_state.specs.declared.end_kind.EndKind.TheVariants.{Running, Ended, Faulted}
 use Rattle.sb_state.specs.declared.state.Binding.{Binding}
@@ -32,6 +35,7 @@ use Rattle.sb_trace.specs.SyscallRegister.{register_outcome, refusal_of_register
 use Rattle.sb_trace.specs.SyscallBind.{bind_outcome, refusal_of_bind}
 use Rattle.sb_trace.specs.SyscallProtect.{protect_outcome_by, execute_mode_outcome, heap_count}
 use Rattle.sb_trace.specs.Syscall.{syscall_outcome, outcome_by_number, exit_outcome}
+use Rattle.sb_trace.specs.Marks.{HasMark, StepsWithMark, line_of_mark, map_now, touches_scratch}
 use Rattle.sb_trace.specs.Step.{StopsWith, PerformsBy, FollowsFetch, GoesOn, StepsBy, Steps}
 
 -- the line of an outcome is not `idle`
@@ -174,7 +178,26 @@ by_busy state core thread (Ended status) outcome is steps = cc
 by_busy state core thread (Faulted kind address) outcome is steps = cc
 
 -- a step of a thread that runs has a line other than `idle`
-pub busy_steps : (old : State) (core : ℕ) (line : Event) (new : State) → (thread_at old core).state ≡ Running
+busy_steps : (old : State) (core : ℕ) (line : Event) (new : State) → (thread_at old core).state ≡ Running
     → Steps old core line new → line ≢ event.Idle
 busy_steps old core line new runs steps =
     by_busy old core (thread_at old core) (thread_at old core).state (line, new) runs steps
+
+-- so has one with its mark
+mark_busy : (one : Mark) (rip : ℕ) → line_of_mark one rip ≢ event.Idle
+mark_busy mark_of.Step rip = λ idle. cc
+mark_busy mark_of.Extra rip = λ idle. cc
+mark_busy mark_of.Stray rip = λ idle. cc
+
+marked_busy : (old : State) (core : ℕ) (unmarked line : Event) (new : State) → HasMark old core unmarked line new
+    → unmarked ≢ event.Idle → line ≢ event.Idle
+marked_busy old core (event.Step rip) line new (insn, fetches, is) busy =
+    subst (λ (one : Event). one ≢ event.Idle) (sym is)
+    (mark_busy (mark (map_now old core) (thread_at old core).regs.rip (thread_at new core).regs.rip
+    (touches_scratch insn (thread_at old core).regs)) (thread_at old core).regs.rip)
+marked_busy old core unmarked line new is busy = subst (λ (one : Event). one ≢ event.Idle) (sym is) busy
+
+pub busy_with_mark : (old : State) (core : ℕ) (line : Event) (new : State) → (thread_at old core).state ≡ Running
+    → StepsWithMark old core line new → line ≢ event.Idle
+busy_with_mark old core line new runs (unmarked, steps, marked) =
+    marked_busy old core unmarked line new marked (busy_steps old core unmarked new runs steps)

@@ -3,7 +3,6 @@ use Rattle.std.proofs.Common.{◌≡◌, ◌∙◌, sym, ap, subst, ℕ, ◌+◌
 use Rattle.std.proofs.lemmas.List.{take-append-drop}
 use Rattle.std.proofs.lemmas.List.Elements.{All-head, All-tail}
 use Rattle.sb_memory.specs.Physical.{IsPhysical, HasAllFrames, frame_count}
-use Rattle.sb_trace.specs.declared.event.Line.{Line}
 use Rattle.sb_machine.specs.declared.processor.CoreState.{CoreState}
 use Rattle.sb_machine.specs.declared.place.Place.{Place}
 use Rattle.sb_machine.specs.declared.place.Place.TheVariants.{Word, Core}
@@ -11,6 +10,7 @@ use Rattle.sb_machine.specs.declared.place.Seen.{Seen}
 use Rattle.sb_machine.specs.Counts.{made_by}
 use Rattle.sb_machine.specs.Machine.{Machine, state_at}
 use Rattle.sb_machine.specs.Seens.{Holds, HoldsAt}
+use Rattle.sb_block.specs.declared.fact.MadeStep.{MadeStep}
 use Rattle.sb_block.specs.Places.{AreReadsIn, IsPlaceIn}
 use Rattle.sb_book.specs.Commit.{AllHoldNow, HoldsNow, IsBlockOf, LeadsBehind, value_now}
 use Rattle.sb_book.specs.History.{IsRunning}
@@ -37,12 +37,12 @@ module _ (machine : Machine) (frames core : ℕ) (before : CoreState) (same : ma
 -- ---- the steps
 
 -- the block's steps lead from this machine to the core and the words behind them
-pub leads_behind : (machine : Machine) (core : ℕ) (before after : CoreState) (lines : List Line) (reads writes : List Seen)
-    → IsBlockOf (frame_count machine.memory) core before after lines reads writes → core < length machine.cores
+pub leads_behind : (machine : Machine) (core : ℕ) (before after : CoreState) (steps : List MadeStep) (reads writes : List Seen)
+    → IsBlockOf (frame_count machine.memory) core before after steps reads writes → core < length machine.cores
     → IsRunning machine core → (made_by machine core ≡ before.made → state_at machine core ≡ before)
     → IsPhysical machine.memory → HasAllFrames machine.memory → AllHoldNow machine reads
-    → LeadsBehind machine core lines after writes
-leads_behind machine core before after lines reads writes block there running state sound all held =
+    → LeadsBehind machine core steps after writes
+leads_behind machine core before after steps reads writes block there running state sound all held =
     let first = subst (λ (seens : List Seen). AllHoldNow machine seens) block.count_first held in
     let same : made_by machine core ≡ before.made = All-head (HoldsNow machine) _ block.words first in
     let found =
@@ -50,11 +50,10 @@ leads_behind machine core before after lines reads writes block there running st
     (state same)
     (places_hold machine (frame_count machine.memory) core before same reads block.reads_in held) in
     record {
-      events = block.events;
-      lines_are = block.lines_are;
       new = found.0;
-      steps = found.1;
-      leaves = found.2;
+      own = found.1;
+      marked = found.2;
+      leaves = found.3;
     }
 
 -- ---- the first that does not hold

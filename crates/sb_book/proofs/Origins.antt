@@ -21,7 +21,6 @@ use Rattle.sb_state.specs.declared.end_kind.EndKind.TheVariants.{Running, Ended,
 use Rattle.sb_state.proofs.Cases.{claim_if}
 use Rattle.sb_trace.specs.declared.event.Event.{Event}
 use Rattle.sb_trace.specs.declared.event.Event.TheVariants as event
-use Rattle.sb_trace.specs.declared.event.Line.{Line}
 use Rattle.sb_sub.specs.Serving.{line_of}
 use Rattle.sb_sub.specs.declared.answer.Answer.{Answer}
 use Rattle.sb_sub.specs.declared.answer.Answer.TheVariants as answer
@@ -31,10 +30,12 @@ use Rattle.sb_machine.specs.declared.processor.CoreState.{CoreState}
 use Rattle.sb_machine.specs.declared.processor.Origin.{Origin}
 use Rattle.sb_machine.specs.Machine.{Machine, core_at, state_at}
 use Rattle.sb_machine.specs.Outcomes.{Outcome, core_behind, count_made, fault_outcome, home_line, line_by, origin_behind, refusal_outcome, switch_outcome_by}
-use Rattle.sb_machine.specs.OwnSteps.{AreSteps, KeepsOrigin, OwnSteps, is_own, lines_of_core}
+use Rattle.sb_machine.specs.OwnSteps.{AreSteps, KeepsOrigin, OwnSteps, is_own}
 use Rattle.sb_machine.specs.Written.{PerformsBy, FollowsFetch, StopsWith, StepsBy, Steps, execution_on}
 use Rattle.sb_machine.proofs.Cores.{own_core}
 use Rattle.sb_machine.proofs.Counting.{step_cores, works_keep}
+use Rattle.sb_block.specs.declared.fact.MadeStep.{MadeStep}
+use Rattle.sb_block.specs.Run.{events_of}
 use Rattle.sb_book.specs.Commit.{LeadsBehind}
 use Rattle.sb_book.specs.Undecided.{begins_flight, decides_call, undecided_after, undecided_behind}
 
@@ -186,7 +187,7 @@ kept_again first before after (inr kept) (inr same) = inr (same ∙ kept)
 origin_after : (undecided : Bool) (first : Option Origin) (old : Machine) (number : ℕ) (events : List Event) (new : Machine)
     → number < length old.cores → OwnSteps old number events new
     → (undecided ≡ false → IsGoneOr first (core_at old number).origin)
-    → undecided_after undecided (lines_of_core number events) ≡ false → IsGoneOr first (core_at new number).origin
+    → undecided_after undecided events ≡ false → IsGoneOr first (core_at new number).origin
 unfolding OwnSteps
 origin_after undecided first old number [] new there same before none =
     subst (λ (machine : Machine). IsGoneOr first (core_at machine number).origin) (sym same) (before none)
@@ -203,17 +204,17 @@ origin_after undecided first old number (line ∷ lines) new there (next, own, s
 
 -- where no call of which the flight began in the lines is undecided behind them
 pub keeps_origin : (old : Machine) (number : ℕ) (events : List Event) (new : Machine) → number < length old.cores
-    → OwnSteps old number events new → undecided_after false (lines_of_core number events) ≡ false → KeepsOrigin old number new
+    → OwnSteps old number events new → undecided_after false events ≡ false → KeepsOrigin old number new
 keeps_origin old number events new there steps none =
     origin_after false (core_at old number).origin old number events new there steps (λ clear. inr refl) none
 
 -- so the steps of a block are such as can be applied
-pub are_steps : (old : Machine) (number : ℕ) (lines shown : List Line) (after : CoreState) (writes : List Seen)
-    → (leads : LeadsBehind old number lines after writes) → number < length old.cores → shown ≡ lines
-    → undecided_after false shown ≡ false → AreSteps old number leads.events after writes leads.new
-are_steps old number lines shown after writes leads there same none = record {
-  steps = leads.steps;
+pub are_steps : (old : Machine) (number : ℕ) (steps shown : List MadeStep) (after : CoreState) (writes : List Seen)
+    → (leads : LeadsBehind old number steps after writes) → number < length old.cores → shown ≡ steps
+    → undecided_after false (events_of shown) ≡ false → AreSteps old number (events_of steps) after writes leads.new
+are_steps old number steps shown after writes leads there same none = record {
+  steps = leads.own;
   leaves = leads.leaves;
-  origin = keeps_origin old number leads.events leads.new there leads.steps
-      (subst (λ (list : List Line). undecided_after false list ≡ false) (same ∙ leads.lines_are) none);
+  origin = keeps_origin old number (events_of steps) leads.new there leads.own
+      (subst (λ (list : List MadeStep). undecided_after false (events_of list) ≡ false) same none);
 }

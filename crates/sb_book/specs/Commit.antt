@@ -1,8 +1,7 @@
 -- A block is committed: its steps are made on the machine of a history, if all that it read still holds.
-use Rattle.std.specs.Prelude.{ℕ, ◌≡◌, ◌≢◌, ◌+◌, ◌<◌, ◌≤◌, List, ◌∷◌, ◌++◌, length, replicate, All, Result, Ok, Err}
+use Rattle.std.specs.Prelude.{ℕ, ◌≡◌, ◌≢◌, ◌+◌, ◌<◌, ◌≤◌, List, ◌∷◌, ◌++◌, length, map, replicate, All, Result, Ok, Err}
 use Rattle.sb_memory.specs.Physical.{IsWordPlace}
 use Rattle.sb_memory.specs.Words.{word_at}
-use Rattle.sb_trace.specs.declared.event.Event.{Event}
 use Rattle.sb_trace.specs.declared.event.Line.{Line}
 use Rattle.sb_machine.specs.declared.processor.CoreState.{CoreState}
 use Rattle.sb_machine.specs.declared.place.Place.{Place}
@@ -10,33 +9,35 @@ use Rattle.sb_machine.specs.declared.place.Place.TheVariants.{Word, Core}
 use Rattle.sb_machine.specs.declared.place.Seen.{Seen}
 use Rattle.sb_machine.specs.Counts.{made_by}
 use Rattle.sb_machine.specs.Machine.{Machine}
-use Rattle.sb_machine.specs.OwnSteps.{Leaves, OwnSteps, lines_of_core}
+use Rattle.sb_machine.specs.Marks.{OwnStepsWithMarks}
+use Rattle.sb_machine.specs.OwnSteps.{Leaves, OwnSteps}
 use Rattle.sb_machine.specs.Seens.{seen_core}
+use Rattle.sb_block.specs.declared.fact.MadeStep.{MadeStep}
 use Rattle.sb_block.specs.Block.{BlockHolds}
+use Rattle.sb_block.specs.Marked.{event_marked, events_marked}
 use Rattle.sb_block.specs.Places.{AreReadsIn, AreWritesIn}
+use Rattle.sb_block.specs.Run.{events_of}
 use Rattle.sb_book.specs.declared.commit.CommitRefusal.{CommitRefusal}
 use Rattle.sb_book.specs.declared.commit.CommitRefusal.TheVariants.{Full, Stale}
 use Rattle.sb_book.specs.History.{History}
 
 -- ---- what a block must be
 
--- Lines, places read and words written that are a block of this core in a machine of so many frames. How many lines the core had
+-- Steps, places read and words written that are a block of this core in a machine of so many frames. How many lines the core had
 -- made is read first.
-pub record IsBlockOf (frames core : ℕ) (before after : CoreState) (lines : List Line) (reads writes : List Seen) : Type 0 where
-  pub events : List Event
-  pub lines_are : lines ≡ lines_of_core core events
-  pub holds : BlockHolds frames core before events after reads writes
+pub record IsBlockOf (frames core : ℕ) (before after : CoreState) (steps : List MadeStep) (reads writes : List Seen)
+    : Type 0 where
+  pub holds : BlockHolds frames core before steps after reads writes
   pub words : List Seen
   pub count_first : reads ≡ seen_core core before ∷ words
   pub reads_in : AreReadsIn frames core reads
   pub writes_in : AreWritesIn frames writes
 
--- on this machine the block's steps lead to the core and the words behind them
-pub record LeadsBehind (old : Machine) (core : ℕ) (lines : List Line) (after : CoreState) (writes : List Seen) : Type 0 where
-  pub events : List Event
-  pub lines_are : lines ≡ lines_of_core core events
+-- on this machine the block's steps lead to the core and the words behind them, and have these marks
+pub record LeadsBehind (old : Machine) (core : ℕ) (steps : List MadeStep) (after : CoreState) (writes : List Seen) : Type 0 where
   pub new : Machine
-  pub steps : OwnSteps old core events new
+  pub own : OwnSteps old core (events_of steps) new
+  pub marked : OwnStepsWithMarks old core (events_marked old core steps) new
   pub leaves : Leaves old core after writes new
 
 -- ---- what still holds
@@ -71,27 +72,26 @@ pub record IsFirstStale (machine : Machine) (seens : List Seen) (place : Place) 
 
 -- ---- what a commit does
 
--- so many steps of one core that it makes by itself, with these lines
-pub record HasOwnSteps (old : Machine) (core : ℕ) (lines : List Line) (new : Machine) : Type 0 where
-  pub events : List Event
-  pub lines_are : lines ≡ lines_of_core core events
-  pub steps : OwnSteps old core events new
+-- the line of a step of a core with its mark, on a machine
+abbrev pub line_marked : Machine → ℕ → MadeStep → Line
+line_marked machine core step = record { core = core; event = event_marked machine core step }
 
--- such steps, with an entry and a line for each
-pub record AreOwnSteps (old : History) (core : ℕ) (told : List Line) (new : History) : Type 0 where
-  pub events : List Event
-  pub lines_are : told ≡ lines_of_core core events
-  pub steps : OwnSteps old.machine core events new.machine
+abbrev pub lines_marked : Machine → ℕ → List MadeStep → List Line
+lines_marked machine core steps = map (line_marked machine core) steps
+
+-- so many steps of one core that it makes by itself, with their marks, and an entry and a line for each
+pub record AreOwnSteps (old : History) (core : ℕ) (made : List MadeStep) (new : History) : Type 0 where
+  pub steps : OwnStepsWithMarks old.machine core (events_marked old.machine core made) new.machine
   pub load : new.load ≡ old.load
-  pub journal : new.journal ≡ old.journal ++ replicate (length events) core
-  pub lines : new.lines ≡ old.lines ++ told
-  pub room : new.room + length events ≡ old.room
+  pub journal : new.journal ≡ old.journal ++ replicate (length made) core
+  pub lines : new.lines ≡ old.lines ++ lines_marked old.machine core made
+  pub room : new.room + length made ≡ old.room
 
--- What a commit answers, and the history after it. It is full exactly where the block has more lines than there is room; else
+-- What a commit answers, and the history after it. It is full exactly where the block has more steps than there is room; else
 -- it is stale exactly where a read does not hold; else the block's steps are made.
-abbrev pub Commits : History → ℕ → List Line → List Seen → Result (Unit {0}) CommitRefusal → History → Type 0
-Commits old core lines reads (Ok done) new =
-    (length lines ≤ old.room) × AllHoldNow old.machine reads × AreOwnSteps old core lines new
-Commits old core lines reads (Err (Full room)) new = (old.room < length lines) × (room ≡ old.room) × (new ≡ old)
-Commits old core lines reads (Err (Stale place seen now)) new =
-    (length lines ≤ old.room) × IsFirstStale old.machine reads place seen now × (new ≡ old)
+abbrev pub Commits : History → ℕ → List MadeStep → List Seen → Result (Unit {0}) CommitRefusal → History → Type 0
+Commits old core steps reads (Ok done) new =
+    (length steps ≤ old.room) × AllHoldNow old.machine reads × AreOwnSteps old core steps new
+Commits old core steps reads (Err (Full room)) new = (old.room < length steps) × (room ≡ old.room) × (new ≡ old)
+Commits old core steps reads (Err (Stale place seen now)) new =
+    (length steps ≤ old.room) × IsFirstStale old.machine reads place seen now × (new ≡ old)

@@ -3,8 +3,8 @@ use Rattle.std.specs.Prelude.{◌≡◌, ◌≢◌, ◌⊎◌, ℕ, ◌+◌, ◌
 use Rattle.sb_load.specs.Loading.{Load}
 use Rattle.sb_load.specs.FirstState.{first_state}
 use Rattle.sb_machine.specs.Machine.{Machine, core_at}
+use Rattle.sb_machine.specs.Marks.{StepsWithMark}
 use Rattle.sb_machine.specs.Ran.{HasRun}
-use Rattle.sb_machine.specs.Written.{Steps}
 use Rattle.sb_state.specs.State.{State}
 use Rattle.sb_state.specs.declared.end_kind.EndKind.TheVariants.{Running}
 use Rattle.sb_trace.specs.declared.event.Event.TheVariants.{Idle}
@@ -16,7 +16,7 @@ pub record History : Type 0 where
   pub machine : Machine
   -- the core of each step
   pub journal : List ℕ
-  -- what each step said
+  -- what each step said, with its mark
   pub lines : List Line
   -- how many further steps there is room for
   pub room : ℕ
@@ -49,11 +49,11 @@ pub record IsBegun (load : Load) (room : ℕ) (history : History) : Type 0 where
   pub lines : history.lines ≡ []
   pub room_is : history.room ≡ room
 
--- one step of a core, with its entry and its line
+-- one step of a core, with its entry and its line, which has its mark
 pub record IsOneStep (old : History) (core : ℕ) (new : History) : Type 0 where
   pub line : Line
   pub core_is : line.core ≡ core
-  pub step : Steps old.machine core line.event new.machine
+  pub step : StepsWithMark old.machine core line.event new.machine
   pub busy : line.event ≢ Idle
   pub load : new.load ≡ old.load
   pub journal : new.journal ≡ old.journal ++ core ∷ []

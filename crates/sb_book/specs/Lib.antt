@@ -3,6 +3,7 @@ pub use Rattle.sb_load.specs.FirstState
 pub use Rattle.sb_state.specs.State
 pub use Rattle.sb_trace.specs.Run
 pub use Rattle.sb_machine.specs.Machine
+pub use Rattle.sb_machine.specs.Marks
 pub use Rattle.sb_machine.specs.Ran
 pub use Rattle.sb_machine.specs.Written
 pub mod History

@@ -3,7 +3,6 @@ use Rattle.std.specs.Prelude.{◌==◌, ◌&&◌, ◌||◌, Bool, true, false, n
 use Rattle.sb_abi.specs.declared.trampoline.TheConstants.{VMFUNC_PHASE}
 use Rattle.sb_trace.specs.declared.event.Event.{Event}
 use Rattle.sb_trace.specs.declared.event.Event.TheVariants as event
-use Rattle.sb_trace.specs.declared.event.Line.{Line}
 
 -- whether a flight begins with the line: the VMFUNC into a server
 abbrev pub begins_flight : Event → Bool
@@ -52,6 +51,6 @@ abbrev pub undecided_behind : Bool → Event → Bool
 undecided_behind undecided line = begins_flight line || (undecided && not (decides_call line))
 
 -- whether such a call is not decided behind the lines, by whether one was not before them
-abbrev pub undecided_after : Bool → List Line → Bool
+abbrev pub undecided_after : Bool → List Event → Bool
 undecided_after undecided [] = undecided
-undecided_after undecided (line ∷ lines) = undecided_after (undecided_behind undecided line.event) lines
+undecided_after undecided (line ∷ lines) = undecided_after (undecided_behind undecided line) lines

@@ -246,19 +246,19 @@ impl<E: Task, Z: Ledger> Book<E, Z> {
     ///
     /// # Errors
     ///
-    /// `Full` comes exactly where the block has more lines than there is room, and else `Stale` exactly where a place that was
+    /// `Full` comes exactly where the block has more steps than there is room, and else `Stale` exactly where a place that was
     /// read holds another value now, for the first such place. The book and the share are as before then.
     pub fn commit(&mut self, block: &Block, share: &mut Share<E, Z>) -> Result<(), CommitRefusal>
         requires block { IsBlockOf (frame_count self.old.history.machine.memory) block.now.core block.now.before block.now.after
-            block.now.lines block.now.reads block.now.writes }
+            block.now.steps block.now.reads block.now.writes }
         requires core { block.now.core < length self.old.history.machine.cores }
         requires running { IsRunning self.old.history.machine block.now.core }
         requires state { made_by self.old.history.machine block.now.core ≡ block.now.before.made
             → state_at self.old.history.machine block.now.core ≡ block.now.before }
         requires parts { (0 < share.old.entries.parts) × (0 < share.old.stops.parts) }
-        ensures commit { Commits self.old.history block.now.core block.now.lines block.now.reads result self.new.history }
+        ensures commit { Commits self.old.history block.now.core block.now.steps block.now.reads result self.new.history }
         ensures stops { self.new.stops ≡ self.old.stops }
-        ensures made { IfOk result (λ _. share.new.entries.amount ≡ share.old.entries.amount + length block.now.lines) }
+        ensures made { IfOk result (λ _. share.new.entries.amount ≡ share.old.entries.amount + length block.now.steps) }
         ensures refused { IfErr result (λ _. (self.new ≡ self.old) × (share.new.entries.amount ≡ share.old.entries.amount)) }
         ensures units { share.new.stops.amount ≡ share.old.stops.amount }
         ensures kept { (share.new.entries.parts ≡ share.old.entries.parts) × (share.new.stops.parts ≡ share.old.stops.parts) }
@@ -270,7 +270,7 @@ impl<E: Task, Z: Ledger> Book<E, Z> {
             given: _,
         } = self;
         history.commit(block)?;
-        entries.add(&mut share.entries, block.lines.items().len() as u64);
+        entries.add(&mut share.entries, block.steps.items().len() as u64);
         Ok(())
     }
 

@@ -15,7 +15,7 @@ use sb_memory::PhysAddr;
 /// Why a block is not committed.
 #[derive(Clone, Copy, Debug, PartialEq, Eq)]
 pub enum CommitRefusal {
-    /// The block has more lines than there is room, which is this.
+    /// The block has more steps than there is room, which is this.
     Full { room: u32 },
     /// The first place that the block read which holds another value now.
     Stale { place: Place, seen: u64, now: u64 },
@@ -52,19 +52,19 @@ impl History {
     ///
     /// # Errors
     ///
-    /// `Full` comes exactly where the block has more lines than there is room, and else `Stale` exactly where a place that was
+    /// `Full` comes exactly where the block has more steps than there is room, and else `Stale` exactly where a place that was
     /// read holds another value now, for the first such place. The history is as before then.
     pub fn commit(&mut self, block: &Block) -> Result<(), CommitRefusal>
         requires block { IsBlockOf (frame_count self.old.machine.memory) block.now.core block.now.before block.now.after
-            block.now.lines block.now.reads block.now.writes }
+            block.now.steps block.now.reads block.now.writes }
         requires core { block.now.core < length self.old.machine.cores }
         requires running { IsRunning self.old.machine block.now.core }
         requires state { made_by self.old.machine block.now.core ≡ block.now.before.made
             → state_at self.old.machine block.now.core ≡ block.now.before }
-        ensures { Commits self.old block.now.core block.now.lines block.now.reads result self.new }
+        ensures { Commits self.old block.now.core block.now.steps block.now.reads result self.new }
     {
         let room = self.room();
-        if (room as usize) < block.lines.items().len() {
+        if (room as usize) < block.steps.items().len() {
             return Err(CommitRefusal::Full { room });
         }
         if let Some((seen, now)) = first_stale(self.machine(), block.reads.items()) {

@@ -1,10 +1,12 @@
-//! Flights in the lines of a core.
+//! Flights in the steps of a core.
 
 ghost use Rattle.std.specs.Prelude.{◌≡◌, false};
+ghost use Rattle.sb_block.specs.Run.{events_of};
 ghost use Rattle.sb_book.specs.Undecided.{begins_flight, decides_call, undecided_after};
 
 use sb_abi::VMFUNC_PHASE;
-use sb_trace::{Event, Line};
+use sb_block::MadeStep;
+use sb_trace::Event;
 
 /// Whether a flight begins with the line.
 fn begins_flight(event: Event) -> bool
@@ -56,13 +58,13 @@ fn decides_call(event: Event) -> bool
     }
 }
 
-/// Whether a flight begins among the lines that is not decided behind them.
-pub fn leaves_undecided(lines: &[Line]) -> bool
-    ensures { result ≡ undecided_after false lines.now }
+/// Whether a flight begins among the steps that is not decided behind them.
+pub fn leaves_undecided(steps: &[MadeStep]) -> bool
+    ensures { result ≡ undecided_after false (events_of steps.now) }
 {
     let mut undecided = false;
-    for line in lines {
-        undecided = begins_flight(line.event) || (undecided && !decides_call(line.event));
+    for step in steps {
+        undecided = begins_flight(step.event) || (undecided && !decides_call(step.event));
     }
     undecided
 }

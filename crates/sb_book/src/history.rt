@@ -3,14 +3,14 @@
 ghost use Rattle.std.specs.Prelude.{◌≡◌, ◌+◌, ◌<◌, ◌≤◌, ◌↔◌, ◌∷◌, ◌++◌, [], length, replicate, IsTrue, IsFalse, vec_len, vec_capacity, IfOk, IfSome, IfNone};
 ghost use Rattle.sb_abi.specs.declared.frames.TheConstants.{MIN_FRAMES, MAX_FRAMES};
 ghost use Rattle.sb_memory.specs.Physical.{frame_count};
-ghost use Rattle.sb_book.specs.Commit.{AreOwnSteps, LeadsBehind};
+ghost use Rattle.sb_book.specs.Commit.{AreOwnSteps, LeadsBehind, line_marked, lines_marked};
 ghost use Rattle.sb_book.specs.History.{IsBegun, IsRunning, AllEnded, IsRun, IsOneStep, IsDone, IsLowest, IsNext};
 
 use crate::steps::make_steps;
-use sb_block::Block;
+use sb_block::{Block, Fact, MadeStep};
 use sb_load::Loaded;
 use sb_machine::{Machine, own_steps_are_plain};
-use sb_trace::Line;
+use sb_trace::{Event, Line, line_of_mark};
 use std::alloc::{AllocError, Global};
 use std::marker::Model;
 
@@ -67,15 +67,33 @@ fn put_entries(journal: &mut Vec<u8>, core: u8, count: usize)
     }
 }
 
-/// Appends lines for which there is room.
-fn put_lines(lines: &mut Vec<Line>, more: &[Line])
-    requires { vec_len lines.old + length more.now ≤ vec_capacity lines.old }
-    ensures items { lines.new.items ≡ lines.old.items ++ more.now }
-    ensures len { vec_len lines.new ≡ vec_len lines.old + length more.now }
+/// The line of a step of a core with its mark, on a machine.
+fn line_marked(machine: &Machine, core: u8, step: &MadeStep) -> Line
+    requires { core < length machine.now.cores }
+    ensures { result ≡ line_marked machine.now core step.now }
+{
+    let Fact {
+        view,
+        next,
+        scratch,
+    } = step.fact;
+    let event = match step.event {
+        Event::Step { rip } => line_of_mark(machine.mark(core, view, rip, next, scratch), rip),
+        event => event,
+    };
+    Line { core, event }
+}
+
+/// Appends the lines of steps of a core with their marks on a machine, for which there is room.
+fn put_lines(lines: &mut Vec<Line>, machine: &Machine, core: u8, steps: &[MadeStep])
+    requires core { core < length machine.now.cores }
+    requires room { vec_len lines.old + length steps.now ≤ vec_capacity lines.old }
+    ensures items { lines.new.items ≡ lines.old.items ++ lines_marked machine.now core steps.now }
+    ensures len { vec_len lines.new ≡ vec_len lines.old + length steps.now }
     ensures capacity { vec_capacity lines.old ≤ vec_capacity lines.new }
 {
-    for line in more {
-        put(lines, *line);
+    for step in steps {
+        put(lines, line_marked(machine, core, step));
     }
 }
 
@@ -118,8 +136,8 @@ impl History {
         &self.journal
     }
 
-    /// The line of each step: these are the lines of the plain machine's run under the journal, and none is `idle`; the machine
-    /// stands for the last state of that run.
+    /// The line of each step, with its mark: these are the lines of the plain machine's run under the journal, and none is
+    /// `idle`; the machine stands for the last state of that run.
     pub fn lines(&self) -> &[Line]
         ensures lines { result.now ≡ self.now.lines }
         ensures run { IsRun self.now }
@@ -203,7 +221,7 @@ impl History {
     }
 
     /// One step of a core whose thread runs, with its entry and its line. It takes no memory.
-    #[tactic(auto, using(crate::proofs::Busy::busy_steps))]
+    #[tactic(auto, using(crate::proofs::Busy::busy_with_mark))]
     pub fn step(&mut self, core: u8)
         requires running { IsRunning self.old.machine core }
         requires room { 0 < self.old.room }
@@ -214,19 +232,20 @@ impl History {
         put(&mut self.lines, line);
         self.room -= 1;
     }
-    /// Makes the steps of a block that lead to the core and the words behind it, with an entry and a line for each. It takes no
-    /// memory.
+
+    /// Makes the steps of a block that lead to the core and the words behind it, with an entry and a line for each. The lines
+    /// have their marks on the machine before them. It takes no memory.
     pub(crate) fn make(&mut self, block: &Block)
         requires core { block.now.core < length self.old.machine.cores }
-        requires room { length block.now.lines ≤ self.old.room }
-        requires leads { LeadsBehind self.old.machine block.now.core block.now.lines block.now.after block.now.writes }
-        ensures { AreOwnSteps self.old block.now.core block.now.lines self.new }
+        requires room { length block.now.steps ≤ self.old.room }
+        requires leads { LeadsBehind self.old.machine block.now.core block.now.steps block.now.after block.now.writes }
+        ensures { AreOwnSteps self.old block.now.core block.now.steps self.new }
     {
         own_steps_are_plain();
+        let steps = block.steps.items();
+        put_entries(&mut self.journal, block.core, steps.len());
+        put_lines(&mut self.lines, &self.machine, block.core, steps);
         make_steps(&mut self.machine, block);
-        let lines = block.lines.items();
-        put_entries(&mut self.journal, block.core, lines.len());
-        put_lines(&mut self.lines, lines);
-        self.room -= lines.len() as u32;
+        self.room -= steps.len() as u32;
     }
 }

@@ -3,8 +3,10 @@
 ghost use Rattle.std.specs.Prelude.{◌≡◌, ◌<◌, List, length};
 ghost use Rattle.sb_trace.specs.declared.event.Event.{Event};
 ghost use Rattle.sb_machine.specs.Machine.{Machine};
+ghost use Rattle.sb_machine.specs.Marks.{OwnStepsWithMarks};
 ghost use Rattle.sb_machine.specs.OwnSteps.{OwnSteps};
-ghost use Rattle.sb_book.specs.Commit.{HasOwnSteps, LeadsBehind};
+ghost use Rattle.sb_block.specs.Marked.{events_marked};
+ghost use Rattle.sb_book.specs.Commit.{LeadsBehind};
 
 use crate::flight::leaves_undecided;
 use sb_block::{Block, own_steps_are_one};
@@ -28,12 +30,13 @@ fn step_through(machine: &mut Machine, core: u8, count: usize)
 /// thread stood at the VMFUNC. So it makes those steps itself.
 pub fn make_steps(machine: &mut Machine, block: &Block)
     requires core { block.now.core < length machine.old.cores }
-    requires leads { LeadsBehind machine.old block.now.core block.now.lines block.now.after block.now.writes }
-    ensures { HasOwnSteps machine.old block.now.core block.now.lines machine.new }
+    requires leads { LeadsBehind machine.old block.now.core block.now.steps block.now.after block.now.writes }
+    ensures { OwnStepsWithMarks machine.old block.now.core (events_marked machine.old block.now.core block.now.steps)
+        machine.new }
 {
-    let lines = block.lines.items();
-    if leaves_undecided(lines) {
-        step_through(machine, block.core, lines.len());
+    let steps = block.steps.items();
+    if leaves_undecided(steps) {
+        step_through(machine, block.core, steps.len());
     } else {
         machine.apply(block.core, &block.after, &block.writes);
     }

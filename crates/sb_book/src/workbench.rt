@@ -91,7 +91,7 @@ impl Workbench {
     pub fn block(&mut self, alloc: Global, start: &CoreState) -> Result<Block, Stop>
         requires walks { HasWalks self.old.frames start.now }
         ensures block { IfOk result (λ block. IsBlockOf self.old.frames block.core block.before block.after
-            block.lines block.reads block.writes) }
+            block.steps block.reads block.writes) }
         ensures frames { self.new.frames ≡ self.old.frames }
     {
         let block = run_block(alloc, &mut self.copies, self.core, start, self.limit)?;
@@ -131,7 +131,7 @@ impl Workbench {
         share: &mut Share<E, Z>,
     ) -> Result<bool, AllocError>
         requires block { IsBlockOf self.old.frames block.now.core block.now.before block.now.after
-            block.now.lines block.now.reads block.now.writes }
+            block.now.steps block.now.reads block.now.writes }
         requires parts { (0 < share.old.entries.parts) × (0 < share.old.stops.parts) }
         ensures made { share.old.entries.amount ≤ share.new.entries.amount }
         ensures given { IfOk result (λ stopped. stopped ≡ true → share.new.stops.amount ≡ share.old.stops.amount + 1) }

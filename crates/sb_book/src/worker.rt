@@ -33,7 +33,7 @@ fn next_block<E: Task, Z: Ledger, W: Wait>(
     bench: &mut Workbench,
 ) -> Result<Option<Block>, AllocError>
     ensures block { IfOk result (λ made. IfSome made (λ block. IsBlockOf bench.old.frames block.core block.before block.after
-        block.lines block.reads block.writes)) }
+        block.steps block.reads block.writes)) }
     ensures frames { bench.new.frames ≡ bench.old.frames }
 {
     let mut wanted = None;

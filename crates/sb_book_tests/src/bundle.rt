@@ -15,7 +15,7 @@ const PROCESS: [u8; 95] = [
     0xC7, 0x04, 0x25, 0, 0, 0x80, 0, 1, 0, 0, 0, // 12: MOV dword [800000], 1
     0xC7, 0x04, 0x25, 0, 0, 0x80, 0, 0, 0, 0, 0, // 1D: MOV dword [800000], 0
     0xC7, 0x04, 0x25, 4, 0, 0x80, 0, 7, 0, 0, 0, // 28: MOV dword [800004], 7
-    0x90, 0x90, 0x90, 0x90, // 33: NOP
+    0x0F, 0x01, 0xD4, 0x90, // 33: VMFUNC, of which three NOPs are made; NOP
     0, 0, 0, 0, 0, 0, 0, 0, // the word
 ];
 

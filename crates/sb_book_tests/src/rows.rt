@@ -1,13 +1,15 @@
 //! A block of one core, what the other one stores beside it, and what its commit answers.
 
-ghost use Rattle.std.specs.Prelude.{◌≡◌, ◌<◌, ◌≤◌, IfOk};
+ghost use Rattle.std.specs.Prelude.{◌≡◌, ◌<◌, ◌≤◌, IfOk, length};
 ghost use Rattle.sb_book.specs.Commit.{IsBlockOf};
 
 use crate::bundle::loaded;
 use sb_block::{Block, Place, Stop};
 use sb_book::{Book, CommitRefusal, Share, Task, Workbench};
 use sb_load::Loaded;
-use std::alloc::Global;
+use sb_machine::Machine;
+use sb_trace::{Event, Line};
+use std::alloc::{AllocError, Global};
 use std::marker::Brand;
 use std::sync::ledger::{Blank, Ledger};
 use std::test::Fail;
@@ -38,6 +40,8 @@ struct Row {
     journal: usize,
     /// The room behind them.
     left: u32,
+    /// How many lines are of additions of the rewriter.
+    extras: usize,
 }
 
 /// What is to come of the last commit.
@@ -55,18 +59,21 @@ struct Came {
     answer: Answer,
     /// What core 1 stored into last.
     stored: Option<Place>,
-    journal: usize,
+    journal: Vec<u8>,
+    lines: Vec<Line>,
     room: u32,
 }
 
 #[rattlefmt::skip]
-const ROWS: [Row; 3] = [
+const ROWS: [Row; 4] = [
     Row { name: "a word that was changed and came back", starts: [0, 0x12], room: 9, limit: 1, stores: 2,
-        answer: Wanted::Made, journal: 3, left: 6 },
-    Row { name: "more lines than room", starts: [0x12, 0], room: 3, limit: 4, stores: 0,
-        answer: Wanted::Full { room: 3 }, journal: 0, left: 3 },
+        answer: Wanted::Made, journal: 3, left: 6, extras: 0 },
+    Row { name: "more steps than room", starts: [0x12, 0], room: 3, limit: 4, stores: 0,
+        answer: Wanted::Full { room: 3 }, journal: 0, left: 3, extras: 0 },
     Row { name: "the other half of a word", starts: [7, 0x28], room: 9, limit: 1, stores: 1,
-        answer: Wanted::Stale { seen: 0, now: 7 << 32 }, journal: 1, left: 8 },
+        answer: Wanted::Stale { seen: 0, now: 7 << 32 }, journal: 1, left: 8, extras: 0 },
+    Row { name: "three NOPs in place of VMFUNC", starts: [0x33, 0], room: 9, limit: 4, stores: 0,
+        answer: Wanted::Made, journal: 4, left: 5, extras: 2 },
 ];
 
 /// A block of a core from where the book is, on copies of the frames that it asks for.
@@ -80,7 +87,7 @@ fn fresh_block<E: Task, Z: Ledger>(
     requires limit { 1 ≤ limit }
     requires some { 1 ≤ frames }
     requires few { frames ≤ 8192 }
-    ensures { IfOk result (λ block. IsBlockOf frames block.core block.before block.after block.lines block.reads block.writes) }
+    ensures { IfOk result (λ block. IsBlockOf frames block.core block.before block.after block.steps block.reads block.writes) }
 {
     let mut bench = Workbench::new(core, limit, frames);
     let mut wanted = None;
@@ -108,7 +115,7 @@ fn commit<E: Task, Z: Ledger>(
     block: &Block,
 ) -> Answer
     requires block { IsBlockOf frames block.now.core block.now.before block.now.after
-        block.now.lines block.now.reads block.now.writes }
+        block.now.steps block.now.reads block.now.writes }
     requires parts { (0 < share.old.entries.parts) × (0 < share.old.stops.parts) }
     ensures kept { (share.new.entries.parts ≡ share.old.entries.parts) × (share.new.stops.parts ≡ share.old.stops.parts) }
 {
@@ -165,7 +172,8 @@ fn came_of<E: Task, Z: Ledger>(
     Ok(Came {
         answer: commit(&mut book, &mut share, frames, &block),
         stored,
-        journal: book.journal().len(),
+        journal: Vec::from_slice(alloc, book.journal())?,
+        lines: Vec::from_slice(alloc, book.lines())?,
         room: book.room(),
     })
 }
@@ -188,12 +196,54 @@ fn wanted_of(row: &Row, stored: Option<Place>) -> Answer {
     }
 }
 
+/// How many lines are of additions of the rewriter.
+fn count_extras(lines: &[Line]) -> usize {
+    lines
+        .iter()
+        .filter(|line| matches!(line.event, Event::Extra { .. }))
+        .count()
+}
+
+/// The machine at the start of a row. Contracts see how many cores it has.
+fn started(alloc: Global, loaded: &Loaded) -> Result<Machine, AllocError>
+    ensures { IfOk result (λ machine. length machine.cores ≡ length loaded.now.bundle.cores) }
+{
+    Machine::new(alloc, loaded)
+}
+
+/// The lines of the machine's own steps in the order of a journal.
+fn lines_of_machine(alloc: Global, row: &Row, journal: &[u8]) -> Result<Vec<Line>, Fail> {
+    let loaded = loaded(alloc, row.starts)?;
+    let cores = loaded.bundle().cores.items().len();
+    let mut machine = started(alloc, &loaded)?;
+    let mut lines = Vec::new(alloc);
+    for core in journal {
+        if usize::from(*core) >= cores {
+            return Err("there is such a core".into());
+        }
+        lines.push(machine.step(*core))?;
+    }
+    Ok(lines)
+}
+
+#[test]
+fn the_lines_are_those_of_the_machine(rt: HostRuntime) -> Result<(), Fail> {
+    let alloc = rt.alloc();
+    for row in &ROWS {
+        let came = answer_of(alloc, row)?;
+        let lines = lines_of_machine(alloc, row, &came.journal)?;
+        assert_eq!(rt; came.lines, lines, "{}", row.name);
+    }
+    Ok(())
+}
+
 #[test]
 fn a_commit_asks_whether_what_was_read_still_holds(rt: HostRuntime) -> Result<(), Fail> {
     for row in &ROWS {
         let came = answer_of(rt.alloc(), row)?;
         assert_eq!(rt; came.answer, wanted_of(row, came.stored), "{}", row.name);
-        assert_eq!(rt; came.journal, row.journal, "{}", row.name);
+        assert_eq!(rt; came.journal.len(), row.journal, "{}", row.name);
+        assert_eq!(rt; count_extras(&came.lines), row.extras, "{}", row.name);
         assert_eq!(rt; came.room, row.left, "{}", row.name);
     }
     Ok(())

@@ -6,8 +6,8 @@ pub loop-preserved : goal.loop-preserved
 loop-preserved c = record {
   cores = c.step.ensures.cores ∙ c.loop.invariant.cores;
   left = λ events new steps count.
-      steps_less c.own_steps_are_one.ensures.step c.loop.machine c.step.new.self c.args.core c.step.result.event events
-      c.loop.counter new (omega arith) c.step.ensures.step (c.loop.invariant.left events new steps count);
+      steps_less c.own_steps_are_one.ensures.step c.loop.machine c.step.new.self c.args.core c.step.ensures.step.0 events
+      c.loop.counter new (omega arith) c.step.ensures.step.1 (c.loop.invariant.left events new steps count);
 }
 
 pub returns : goal.returns

@@ -9,7 +9,7 @@ make-requires-clause-leads c =
     let block = c.args.block.now in
     let same = c.machine-2.ensures in
     let held = c.in_default.ensures.none in
-    leads_behind c.args.self.now.machine block.core block.before block.after block.lines block.reads block.writes c.requires.block
+    leads_behind c.args.self.now.machine block.core block.before block.after block.steps block.reads block.writes c.requires.block
     c.requires.core c.requires.running c.requires.state
     (subst (λ (machine : Machine). IsPhysical machine.memory) same c.frames.ensures.sound)
     (subst (λ (machine : Machine). HasAllFrames machine.memory) same c.frames.ensures.all)
