@@ -7,17 +7,11 @@
 //! in which those words hold these values, whatever else has changed there since the copies were made, and the copies may come
 //! from different moments.
 //!
-<<<<<<< HEAD
 //! A block knows no process, and so no text: its lines have no marks. Beside each line stands a `Fact`, with what its mark needs.
 //!
-//! Inside: the step of a core over any physical memory (`one`), what is told of it (`fact`), steps one after another (`run`),
+//! Inside: the step of a core over copies of frames (`one`), what is told of it (`fact`), steps one after another (`run`),
 //! what they read and wrote (`collect`), blocks (`block`), and the laws (`laws`). Not inside: the copies (`sb_partial`), the
 //! machine and how a block is applied to it (`sb_machine`), who decides that a block still holds, marks, and threads (`sb_book`).
-=======
-//! Inside: the step of a core over copies of frames (`one`), steps one after another (`run`), what they read and wrote
-//! (`collect`), blocks (`block`), and the laws (`laws`). Not inside: the copies (`sb_partial`), the machine and how a block is
-//! applied to it (`sb_machine`), who decides that a block still holds, and threads (`sb_book`).
->>>>>>> 1abd4cb5 (Blocks: what the step is over)
 //!
 //! ```text
 //! let mut part = Partial::new(640);
