@@ -27,7 +27,7 @@ returns-in-Ok-block c =
       block = block_by sound made;
       holds = holds_by sound made;
       walks = subst (λ (state : CoreState). HasWalks (frame_count c.args.part.now.given) state) (sym got.to)
-          c.steps-made.ensures.walks;
+          steps.walks;
       reads = reads_by got given;
       writes = writes_by got given;
       refused = tt;
