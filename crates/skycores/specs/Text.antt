@@ -14,7 +14,7 @@ use Rattle.sb_trace.specs.declared.event.Line.{Line}
 use Rattle.sb_trace.specs.End.{end_of}
 use Rattle.sb_trace.specs.Report.{report_text}
 use Rattle.sb_trace.specs.Run.{RunBy}
-use Rattle.sb_trace.specs.Step.{Steps}
+use Rattle.sb_trace.specs.Marks.{StepsWithMark}
 use Rattle.sb_book.specs.History.{NoneIdle}
 use Rattle.skycores.specs.declared.words.Run.{Run}
 
@@ -59,7 +59,7 @@ pub record IsOutput (load : Load) (run : Run) (text : List ℕ) : Type 0 where
   pub end : State
   pub ended : Bool
   -- the run of what was loaded under the journal, and none of its lines is idle
-  pub runs : RunBy Steps (first_state load) journal lines end
+  pub runs : RunBy StepsWithMark (first_state load) journal lines end
   pub busy : NoneIdle lines
   -- the word is `ended` exactly where each thread has ended, else the journal has every entry that was asked for
   pub ended_is : IsTrue ended ↔ AllEnded end
