@@ -1,15 +1,14 @@
 //! A block of one core, what the other one stores beside it, and what its commit answers.
 
-ghost use Rattle.std.specs.Prelude.{◌≡◌, ◌<◌, ◌≤◌, IfOk, length};
+ghost use Rattle.std.specs.Prelude.{◌≡◌, ◌<◌, ◌≤◌, IfOk};
 ghost use Rattle.sb_book.specs.Commit.{IsBlockOf};
 
 use crate::bundle::loaded;
 use sb_block::{Block, Place, Stop};
 use sb_book::{Book, CommitRefusal, Share, Task, Workbench};
 use sb_load::Loaded;
-use sb_machine::Machine;
 use sb_trace::{Event, Line};
-use std::alloc::{AllocError, Global};
+use std::alloc::Global;
 use std::marker::Brand;
 use std::sync::ledger::{Blank, Ledger};
 use std::test::Fail;
@@ -202,39 +201,6 @@ fn count_extras(lines: &[Line]) -> usize {
         .iter()
         .filter(|line| matches!(line.event, Event::Extra { .. }))
         .count()
-}
-
-/// The machine at the start of a row. Contracts see how many cores it has.
-fn started(alloc: Global, loaded: &Loaded) -> Result<Machine, AllocError>
-    ensures { IfOk result (λ machine. length machine.cores ≡ length loaded.now.bundle.cores) }
-{
-    Machine::new(alloc, loaded)
-}
-
-/// The lines of the machine's own steps in the order of a journal.
-fn lines_of_machine(alloc: Global, row: &Row, journal: &[u8]) -> Result<Vec<Line>, Fail> {
-    let loaded = loaded(alloc, row.starts)?;
-    let cores = loaded.bundle().cores.items().len();
-    let mut machine = started(alloc, &loaded)?;
-    let mut lines = Vec::new(alloc);
-    for core in journal {
-        if usize::from(*core) >= cores {
-            return Err("there is such a core".into());
-        }
-        lines.push(machine.step(*core))?;
-    }
-    Ok(lines)
-}
-
-#[test]
-fn the_lines_are_those_of_the_machine(rt: HostRuntime) -> Result<(), Fail> {
-    let alloc = rt.alloc();
-    for row in &ROWS {
-        let came = answer_of(alloc, row)?;
-        let lines = lines_of_machine(alloc, row, &came.journal)?;
-        assert_eq!(rt; came.lines, lines, "{}", row.name);
-    }
-    Ok(())
 }
 
 #[test]
