@@ -28,6 +28,13 @@ const MOVED: [u8; 51] = [
     0, 0, 0, 0, 0, 0, 0x40, 0, 0, 0, 0, 0, // core 0
 ];
 
+/// The steps of its first instruction: the jump to its slot, and the slot, in which the instruction at 1016 does the work.
+#[rattlefmt::skip]
+const STEPS: [Event; 7] = [
+    Event::Extra { rip: 0x40_0000 }, Event::Extra { rip: 0x1000 }, Event::Extra { rip: 0x1008 }, Event::Extra { rip: 0x100F },
+    Event::Step { rip: 0x1016 }, Event::Extra { rip: 0x1018 }, Event::Extra { rip: 0x1020 },
+];
+
 /// The machine that a bundle starts.
 fn start(alloc: Global, bytes: &[u8]) -> Result<Plain, Fail> {
     let bundle = read_bundle(alloc, bytes)
@@ -70,8 +77,8 @@ fn a_machine_starts_with_these_threads(rt: HostRuntime) -> Result<(), Fail> {
 #[test]
 fn a_moved_instruction_runs_through_its_slot(rt: HostRuntime) -> Result<(), Fail> {
     let mut plain = start(rt.alloc(), &MOVED)?;
-    for rip in [0x40_0000, 0x1000, 0x1008, 0x100F, 0x1016, 0x1018, 0x1020] {
-        assert_same(&rt, "step", &event_of(&mut plain, 0), &Event::Step { rip });
+    for event in STEPS {
+        assert_same(&rt, "step", &event_of(&mut plain, 0), &event);
     }
     let end = end_of(rt.alloc(), &plain)?;
     assert_same(&rt, "threads", &end.threads.items().len(), &1);
@@ -96,7 +103,7 @@ fn a_core_without_a_thread_is_idle(rt: HostRuntime) -> Result<(), Fail> {
         &rt,
         "core 0",
         &event_of(&mut plain, 0),
-        &Event::Step { rip: 0x40_0000 },
+        &Event::Extra { rip: 0x40_0000 },
     );
     Ok(())
 }
